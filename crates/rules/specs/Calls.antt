@@ -1,0 +1,138 @@
+-- Document 01, "Refusals": what whole calls answer and write, from their arguments alone. `w` is the number of workers,
+-- which is 16; `p` the policy's byte. "A refused call returns the number and the position, all other results 0, and changes
+-- no buffer."
+use Prim.Native.Nat.{ℕ, zero, suc, _+_, _-_, _*_}
+use mathlib.Core.Bool.{Bool, true, false, cond, _&&_, _||_, not}
+use mathlib.Core.List.{List, [], _∷_, _++_}
+use lib.ListN.{length, drop, replicate}
+use lib.Dec.{eqb, ltb}
+use Rattle.rules.specs.Bytes.{records, wholeRecords, count, all, Verdict, refusedIf, firstRefused, Walked, walk}
+use Rattle.rules.specs.Tree.{kinds, weights, treeVerdict}
+use Rattle.rules.specs.Scheduling.{workFirst, helpFirst, Phase, Run, start, hasRun, judgeEvent, nextRun}
+use Rattle.rules.specs.Traces.{traceBytes, entryBytes, replayWalk, runList, loads, heaviest}
+
+abbrev pub mostEvents : ℕ
+mostEvents = 8192
+
+abbrev pub mostTraceRecords : ℕ
+mostTraceRecords = 2047
+
+--     1  "The policy is neither 1 (work-first) nor 2 (help-first)."
+--     2 to 5  by the tree.
+unfoldable pub startVerdict : ℕ → List ℕ → Verdict
+startVerdict p tree = firstRefused (refusedIf (not (eqb p workFirst || eqb p helpFirst)) 1 0 ∷ treeVerdict tree ∷ [])
+
+-- A lent buffer with the records at its front and, beyond them, its old bytes.
+unfoldable pub written : List ℕ → List ℕ → List ℕ
+written bytes buffer = bytes ++ drop (length bytes) buffer
+
+-- ---- record
+
+-- What a record call answers, with the lent log and trace as it leaves them.
+pub record Recorded : Type 0 where
+  pub verdict : Verdict
+  pub logCount : ℕ
+  pub traceCount : ℕ
+  pub finished : Bool
+  pub loads : List ℕ
+  pub heaviest : ℕ
+  pub log : List ℕ
+  pub trace : List ℕ
+
+-- The walk over the events' records.
+unfoldable pub recordWalk : ℕ → ℕ → List ℕ → List (List ℕ) → Walked Run
+recordWalk w p ks es = walk (judgeEvent ks) (nextRun p ks) 0 (start w) es
+
+--     6  "The events are not whole records or too many."
+--     7  "A lent output is short: 4 × n bytes for log, 2 × (n - 1) for a trace."
+--     8 to 12  by the events, in one walk.
+unfoldable pub recordVerdict : ℕ → ℕ → List ℕ → List ℕ → List ℕ → List ℕ → Verdict
+recordVerdict w p tree events log trace =
+    firstRefused
+    (startVerdict p tree
+    ∷ refusedIf (not (wholeRecords 2 mostEvents events)) 6 0
+    ∷ refusedIf (ltb (length log) (4 * length (kinds tree)) || ltb (length trace) (2 * (length (kinds tree) - 1))) 7 0
+    ∷ recordWalk w p (kinds tree) (records 2 events) .verdict
+    ∷ [])
+
+-- "Whether every step has run."
+unfoldable pub finished : List ℕ → Run → Bool
+finished ks s = all (hasRun (s .log)) (count 0 (length ks))
+
+unfoldable pub recordOf : ℕ → ℕ → List ℕ → Run → List ℕ → List ℕ → Recorded
+recordOf w p tree s log trace =
+    let ks = kinds tree in
+    let ls = loads w ks (weights tree) (s .phases) in
+    record {
+      verdict = record { number = 0; position = 0 };
+      logCount = length (s .log);
+      traceCount = length (s .steals);
+      finished = finished ks s;
+      loads = ls;
+      heaviest = heaviest ls;
+      log = written (entryBytes (s .log)) log;
+      trace = written (traceBytes p ks (s .steals)) trace;
+    }
+
+unfoldable pub recordRefused : ℕ → Verdict → List ℕ → List ℕ → Recorded
+recordRefused w refusal log trace =
+    record {
+      verdict = refusal;
+      logCount = 0;
+      traceCount = 0;
+      finished = false;
+      loads = replicate w 0;
+      heaviest = 0;
+      log = log;
+      trace = trace;
+    }
+
+unfoldable pub recordCall : ℕ → ℕ → List ℕ → List ℕ → List ℕ → List ℕ → Recorded
+recordCall w p tree events log trace =
+    let answer = recordOf w p tree (recordWalk w p (kinds tree) (records 2 events) .state) log trace in
+    let refusal = recordVerdict w p tree events log trace in
+    cond (eqb (refusal .number) 0) answer (recordRefused w refusal log trace)
+
+-- ---- replay
+
+-- What a replay call answers, with the lent run list as it leaves it.
+pub record Replayed : Type 0 where
+  pub verdict : Verdict
+  pub phaseCount : ℕ
+  pub loads : List ℕ
+  pub heaviest : ℕ
+  pub list : List ℕ
+
+--     6  "The trace is not whole records or too many."
+--     7  "A lent output is short: 4 × n bytes for run list."
+--     8, 13 to 15  by the trace, in one walk.
+unfoldable pub replayVerdict : ℕ → ℕ → List ℕ → List ℕ → List ℕ → Verdict
+replayVerdict w p tree trace list =
+    firstRefused
+    (startVerdict p tree
+    ∷ refusedIf (not (wholeRecords 4 mostTraceRecords trace)) 6 0
+    ∷ refusedIf (ltb (length list) (4 * length (kinds tree))) 7 0
+    ∷ replayWalk w p (kinds tree) (records 4 trace) .verdict
+    ∷ [])
+
+unfoldable pub replayOf : ℕ → ℕ → List ℕ → List Phase → List ℕ → Replayed
+replayOf w p tree phs list =
+    let ks = kinds tree in
+    let ls = loads w ks (weights tree) phs in
+    record {
+      verdict = record { number = 0; position = 0 };
+      phaseCount = length phs;
+      loads = ls;
+      heaviest = heaviest ls;
+      list = written (entryBytes (runList p ks phs)) list;
+    }
+
+unfoldable pub replayRefused : ℕ → Verdict → List ℕ → Replayed
+replayRefused w refusal list =
+    record { verdict = refusal; phaseCount = 0; loads = replicate w 0; heaviest = 0; list = list }
+
+unfoldable pub replayCall : ℕ → ℕ → List ℕ → List ℕ → List ℕ → Replayed
+replayCall w p tree trace list =
+    let answer = replayOf w p tree (replayWalk w p (kinds tree) (records 4 trace) .state) list in
+    let refusal = replayVerdict w p tree trace list in
+    cond (eqb (refusal .number) 0) answer (replayRefused w refusal list)

@@ -1,0 +1,16 @@
+-- The rules of document 01 as definitions, in its order. All that must be believed stands here, and nothing else:
+--     Bytes        records, little-endian numbers, walks that end at the first refused record
+--     Tree         "The tree file"
+--     Scheduling   "Scheduling"
+--     Traces       "Trace, log, run list"
+--     Calls        "Refusals": what a whole call answers and writes
+-- What need not be believed, since it is proved from these:
+--     Cases        "Tree S and its schedules": P1 to P12, one theorem
+--     NearMisses   cases that tell the rules from near misses, one theorem
+pub mod Bytes
+pub mod Tree
+pub mod Scheduling
+pub mod Traces
+pub mod Calls
+pub mod Cases
+pub mod NearMisses

@@ -1,0 +1,256 @@
+-- Cases that tell the rules from near misses which P1 to P12 let pass: document 01's "Misreadings" first, then the order of
+-- refusals, the limits, lent bytes and loads. Each table is one theorem, closed by computation.
+use Prim.Native.Nat.{ℕ, zero, suc}
+use mathlib.Core.Path.{_≡_, refl}
+use mathlib.Core.Bool.{Bool, true, false}
+use mathlib.Core.List.{List, [], _∷_, _++_, map, flatten}
+use lib.ListN.{replicate, take}
+use Rattle.rules.specs.Bytes.{count, Verdict, accepted}
+use Rattle.rules.specs.Tree.{treeVerdict}
+use Rattle.rules.specs.Scheduling.{workFirst, helpFirst}
+use Rattle.rules.specs.Calls.{Recorded, recordCall, Replayed, replayCall}
+use Rattle.rules.specs.Cases.{sixteen, Case, recording, replaying, idling, Answer, ran, phases, idle, refused, answer, Row, row, bytes, ofKinds, S}
+
+-- ---- schedules and traces
+
+-- Two finishes, one inside the other.
+unfoldable nested : List ℕ
+nested = ofKinds (2 ∷ 2 ∷ 3 ∷ 3 ∷ 3 ∷ [])
+
+-- Two asyncs, one inside the other.
+unfoldable asyncs : List ℕ
+asyncs = ofKinds (1 ∷ 1 ∷ 3 ∷ 3 ∷ 3 ∷ [])
+
+-- The same, and one more in the root.
+unfoldable three : List ℕ
+three = ofKinds (1 ∷ 1 ∷ 3 ∷ 3 ∷ 1 ∷ 3 ∷ 3 ∷ [])
+
+-- Fifteen asyncs in the root, one after the other.
+unfoldable flat : List ℕ
+flat = ofKinds (flatten (replicate 15 (1 ∷ 3 ∷ [])) ++ (3 ∷ []))
+
+-- Each other worker steals once from worker 0.
+unfoldable allSteal : List ℕ
+allSteal = flatten (map (λ w. w ∷ 0 ∷ []) (count 1 15))
+
+unfoldable schedules : List Row
+schedules =
+    -- the steal takes the oldest step, 4, and leaves 3
+    row (recording helpFirst nested (bytes 6 0x0000_0000_0100)) (ran false (bytes 4 0x0100_0400))
+    -- an end pops the newest step, 3, and leaves 4 to steal
+    ∷ row (recording helpFirst nested (bytes 8 0x0000_0000_0000_0100)) (ran false (bytes 4 0x0100_0400))
+    -- 6 waits for 4, a descendant of the finish child, though the child's own steps 3 and 5 have run
+    ∷ row (recording helpFirst S (bytes 16 0x0000_0000_0000_0100_0200_0300_0000_0202)) (refused 10 7)
+    -- and runs once 4 has run
+    ∷ row (recording helpFirst S (bytes 20 0x0000_0000_0000_0100_0200_0300_0000_0303_0202_0101))
+    (ran true (bytes 12 0x0100_0100_0200_0600_0300_0400))
+    -- worker 2 waits at 6, and is not idle: 0 and 4 to 15 are
+    ∷ row (idling helpFirst S (bytes 14 0x0000_0000_0000_0100_0200_0300_0000)) (idle false 65521 13 0)
+    -- sixteen workers hold a step
+    ∷ row (idling helpFirst flat (replicate 30 0 ++ allSteal)) (idle false 0 0 16)
+    -- the step after an async child does not wait for it
+    ∷ row (recording workFirst S (bytes 6 0x0000_0100_0101)) (ran false (bytes 4 0x0100_0100))
+    -- a thief that holds a step is refused before a victim whose deque is empty, a worker 16 before either
+    ∷ row (recording workFirst S (bytes 2 0x0001)) (refused 11 0)
+    ∷ row (recording workFirst S (bytes 2 0x0010)) (refused 8 0)
+    ∷ row (recording workFirst S (bytes 2 0x1010)) (refused 8 0)
+    -- P1's trace replayed: the picture of document 01's listing
+    ∷ row (replaying workFirst S (bytes 12 0x0100_0100_0201_0200_0001_0100))
+    (phases ((0 ∷ 1 ∷ []) ∷ (2 ∷ 3 ∷ 4 ∷ []) ∷ (6 ∷ []) ∷ (5 ∷ []) ∷ []))
+    -- a steal is read against worker 0's latest phase, which covers step 2 alone, and not its first, which covers step 5
+    ∷ row (replaying helpFirst three (bytes 12 0x0100_0100_0001_0200_0200_0500)) (refused 15 2)
+    -- steps 1 to 3, of which 2 has been stolen
+    ∷ row (replaying helpFirst asyncs (bytes 8 0x0100_0200_0200_0100)) (refused 15 1)
+    -- a phase's first step is not its own steal
+    ∷ row (replaying helpFirst S (bytes 8 0x0100_0100_0201_0100)) (refused 15 1)
+    -- the first step of a finish child, the step after an async child, and step 0
+    ∷ row (replaying helpFirst S (bytes 4 0x0100_0200)) (refused 15 0)
+    ∷ row (replaying helpFirst S (bytes 4 0x0100_0000)) (refused 15 0)
+    ∷ row (replaying helpFirst S (bytes 4 0x0100_0700)) (refused 15 0)
+    -- work-first numbers: 0, one more than the root's children, and the frontier's next child
+    ∷ row (replaying workFirst S (bytes 4 0x0100_0000)) (refused 15 0)
+    ∷ row (replaying workFirst S (bytes 4 0x0100_0300)) (refused 15 0)
+    ∷ row (replaying workFirst S (bytes 8 0x0100_0200_0200_0100))
+    (phases ((0 ∷ 1 ∷ 2 ∷ 3 ∷ 4 ∷ []) ∷ (6 ∷ []) ∷ (5 ∷ []) ∷ []))
+    -- equal workers are 13, of 16 and above 8
+    ∷ row (replaying workFirst S (bytes 4 0x0505_0100)) (refused 13 0)
+    ∷ row (replaying workFirst S (bytes 4 0x1010_0100)) (refused 8 0)
+    ∷ []
+
+schedules-as-stated : map (λ r. answer (r .given)) schedules ≡ map (λ r. r .says) schedules
+unfolding answer bytes schedules row nested asyncs three flat allSteal ofKinds S flatten
+schedules-as-stated = refl
+
+-- ---- trees
+
+unfoldable bad : ℕ → ℕ → Verdict
+bad number position = record { number = number; position = position }
+
+record TreeRow : Type 0 where
+  tree : List ℕ
+  says : Verdict
+
+unfoldable tree : List ℕ → Verdict → TreeRow
+tree t says = record { tree = t; says = says }
+
+-- A record whose kind is k and whose byte 2 is 1.
+unfoldable unclean : ℕ → List ℕ
+unclean k = k ∷ bytes 7 0x0001_0000_0000_00
+
+-- So many finishes, one inside the other.
+unfoldable deep : ℕ → List ℕ
+deep n = ofKinds (replicate n 2)
+
+unfoldable trees : List TreeRow
+trees =
+    tree [] (bad 2 0)
+    ∷ tree (3 ∷ []) (bad 2 0)
+    ∷ tree (ofKinds (3 ∷ [])) accepted
+    ∷ tree (ofKinds (4 ∷ [])) (bad 3 0)
+    ∷ tree (ofKinds (0 ∷ [])) (bad 3 0)
+    ∷ tree (unclean 3) (bad 3 0)
+    -- the root's end, then one record more; 3 goes before 5 in one record
+    ∷ tree (ofKinds (3 ∷ 3 ∷ [])) (bad 5 1)
+    ∷ tree (ofKinds (3 ∷ []) ++ unclean 3) (bad 3 1)
+    -- the earlier record decides, whatever the number
+    ∷ tree (ofKinds (3 ∷ 3 ∷ 4 ∷ [])) (bad 5 1)
+    -- the root is still open
+    ∷ tree (ofKinds (1 ∷ 3 ∷ [])) (bad 5 2)
+    -- 64 open, ended or not; a 65th; a 65th whose record is not well formed
+    ∷ tree (deep 63 ++ ofKinds (replicate 64 3)) accepted
+    ∷ tree (deep 63) (bad 5 63)
+    ∷ tree (deep 64) (bad 4 63)
+    ∷ tree (deep 63 ++ unclean 2) (bad 3 63)
+    ∷ []
+
+trees-as-stated : map (λ t. treeVerdict (t .tree)) trees ≡ map (λ t. t .says) trees
+unfolding answer bytes trees tree bad unclean deep ofKinds flatten
+trees-as-stated = refl
+
+-- ---- whole calls: the order of refusals, every lent byte, loads
+
+-- An async child of weight 2, in a root whose steps weigh 1 and 256.
+unfoldable weighted : List ℕ
+weighted = bytes 24 0x0100_0000_0100_0000_0300_0000_0200_0000_0300_0000_0001_0000
+
+-- Sixteen loads, of which these are the first.
+unfoldable sixteenLoads : List ℕ → List ℕ
+sixteenLoads ls = take 16 (ls ++ replicate 16 0)
+
+-- A record call on `weighted`: policy, events, log, trace; and what it answers.
+record RecordRow : Type 0 where
+  policy : ℕ
+  events : List ℕ
+  log : List ℕ
+  trace : List ℕ
+  says : Recorded
+
+unfoldable recordRow : ℕ → List ℕ → List ℕ → List ℕ → Recorded → RecordRow
+recordRow policy events log trace says =
+    record { policy = policy; events = events; log = log; trace = trace; says = says }
+
+-- A refused one: the number and the position, the other answers 0, the buffers as they were.
+unfoldable recordRefusal : ℕ → List ℕ → List ℕ → List ℕ → ℕ → ℕ → RecordRow
+recordRefusal policy events log trace number position =
+    recordRow policy events log trace
+    (record {
+      verdict = bad number position;
+      logCount = 0;
+      traceCount = 0;
+      finished = false;
+      loads = sixteenLoads [];
+      heaviest = 0;
+      log = log;
+      trace = trace;
+    })
+
+unfoldable recordings : List RecordRow
+recordings =
+    -- buffers one byte longer than asked; worker 5 has taken step 2 and not run it, and its load counts
+    recordRow workFirst (bytes 6 0x0000_0500_0000) (replicate 13 7) (replicate 5 9)
+    (record {
+      verdict = accepted;
+      logCount = 2;
+      traceCount = 1;
+      finished = false;
+      loads = sixteenLoads (3 ∷ 0 ∷ 0 ∷ 0 ∷ 0 ∷ 256 ∷ []);
+      heaviest = 5;
+      log = bytes 13 0x0000_0000_0000_0100_0707_0707_07;
+      trace = bytes 5 0x0500_0100_09;
+    })
+    -- the same and the step run: finished
+    ∷ recordRow workFirst (bytes 8 0x0000_0500_0000_0505) (replicate 12 7) (replicate 4 9)
+    (record {
+      verdict = accepted;
+      logCount = 3;
+      traceCount = 1;
+      finished = true;
+      loads = sixteenLoads (3 ∷ 0 ∷ 0 ∷ 0 ∷ 0 ∷ 256 ∷ []);
+      heaviest = 5;
+      log = bytes 12 0x0000_0000_0000_0100_0100_0200;
+      trace = bytes 4 0x0500_0100;
+    })
+    -- 1 before 6, 6 before 7, 7 for either buffer, 7 before 9
+    ∷ recordRefusal 3 (bytes 1 0x00) [] [] 1 0
+    ∷ recordRefusal 0 [] (replicate 12 7) (replicate 4 9) 1 0
+    ∷ recordRefusal helpFirst (bytes 1 0x00) (replicate 11 7) (replicate 4 9) 6 0
+    ∷ recordRefusal helpFirst (bytes 2 0x0101) (replicate 11 7) (replicate 4 9) 7 0
+    ∷ recordRefusal helpFirst (bytes 2 0x0101) (replicate 12 7) (replicate 3 9) 7 0
+    -- a refusal after an accepted event leaves the buffers as they were
+    ∷ recordRefusal helpFirst (bytes 4 0x0000_0101) (replicate 12 7) (replicate 4 9) 9 1
+    ∷ []
+
+recordings-as-stated :
+    map (λ r. recordCall sixteen (r .policy) weighted (r .events) (r .log) (r .trace)) recordings ≡ map (λ r. r .says) recordings
+unfolding answer bytes recordings recordRow recordRefusal weighted sixteenLoads bad
+recordings-as-stated = refl
+
+-- A replay call under work-first on a tree: trace, list; and what it answers.
+record ReplayRow : Type 0 where
+  tree : List ℕ
+  trace : List ℕ
+  list : List ℕ
+  says : Replayed
+
+unfoldable replays : List ReplayRow
+replays =
+    -- a list one byte longer than asked; worker 1 has taken step 2
+    record {
+      tree = weighted;
+      trace = bytes 4 0x0100_0100;
+      list = replicate 13 7;
+      says =
+          record {
+            verdict = accepted;
+            phaseCount = 2;
+            loads = sixteenLoads (3 ∷ 256 ∷ []);
+            heaviest = 1;
+            list = bytes 13 0x0000_0000_0000_0100_0100_0200_07;
+          };
+    }
+    -- equal loads: the lower worker is the heaviest
+    ∷ record {
+      tree = ofKinds (1 ∷ 3 ∷ 1 ∷ 3 ∷ 3 ∷ []);
+      trace = bytes 8 0x0200_0100_0102_0200;
+      list = replicate 20 7;
+      says =
+          record {
+            verdict = accepted;
+            phaseCount = 3;
+            loads = sixteenLoads (2 ∷ 1 ∷ 2 ∷ []);
+            heaviest = 0;
+            list = bytes 20 0x0000_0000_0000_0100_0100_0200_0100_0300_0200_0400;
+          };
+    }
+    -- a list one byte short
+    ∷ record {
+      tree = weighted;
+      trace = bytes 4 0x1010_0100;
+      list = replicate 11 7;
+      says = record { verdict = bad 7 0; phaseCount = 0; loads = sixteenLoads []; heaviest = 0; list = replicate 11 7 };
+    }
+    ∷ []
+
+replays-as-stated : map (λ r. replayCall sixteen workFirst (r .tree) (r .trace) (r .list)) replays ≡ map (λ r. r .says) replays
+unfolding answer bytes replays weighted sixteenLoads bad ofKinds flatten
+replays-as-stated = refl

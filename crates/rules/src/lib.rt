@@ -1,0 +1,1 @@
+// The rules of recording and replay, as definitions in specs/. No code.
