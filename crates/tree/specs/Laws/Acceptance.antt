@@ -1,0 +1,260 @@
+-- Accepting a tree, as the code does it: a record's four tested bytes, one record's refusal, the walk as a loop, and the
+-- verdict from what the loop finds. Laws are in the terms of the code.
+use Prim.Native.Nat.{ℕ, zero, suc, pred, _+_, _-_, _*_, _/_, _%_, _≤_, _<_}
+use mathlib.Core.Path.{_≡_, refl, sym, ap, _∙_}
+use mathlib.Core.Bool.{Bool, true, false, cond, not, _&&_, _||_, true≢false}
+use mathlib.Core.List.{List, [], _∷_}
+use native.Mathlib.Decide.{ℕ-discrete, decLe}
+use native.Mathlib.Nat.{lt-of-not-le}
+use native.Mathlib.Numerals.{add-one, sub-one}
+use native.Mathlib.Omega.{arith}
+use lib.ListN.{length, drop, getD}
+use lib.Dec.{eqb, leb}
+use borrow.Author.Tests.{eq-eqb, ne-eqb, eqb-true, eqb-false, le-leb, lt-leb}
+use Rattle.rules.specs.Bytes.{Verdict, accepted, Walked, walk, wholeRecords, refusedIf, firstRefused, records}
+use Rattle.rules.specs.Tree.{mostSteps, mostOpen, treeRecords, kind, isAsync, isFinish, isEnd, kinds, kindAt, openAfter, wellFormed, judgeTreeRecord, treeWalk, treeVerdict}
+use Rattle.tree.specs.declared.Accepted.{Accepted}
+use Rattle.tree.specs.Answers.{acceptance}
+use Rattle.tree.specs.Laws.Records.{length-records, length-kinds, field-at}
+use Rattle.tree.specs.Laws.Walks.{walk-on, walk-stop, walk-end}
+
+-- ---- a record's bytes 0 to 3
+
+-- Well formed, from the four bytes.
+unfoldable pub formed : ℕ → ℕ → ℕ → ℕ → Bool
+formed k a b c = (isAsync k || isFinish k || isEnd k) && eqb a 0 && eqb b 0 && eqb c 0
+
+and-false : (x : Bool) → x && false ≡ false
+and-false true = refl
+and-false false = refl
+
+pub formed-low : (k a b c : ℕ) → k < 1 → formed k a b c ≡ false
+unfolding formed isAsync isFinish isEnd
+formed-low k a b c h =
+    rw (ne-eqb k 1 (λ e. omega arith), ne-eqb k 2 (λ e. omega arith), ne-eqb k 3 (λ e. omega arith)) refl
+
+pub formed-high : (k a b c : ℕ) → 3 < k → formed k a b c ≡ false
+unfolding formed isAsync isFinish isEnd
+formed-high k a b c h =
+    rw (ne-eqb k 1 (λ e. omega arith), ne-eqb k 2 (λ e. omega arith), ne-eqb k 3 (λ e. omega arith)) refl
+
+pub formed-first : (k a b c : ℕ) → (a ≡ 0 → ⊥) → formed k a b c ≡ false
+unfolding formed
+formed-first k a b c h = rw (ne-eqb a 0 h, and-false (isAsync k || isFinish k || isEnd k)) refl
+
+pub formed-second : (k a b c : ℕ) → (b ≡ 0 → ⊥) → formed k a b c ≡ false
+unfolding formed
+formed-second k a b c h = rw (ne-eqb b 0 h, and-false ((isAsync k || isFinish k || isEnd k) && eqb a 0)) refl
+
+one-of-three : (k : ℕ) → 1 ≤ k → k ≤ 3 → isAsync k || isFinish k || isEnd k ≡ true
+unfolding isAsync isFinish isEnd
+one-of-three zero l h = absurd (omega arith)
+one-of-three (suc zero) l h = refl
+one-of-three (suc (suc zero)) l h = refl
+one-of-three (suc (suc (suc zero))) l h = refl
+one-of-three (suc (suc (suc (suc k)))) l h = absurd (omega arith)
+
+pub formed-last : (k a b c : ℕ) → 1 ≤ k → k ≤ 3 → a ≡ 0 → b ≡ 0 → formed k a b c ≡ eqb c 0
+unfolding formed
+formed-last k a b c l h x y = rw (one-of-three k l h, eq-eqb a 0 x, eq-eqb b 0 y) refl
+
+module _ (tree : List ℕ) (i : ℕ) (h : i < length (kinds tree)) where
+  byte : (j : ℕ) → j < 8 → getD (getD (treeRecords tree) i []) j 0 ≡ getD tree (8 * i + j) 0
+  unfolding treeRecords
+  byte j l = field-at 8 tree i j (omega (arith, length-kinds tree)) l
+
+  pub record-kind : kind (getD (treeRecords tree) i []) ≡ getD tree (8 * i) 0
+  unfolding kind
+  record-kind =
+      let e : 8 * i + 0 ≡ 8 * i = omega arith in
+      rw e at (byte 0 (omega arith))
+
+  pub well-formed-at :
+      wellFormed (getD (treeRecords tree) i [])
+      ≡ formed (getD tree (8 * i) 0) (getD tree (8 * i + 1) 0) (getD tree (8 * i + 2) 0) (getD tree (8 * i + 3) 0)
+  unfolding wellFormed formed
+  well-formed-at = rw (record-kind, byte 1 (omega arith), byte 2 (omega arith), byte 3 (omega arith)) refl
+
+-- ---- one record's refusal
+
+module _ (d : ℕ) (r : List ℕ) where
+  pub judge-malformed : wellFormed r ≡ false → judgeTreeRecord d r ≡ 3
+  unfolding judgeTreeRecord
+  judge-malformed w = rw w refl
+
+  pub judge-full : wellFormed r ≡ true → d ≡ 64 → (kind r ≡ 3 → ⊥) → judgeTreeRecord d r ≡ 4
+  unfolding judgeTreeRecord isEnd
+  judge-full w e k = rw (w, e, ne-eqb (kind r) 3 k) refl
+
+  pub judge-last-end : wellFormed r ≡ true → d ≡ 64 → kind r ≡ 3 → judgeTreeRecord d r ≡ 0
+  unfolding judgeTreeRecord isEnd
+  judge-last-end w e k = rw (w, e, k) refl
+
+  pub judge-after : wellFormed r ≡ true → d ≡ 0 → judgeTreeRecord d r ≡ 5
+  unfolding judgeTreeRecord
+  judge-after w e = rw (w, e) refl
+
+  pub judge-fine : wellFormed r ≡ true → (d ≡ 64 → ⊥) → (d ≡ 0 → ⊥) → judgeTreeRecord d r ≡ 0
+  unfolding judgeTreeRecord
+  judge-fine w f z = rw (w, ne-eqb d 64 f, ne-eqb d 0 z) refl
+
+-- What a record that is not refused says of itself and of the tasks open before it.
+judged-formed : (d : ℕ) (r : List ℕ) → judgeTreeRecord d r ≡ 0 → wellFormed r ≡ true
+judged-formed d r e = by (wellFormed r) refl
+  where
+    by : (b : Bool) → wellFormed r ≡ b → wellFormed r ≡ true
+    by false w = absurd (omega (arith, judge-malformed d r w))
+    by true w = w
+
+pub judged-open : (d : ℕ) (r : List ℕ) → judgeTreeRecord d r ≡ 0 → (d ≡ 0 → ⊥) × (d ≡ 64 → kind r ≡ 3)
+judged-open d r e =
+    let w = judged-formed d r e in (
+      (λ z. absurd (omega (arith, judge-after d r w z))),
+      (λ f. elim (ℕ-discrete (kind r) 3) [ yes k ↦ k | no k ↦ absurd (omega (arith, judge-full d r w f k)) ]),
+    )
+
+pub judged-kind : (d : ℕ) (r : List ℕ) → judgeTreeRecord d r ≡ 0 → (1 ≤ kind r) × (kind r ≤ 3)
+unfolding wellFormed formed
+judged-kind d r e =
+    let w : formed (kind r) (getD r 1 0) (getD r 2 0) (getD r 3 0) ≡ true = judged-formed d r e in (
+      elim (decLe 1 (kind r)) [
+        | yes h ↦ h
+        | no h ↦ absurd (true≢false (sym w ∙ formed-low (kind r) (getD r 1 0) (getD r 2 0) (getD r 3 0) (lt-of-not-le h)))
+      ],
+      elim (decLe (kind r) 3) [
+        | yes h ↦ h
+        | no h ↦ absurd (true≢false (sym w ∙ formed-high (kind r) (getD r 1 0) (getD r 2 0) (getD r 3 0) (lt-of-not-le h)))
+      ],
+    )
+
+-- ---- the walk as a loop
+
+-- At position i the walk has `depth` tasks open.
+pub record Walking (tree : List ℕ) (i depth : ℕ) : Type 0 where
+  pub within : i ≤ length (kinds tree)
+  pub deep : depth ≤ 64
+  pub same : walk judgeTreeRecord (λ d r. openAfter (kind r) d) i depth (drop i (treeRecords tree)) ≡ treeWalk tree
+
+module _ (tree : List ℕ) where
+  count : length (treeRecords tree) ≡ length (kinds tree)
+  unfolding treeRecords
+  count = length-records 8 tree ∙ sym (length-kinds tree)
+
+  pub walking-start : Walking tree 0 1
+  unfolding treeWalk
+  walking-start = record { within = omega arith; deep = omega arith; same = refl }
+
+  module _ (i depth : ℕ) (w : Walking tree i depth) where
+    r : List ℕ
+    r = getD (treeRecords tree) i []
+
+    on : i < length (kinds tree) → judgeTreeRecord depth r ≡ 0
+        → walk judgeTreeRecord (λ d r. openAfter (kind r) d) (suc i) (openAfter (kind r) depth) (drop (suc i) (treeRecords tree)) ≡ treeWalk tree
+    unfolding r
+    on h e =
+        sym (walk-on judgeTreeRecord (λ d r. openAfter (kind r) d) (treeRecords tree) [] i depth (rw count h) e) ∙ w .same
+
+    -- Past an end.
+    pub walking-end : i < length (kinds tree) → judgeTreeRecord depth (getD (treeRecords tree) i []) ≡ 0
+        → getD tree (8 * i) 0 ≡ 3 → (0 < depth) × Walking tree (i + 1) (depth - 1)
+    unfolding r openAfter isEnd
+    walking-end h e k =
+        let end : kind (getD (treeRecords tree) i []) ≡ 3 = record-kind tree i h ∙ k in
+        let was = judged-open depth (getD (treeRecords tree) i []) e in (
+          omega (arith, was .0),
+          record {
+            within = omega arith;
+            deep = omega (arith, w .deep);
+            same = rw (add-one, sub-one) (rw end at (on h e));
+          },
+        )
+
+    -- Past an opening.
+    pub walking-open : i < length (kinds tree) → judgeTreeRecord depth (getD (treeRecords tree) i []) ≡ 0
+        → (getD tree (8 * i) 0 ≡ 3 → ⊥) → Walking tree (i + 1) (depth + 1)
+    unfolding r openAfter isEnd
+    walking-open h e k =
+        let opens : kind (getD (treeRecords tree) i []) ≡ 3 → ⊥ = λ end. k (sym (record-kind tree i h) ∙ end) in
+        let room : depth ≡ 64 → ⊥ = λ full. opens (judged-open depth (getD (treeRecords tree) i []) e .1 full) in
+        record {
+          within = omega arith;
+          deep = omega (arith, w .deep);
+          same = rw (add-one, add-one) (rw (ne-eqb (kind (getD (treeRecords tree) i [])) 3 opens) at (on h e));
+        }
+
+    -- At a refused record.
+    pub walking-stop : i < length (kinds tree) → (judgeTreeRecord depth (getD (treeRecords tree) i []) ≡ 0 → ⊥)
+        → treeWalk tree .verdict ≡ record { number = judgeTreeRecord depth (getD (treeRecords tree) i []); position = i }
+    walking-stop h e =
+        ap (λ (x : Walked ℕ). x .verdict)
+        (sym (w .same) ∙ walk-stop judgeTreeRecord (λ d r. openAfter (kind r) d) (treeRecords tree) [] i depth (rw count h) e)
+
+    -- At the file's end.
+    pub walking-done : length (kinds tree) ≤ i → (treeWalk tree .verdict .number ≡ 0) × (treeWalk tree .state ≡ depth)
+    unfolding accepted
+    walking-done h =
+        let done = sym (w .same) ∙ walk-end judgeTreeRecord (λ d r. openAfter (kind r) d) (treeRecords tree) [] i depth (rw count h) in
+        (ap (λ (x : Walked ℕ). x .verdict .number) done, ap (λ (x : Walked ℕ). x .state) done)
+
+-- ---- the verdict
+
+-- Refusal 2's condition.
+unfoldable pub misfit : List ℕ → Bool
+misfit tree = eqb (length tree) 0 || not (wholeRecords 8 mostSteps tree)
+
+or-true : (x : Bool) → x || true ≡ true
+or-true true = refl
+or-true false = refl
+
+module _ (tree : List ℕ) where
+  pub misfit-part : (length tree % 8 ≡ 0 → ⊥) → misfit tree ≡ true
+  unfolding misfit wholeRecords
+  misfit-part h = rw (ne-eqb (length tree % 8) 0 h) (or-true (eqb (length tree) 0))
+
+  pub misfit-empty : length tree / 8 ≡ 0 → misfit tree ≡ true
+  unfolding misfit
+  misfit-empty h =
+      elim (ℕ-discrete (length tree) 0) [
+        | yes e ↦ rw (eq-eqb (length tree) 0 e) refl
+        | no n ↦ misfit-part (λ e. absurd (omega arith))
+      ]
+
+  pub misfit-long : 4095 < length tree / 8 → misfit tree ≡ true
+  unfolding misfit wholeRecords
+  misfit-long h =
+      rw (lt-leb (length tree / 8) 4095 h, and-false (eqb (length tree % 8) 0)) (or-true (eqb (length tree) 0))
+
+  pub fits : (length tree / 8 ≡ 0 → ⊥) → length tree % 8 ≡ 0 → length tree / 8 ≤ 4095 → misfit tree ≡ false
+  unfolding misfit wholeRecords
+  fits n e h =
+      rw (ne-eqb (length tree) 0 (λ z. absurd (omega arith)), eq-eqb (length tree % 8) 0 e, le-leb (length tree / 8) 4095 h) refl
+
+  pub verdict-misfit : misfit tree ≡ true → treeVerdict tree ≡ record { number = 2; position = 0 }
+  unfolding misfit treeVerdict firstRefused refusedIf
+  verdict-misfit m = rw m refl
+
+  pub verdict-stop : misfit tree ≡ false → (v : Verdict) → treeWalk tree .verdict ≡ v → (v .number ≡ 0 → ⊥) → treeVerdict tree ≡ v
+  unfolding misfit treeVerdict firstRefused refusedIf accepted
+  verdict-stop m v e n = rw (m, e, ne-eqb (v .number) 0 n) refl
+
+  pub verdict-open : misfit tree ≡ false → treeWalk tree .verdict .number ≡ 0 → (treeWalk tree .state ≡ 0 → ⊥)
+      → treeVerdict tree ≡ record { number = 5; position = length tree / 8 }
+  unfolding misfit treeVerdict firstRefused refusedIf accepted treeRecords
+  verdict-open m e n =
+      rw (m, eq-eqb (treeWalk tree .verdict .number) 0 e, ne-eqb (treeWalk tree .state) 0 n, length-records 8 tree) refl
+
+  pub verdict-accepted : misfit tree ≡ false → treeWalk tree .verdict .number ≡ 0 → treeWalk tree .state ≡ 0
+      → treeVerdict tree ≡ record { number = 0; position = 0 }
+  unfolding misfit treeVerdict firstRefused refusedIf accepted
+  verdict-accepted m e z = rw (m, eq-eqb (treeWalk tree .verdict .number) 0 e, eq-eqb (treeWalk tree .state) 0 z) refl
+
+-- The answer that a verdict makes.
+pub answered-refused : (tree : List ℕ) (v : Verdict) → treeVerdict tree ≡ v → (v .number ≡ 0 → ⊥)
+    → _≡_ {A = Accepted} (record { number = v .number; position = v .position; steps = 0 }) (acceptance tree)
+unfolding acceptance
+answered-refused tree v e n = rw (e, ne-eqb (v .number) 0 n) refl
+
+pub answered-accepted : (tree : List ℕ) → treeVerdict tree ≡ record { number = 0; position = 0 }
+    → _≡_ {A = Accepted} (record { number = 0; position = 0; steps = length tree / 8 }) (acceptance tree)
+unfolding acceptance
+answered-accepted tree e = rw (e, length-kinds tree) refl
