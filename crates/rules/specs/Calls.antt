@@ -1,12 +1,12 @@
 -- Document 01, "Refusals": what whole calls answer and write, from their arguments alone. `w` is the number of workers,
 -- which is 16; `p` the policy's byte. "A refused call returns the number and the position, all other results 0, and changes
 -- no buffer."
-use Prim.Native.Nat.{ℕ, zero, suc, _+_, _-_, _*_}
-use mathlib.Core.Bool.{Bool, true, false, cond, _&&_, _||_, not}
+use Prim.Native.Nat.{ℕ, _-_, _*_}
+use mathlib.Core.Bool.{Bool, false, cond, _||_, not}
 use mathlib.Core.List.{List, [], _∷_, _++_}
 use lib.ListN.{length, drop, replicate}
 use lib.Dec.{eqb, ltb}
-use Rattle.rules.specs.Bytes.{records, wholeRecords, count, all, Verdict, refusedIf, firstRefused, Walked, walk}
+use Rattle.rules.specs.Bytes.{records, wholeRecords, count, all, Verdict, accepted, refusedIf, firstRefused, Walked, walk}
 use Rattle.rules.specs.Tree.{kinds, weights, treeVerdict}
 use Rattle.rules.specs.Scheduling.{workFirst, helpFirst, Phase, Run, start, hasRun, judgeEvent, nextRun}
 use Rattle.rules.specs.Traces.{traceBytes, entryBytes, replayWalk, runList, loads, heaviest}
@@ -21,6 +21,22 @@ mostTraceRecords = 2047
 --     2 to 5  by the tree.
 unfoldable pub startVerdict : ℕ → List ℕ → Verdict
 startVerdict p tree = firstRefused (refusedIf (not (eqb p workFirst || eqb p helpFirst)) 1 0 ∷ treeVerdict tree ∷ [])
+
+-- ---- single events
+
+-- What a single event answers, with the state that it hands back.
+pub record Evented : Type 0 where
+  pub verdict : Verdict
+  pub state : Run
+
+-- "A refused single event hands back the state it got, with position 0."
+unfoldable pub eventCall : ℕ → List ℕ → Run → List ℕ → Evented
+eventCall p ks s e =
+    let next = nextRun p ks s e in
+    cond (eqb (judgeEvent ks s e) 0) (record { verdict = accepted; state = next })
+    (record { verdict = record { number = judgeEvent ks s e; position = 0 }; state = s })
+
+-- ---- lent buffers
 
 -- A lent buffer with the records at its front and, beyond them, its old bytes.
 unfoldable pub written : List ℕ → List ℕ → List ℕ

@@ -1,15 +1,15 @@
 -- Cases that tell the rules from near misses which P1 to P12 let pass: document 01's "Misreadings" first, then the order of
 -- refusals, the limits, lent bytes and loads. Each table is one theorem, closed by computation.
-use Prim.Native.Nat.{ℕ, zero, suc}
+use Prim.Native.Nat.{ℕ}
 use mathlib.Core.Path.{_≡_, refl}
-use mathlib.Core.Bool.{Bool, true, false}
+use mathlib.Core.Bool.{true, false}
 use mathlib.Core.List.{List, [], _∷_, _++_, map, flatten}
 use lib.ListN.{replicate, take}
 use Rattle.rules.specs.Bytes.{count, Verdict, accepted}
-use Rattle.rules.specs.Tree.{treeVerdict}
-use Rattle.rules.specs.Scheduling.{workFirst, helpFirst}
-use Rattle.rules.specs.Calls.{Recorded, recordCall, Replayed, replayCall}
-use Rattle.rules.specs.Cases.{sixteen, Case, recording, replaying, idling, Answer, ran, phases, idle, refused, answer, Row, row, bytes, ofKinds, S}
+use Rattle.rules.specs.Tree.{kinds, treeVerdict}
+use Rattle.rules.specs.Scheduling.{workFirst, helpFirst, start}
+use Rattle.rules.specs.Calls.{eventCall, Recorded, recordCall, Replayed, replayCall}
+use Rattle.rules.specs.Cases.{sixteen, recording, replaying, idling, ran, phases, idle, refused, answer, Row, row, bytes, ofKinds, S}
 
 -- ---- schedules and traces
 
@@ -63,7 +63,7 @@ schedules =
     ∷ row (replaying helpFirst asyncs (bytes 8 0x0100_0200_0200_0100)) (refused 15 1)
     -- a phase's first step is not its own steal
     ∷ row (replaying helpFirst S (bytes 8 0x0100_0100_0201_0100)) (refused 15 1)
-    -- the first step of a finish child, the step after an async child, and step 0
+    -- the step after an async child, step 0, and a number that is no step
     ∷ row (replaying helpFirst S (bytes 4 0x0100_0200)) (refused 15 0)
     ∷ row (replaying helpFirst S (bytes 4 0x0100_0000)) (refused 15 0)
     ∷ row (replaying helpFirst S (bytes 4 0x0100_0700)) (refused 15 0)
@@ -80,6 +80,13 @@ schedules =
 schedules-as-stated : map (λ r. answer (r .given)) schedules ≡ map (λ r. r .says) schedules
 unfolding answer bytes schedules row nested asyncs three flat allSteal ofKinds S flatten
 schedules-as-stated = refl
+
+-- A refused event hands back the state it got, at position 0: on S, a steal from worker 0 before anything was pushed.
+refused-event :
+    eventCall workFirst (kinds S) (start sixteen) (bytes 2 0x0100)
+    ≡ record { verdict = record { number = 12; position = 0 }; state = start sixteen }
+unfolding answer bytes ofKinds S flatten
+refused-event = refl
 
 -- ---- trees
 

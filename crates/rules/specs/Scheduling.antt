@@ -1,11 +1,11 @@
 -- Document 01, "Scheduling": what running a step holds and pushes, when a step waits, running and stealing, refusals 8 to
 -- 12, and the idle workers. `p` is the policy, 1 or 2, and `ks` the tree's kinds.
-use Prim.Native.Nat.{ℕ, zero, suc, _+_, _-_, _*_}
+use Prim.Native.Nat.{ℕ, suc, _+_, _-_, _*_}
 use mathlib.Core.Bool.{Bool, true, false, cond, _&&_, _||_, not}
 use mathlib.Core.List.{List, [], _∷_, _++_, dropLast}
 use mathlib.Core.Option.{Option, none, some}
 use lib.ListN.{length, getD, set, replicate}
-use lib.Dec.{eqb, ltb, leb}
+use lib.Dec.{eqb, leb}
 use Rattle.rules.specs.Bytes.{count, all, any}
 use Rattle.rules.specs.Tree.{kindAt, isAsync, isEnd, cont, finishBefore}
 

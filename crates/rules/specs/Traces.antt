@@ -1,6 +1,6 @@
 -- Document 01, "Trace, log, run list": trace and log records, how replay reads a steal, what a phase covers, its running
 -- order, the run list, loads. `p` is the policy, `ks` the tree's kinds and `ws` its weights.
-use Prim.Native.Nat.{ℕ, zero, suc, pred, _+_, _-_, _*_, max}
+use Prim.Native.Nat.{ℕ, zero, suc, pred, _-_, max}
 use mathlib.Core.Bool.{Bool, true, false, cond, _&&_, _||_, not}
 use mathlib.Core.List.{List, [], _∷_, _++_, map, flatten, zipWith}
 use mathlib.Core.Option.{Option, none, some}

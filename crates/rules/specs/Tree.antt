@@ -1,12 +1,12 @@
 -- Document 01, "The tree file": records, kinds, weights; the task and ordinal of a step; the step after a child's end;
 -- which trees are accepted. Everything after acceptance speaks of the list of kinds, one for each record.
-use Prim.Native.Nat.{ℕ, zero, suc, pred, _+_, _-_, _*_, _/_}
-use mathlib.Core.Bool.{Bool, true, false, cond, _&&_, _||_, not}
+use Prim.Native.Nat.{ℕ, zero, suc, pred, _-_}
+use mathlib.Core.Bool.{Bool, false, cond, _&&_, _||_, not}
 use mathlib.Core.List.{List, [], _∷_, map, reverse}
 use mathlib.Core.Option.{Option, none, some}
 use lib.ListN.{length, take, drop, getD}
-use lib.Dec.{eqb, leb}
-use Rattle.rules.specs.Bytes.{littleEndian, records, wholeRecords, all, Verdict, refusedIf, firstRefused, Walked, walk}
+use lib.Dec.{eqb}
+use Rattle.rules.specs.Bytes.{littleEndian, records, wholeRecords, Verdict, refusedIf, firstRefused, Walked, walk}
 
 -- ---- records
 
@@ -135,9 +135,12 @@ wellFormed r =
 unfoldable pub judgeTreeRecord : ℕ → List ℕ → ℕ
 judgeTreeRecord d r = cond (not (wellFormed r)) 3 (cond (eqb d mostOpen && not (isEnd (kind r))) 4 (cond (eqb d 0) 5 0))
 
+unfoldable pub nextOpen : ℕ → List ℕ → ℕ
+nextOpen d r = openAfter (kind r) d
+
 -- The walk over the records, from the open root on; its state is the number of open tasks.
 unfoldable pub treeWalk : List ℕ → Walked ℕ
-treeWalk tree = walk judgeTreeRecord (λ d r. openAfter (kind r) d) 0 1 (treeRecords tree)
+treeWalk tree = walk judgeTreeRecord nextOpen 0 1 (treeRecords tree)
 
 --     2  "The tree is empty, not whole records, or longer than 32,760 bytes."
 --     3, 4, 5  in one walk; and 5 too where "the root is still open (position n)".

@@ -1,20 +1,11 @@
 -- What the tree crate's functions answer, in the rules' words.
-use Prim.Native.Nat.{ℕ, suc}
-use mathlib.Core.Path.{_≡_}
-use mathlib.Core.Bool.{Bool, true, false, cond, _||_}
+use Prim.Native.Nat.{ℕ}
+use mathlib.Core.Bool.{cond}
 use mathlib.Core.List.{List}
-use mathlib.Core.Option.{Option, none, some}
 use lib.ListN.{length}
-use lib.Dec.{eqb, leb}
-use Rattle.rules.specs.Bytes.{Verdict}
-use Rattle.rules.specs.Tree.{kinds, kindAt, isEnd, task, ordinal, finishBefore, treeVerdict}
-use Rattle.rules.specs.Scheduling.{holds, pushes}
+use lib.Dec.{eqb}
+use Rattle.rules.specs.Tree.{kinds, treeVerdict}
 use Rattle.tree.specs.declared.Accepted.{Accepted}
-use Rattle.tree.specs.declared.Task.{Task}
-use Rattle.tree.specs.declared.FinishChild.{FinishChild}
-use Rattle.tree.specs.declared.FinishChild.the-variants.{From, Nothing}
-use Rattle.tree.specs.declared.Running.{Running}
-use Rattle.tree.specs.declared.Running.the-variants.{Opens, Ends}
 
 -- The tree's refusal and position, or its count of steps; what is not answered is 0.
 unfoldable pub acceptance : List ℕ → Accepted
@@ -24,17 +15,3 @@ acceptance tree =
       position = treeVerdict tree .position;
       steps = cond (eqb (treeVerdict tree .number) 0) (length (kinds tree)) 0;
     }
-
--- The task of a step and the step's ordinal in it.
-unfoldable pub taskOf : List ℕ → ℕ → Task
-taskOf ks i = record { first = record { 0 = task ks i }; ordinal = record { 0 = ordinal ks i } }
-
--- The finish child whose end stands just before a step.
-unfoldable pub childOf : Option ℕ → FinishChild
-childOf none = Nothing
-childOf (some first) = From (record { 0 = first })
-
--- What running a step holds and pushes. An end pushes nothing, and so does a step that the tree has not.
-unfoldable pub runningOf : ℕ → List ℕ → ℕ → Running
-runningOf p ks i =
-    cond (leb (length ks) i || isEnd (kindAt ks i)) Ends (Opens (record { 0 = holds p ks i }) (record { 0 = pushes p ks i }))

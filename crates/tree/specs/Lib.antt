@@ -1,5 +1,5 @@
--- The tree crate's definitions.
---     Answers   what its functions answer, by the rules (to be believed)
---     Laws      the laws of records, walks, scans and trees (proved)
+-- The tree file's definitions.
+--     Answers   what the functions answer, by the rules (to be believed)
+--     Laws      the laws of records, walks and acceptance (proved)
 pub mod Answers
 pub mod Laws

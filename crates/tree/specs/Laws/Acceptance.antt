@@ -1,20 +1,21 @@
 -- Accepting a tree, as the code does it: a record's four tested bytes, one record's refusal, the walk as a loop, and the
 -- verdict from what the loop finds. Laws are in the terms of the code.
-use Prim.Native.Nat.{ℕ, zero, suc, pred, _+_, _-_, _*_, _/_, _%_, _≤_, _<_}
+use Prim.Native.Nat.{ℕ, zero, suc, _+_, _-_, _*_, _/_, _%_, _≤_, _<_}
 use mathlib.Core.Path.{_≡_, refl, sym, ap, _∙_}
-use mathlib.Core.Bool.{Bool, true, false, cond, not, _&&_, _||_, true≢false}
-use mathlib.Core.List.{List, [], _∷_}
+use mathlib.Core.Bool.{Bool, true, false, not, _&&_, _||_, true≢false}
+use mathlib.Core.List.{List, []}
 use native.Mathlib.Decide.{ℕ-discrete, decLe}
 use native.Mathlib.Nat.{lt-of-not-le}
 use native.Mathlib.Numerals.{add-one, sub-one}
 use native.Mathlib.Omega.{arith}
 use lib.ListN.{length, drop, getD}
-use lib.Dec.{eqb, leb}
-use borrow.Author.Tests.{eq-eqb, ne-eqb, eqb-true, eqb-false, le-leb, lt-leb}
-use Rattle.rules.specs.Bytes.{Verdict, accepted, Walked, walk, wholeRecords, refusedIf, firstRefused, records}
-use Rattle.rules.specs.Tree.{mostSteps, mostOpen, treeRecords, kind, isAsync, isFinish, isEnd, kinds, kindAt, openAfter, wellFormed, judgeTreeRecord, treeWalk, treeVerdict}
+use lib.Dec.{eqb}
+use borrow.Author.Tests.{eq-eqb, ne-eqb, le-leb, lt-leb}
+use Rattle.rules.specs.Bytes.{Verdict, accepted, Walked, walk, wholeRecords, refusedIf, firstRefused}
+use Rattle.rules.specs.Tree.{mostSteps, treeRecords, kind, isAsync, isFinish, isEnd, kinds, openAfter, wellFormed, judgeTreeRecord, nextOpen, treeWalk, treeVerdict}
 use Rattle.tree.specs.declared.Accepted.{Accepted}
 use Rattle.tree.specs.Answers.{acceptance}
+use Rattle.tree.specs.Laws.Bools.{and-false, or-true}
 use Rattle.tree.specs.Laws.Records.{length-records, length-kinds, field-at}
 use Rattle.tree.specs.Laws.Walks.{walk-on, walk-stop, walk-end}
 
@@ -23,10 +24,6 @@ use Rattle.tree.specs.Laws.Walks.{walk-on, walk-stop, walk-end}
 -- Well formed, from the four bytes.
 unfoldable pub formed : ℕ → ℕ → ℕ → ℕ → Bool
 formed k a b c = (isAsync k || isFinish k || isEnd k) && eqb a 0 && eqb b 0 && eqb c 0
-
-and-false : (x : Bool) → x && false ≡ false
-and-false true = refl
-and-false false = refl
 
 pub formed-low : (k a b c : ℕ) → k < 1 → formed k a b c ≡ false
 unfolding formed isAsync isFinish isEnd
@@ -133,7 +130,7 @@ judged-kind d r e =
 pub record Walking (tree : List ℕ) (i depth : ℕ) : Type 0 where
   pub within : i ≤ length (kinds tree)
   pub deep : depth ≤ 64
-  pub same : walk judgeTreeRecord (λ d r. openAfter (kind r) d) i depth (drop i (treeRecords tree)) ≡ treeWalk tree
+  pub same : walk judgeTreeRecord nextOpen i depth (drop i (treeRecords tree)) ≡ treeWalk tree
 
 module _ (tree : List ℕ) where
   count : length (treeRecords tree) ≡ length (kinds tree)
@@ -149,10 +146,10 @@ module _ (tree : List ℕ) where
     r = getD (treeRecords tree) i []
 
     on : i < length (kinds tree) → judgeTreeRecord depth r ≡ 0
-        → walk judgeTreeRecord (λ d r. openAfter (kind r) d) (suc i) (openAfter (kind r) depth) (drop (suc i) (treeRecords tree)) ≡ treeWalk tree
-    unfolding r
+        → walk judgeTreeRecord nextOpen (suc i) (openAfter (kind r) depth) (drop (suc i) (treeRecords tree)) ≡ treeWalk tree
+    unfolding r nextOpen
     on h e =
-        sym (walk-on judgeTreeRecord (λ d r. openAfter (kind r) d) (treeRecords tree) [] i depth (rw count h) e) ∙ w .same
+        sym (walk-on judgeTreeRecord nextOpen (treeRecords tree) [] i depth (rw count h) e) ∙ w .same
 
     -- Past an end.
     pub walking-end : i < length (kinds tree) → judgeTreeRecord depth (getD (treeRecords tree) i []) ≡ 0
@@ -187,13 +184,13 @@ module _ (tree : List ℕ) where
         → treeWalk tree .verdict ≡ record { number = judgeTreeRecord depth (getD (treeRecords tree) i []); position = i }
     walking-stop h e =
         ap (λ (x : Walked ℕ). x .verdict)
-        (sym (w .same) ∙ walk-stop judgeTreeRecord (λ d r. openAfter (kind r) d) (treeRecords tree) [] i depth (rw count h) e)
+        (sym (w .same) ∙ walk-stop judgeTreeRecord nextOpen (treeRecords tree) [] i depth (rw count h) e)
 
     -- At the file's end.
     pub walking-done : length (kinds tree) ≤ i → (treeWalk tree .verdict .number ≡ 0) × (treeWalk tree .state ≡ depth)
     unfolding accepted
     walking-done h =
-        let done = sym (w .same) ∙ walk-end judgeTreeRecord (λ d r. openAfter (kind r) d) (treeRecords tree) [] i depth (rw count h) in
+        let done = sym (w .same) ∙ walk-end judgeTreeRecord nextOpen (treeRecords tree) [] i depth (rw count h) in
         (ap (λ (x : Walked ℕ). x .verdict .number) done, ap (λ (x : Walked ℕ). x .state) done)
 
 -- ---- the verdict
@@ -201,10 +198,6 @@ module _ (tree : List ℕ) where
 -- Refusal 2's condition.
 unfoldable pub misfit : List ℕ → Bool
 misfit tree = eqb (length tree) 0 || not (wholeRecords 8 mostSteps tree)
-
-or-true : (x : Bool) → x || true ≡ true
-or-true true = refl
-or-true false = refl
 
 module _ (tree : List ℕ) where
   pub misfit-part : (length tree % 8 ≡ 0 → ⊥) → misfit tree ≡ true

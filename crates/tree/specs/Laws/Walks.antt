@@ -1,14 +1,12 @@
 -- Laws of walks, over any kind of record and state: a walk goes on past an accepted record, stops at a refused one, and ends
 -- with the list. A loop over positions holds `walk .. i s (drop i rs)`.
-use Prim.Native.Nat.{ℕ, zero, suc, _+_, _<_, _≤_}
-use mathlib.Core.Path.{_≡_, refl, sym, ap, _∙_}
-use mathlib.Core.Bool.{Bool, true, false, cond}
-use mathlib.Core.List.{List, [], _∷_}
+use Prim.Native.Nat.{ℕ, suc, _<_, _≤_}
+use mathlib.Core.Path.{_≡_, refl}
+use mathlib.Core.List.{List}
 use lib.ListN.{length, drop, getD, drop-of-length-le}
 use lib.Seq.{drop-cons}
-use lib.Dec.{eqb}
 use borrow.Author.Tests.{eq-eqb, ne-eqb}
-use Rattle.rules.specs.Bytes.{Verdict, accepted, Walked, walk}
+use Rattle.rules.specs.Bytes.{accepted, walk}
 
 module _ {R S : Type 0} (judge : S → R → ℕ) (next : S → R → S) (rs : List R) (d : R) (i : ℕ) (s : S) where
   pub walk-on : i < length rs → judge s (getD rs i d) ≡ 0

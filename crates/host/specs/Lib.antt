@@ -1,0 +1,2 @@
+-- The C interface's answers, by the rules (to be believed).
+pub mod Answers

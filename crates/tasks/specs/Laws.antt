@@ -1,0 +1,11 @@
+-- What need not be believed: everything here is proved from the rules.
+--     Scans     the forward scan to a child's end and the backward scan to a task's opening, as loops make them
+--     Steps     the finish child before a step, and what running a step holds and pushes, case by case
+--     Shape     trees over any count, test for ends and sizes: induction, nesting, odd sizes
+--     Balance   lists of kinds that end their open tasks exactly at their end
+--     Frames    an accepted tree: its length, shape, count of spawned tasks and open tasks
+pub mod Scans
+pub mod Steps
+pub mod Shape
+pub mod Balance
+pub mod Frames

@@ -1,0 +1,5 @@
+-- The definitions on steps and tasks.
+--     Answers   what the functions answer, by the rules (to be believed)
+--     Laws      the laws of scans and of trees (proved)
+pub mod Answers
+pub mod Laws

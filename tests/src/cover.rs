@@ -1,0 +1,65 @@
+//! Phases, what they cover, and the loads.
+
+use crate::tree::Tree;
+
+/// There are sixteen workers.
+pub const WORKERS: usize = 16;
+
+/// One phase: whose it is, where it begins, what was stolen from it.
+#[derive(Clone, Debug, PartialEq, Eq)]
+pub struct Phase {
+    pub worker: usize,
+    pub first: usize,
+    /// The steps stolen from this phase, in order of the steals.
+    pub stolen: Vec<usize>,
+}
+
+impl Phase {
+    pub fn new(worker: usize, first: usize) -> Phase {
+        Phase { worker, first, stolen: Vec::new() }
+    }
+
+    /// For each step of the tree whether the phase covers it: its first step
+    /// up to the end of that step's task, less what was stolen.
+    // Reading: a steal takes away from the victim's phase what the thief's
+    // phase covers at its start, the stolen step up to the end of its task.
+    pub fn covers(&self, tree: &Tree) -> Vec<bool> {
+        let mut covered = vec![false; tree.count()];
+        for step in tree.to_end_of_task(self.first) {
+            covered[step] = true;
+        }
+        for &stolen in &self.stolen {
+            for step in tree.to_end_of_task(stolen) {
+                covered[step] = false;
+            }
+        }
+        covered
+    }
+}
+
+/// For each worker the sum of weights of all steps its phases cover.
+// Reading: in a live run too the covered steps count, also those that have
+// not run yet; so the loads always add up to the weight of the whole tree.
+pub fn loads(tree: &Tree, phases: &[Phase]) -> [u64; WORKERS] {
+    let mut loads = [0u64; WORKERS];
+    for phase in phases {
+        let covered = phase.covers(tree);
+        for step in 0..tree.count() {
+            if covered[step] {
+                loads[phase.worker] += u64::from(tree.weight(step));
+            }
+        }
+    }
+    loads
+}
+
+/// The worker with the greatest load, the lowest numbered among equals.
+pub fn heaviest(loads: &[u64; WORKERS]) -> usize {
+    let mut best = 0;
+    for worker in 1..WORKERS {
+        if loads[worker] > loads[best] {
+            best = worker;
+        }
+    }
+    best
+}

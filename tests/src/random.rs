@@ -1,0 +1,470 @@
+//! A small generator of numbers and, from it, trees, events and traces.
+
+use crate::cover::WORKERS;
+use crate::record::MAX_EVENTS;
+use crate::replay::{Replay, MAX_TRACE};
+use crate::run::{Policy, Run};
+use crate::tree::{Tree, MAX_OPEN, TREE_RECORD};
+
+/// splitmix64.
+#[derive(Clone, Debug)]
+pub struct Rng(u64);
+
+impl Rng {
+    pub fn new(seed: u64) -> Rng {
+        Rng(seed)
+    }
+
+    pub fn next(&mut self) -> u64 {
+        self.0 = self.0.wrapping_add(0x9E37_79B9_7F4A_7C15);
+        let mut z = self.0;
+        z = (z ^ (z >> 30)).wrapping_mul(0xBF58_476D_1CE4_E5B9);
+        z = (z ^ (z >> 27)).wrapping_mul(0x94D0_49BB_1331_11EB);
+        z ^ (z >> 31)
+    }
+
+    /// A number below `limit`, which is not 0.
+    pub fn below(&mut self, limit: usize) -> usize {
+        (self.next() % limit as u64) as usize
+    }
+
+    /// A number from `low` to `high`, both included.
+    pub fn between(&mut self, low: usize, high: usize) -> usize {
+        low + self.below(high - low + 1)
+    }
+
+    /// True in so many of a hundred cases.
+    pub fn percent(&mut self, chance: usize) -> bool {
+        self.below(100) < chance
+    }
+
+    /// One of the items.
+    pub fn pick<T: Copy>(&mut self, items: &[T]) -> T {
+        items[self.below(items.len())]
+    }
+}
+
+// ---- Trees ----
+
+#[derive(Clone, Copy, Debug, PartialEq, Eq)]
+pub enum Shape {
+    /// Each task has two children of about the same size.
+    Balanced,
+    /// All spawned tasks are children of the root.
+    Flat,
+    /// Long chains, down to 64 open tasks.
+    Deep,
+    /// Opens and ends in random order.
+    Random,
+}
+
+pub const SHAPES: [Shape; 4] = [Shape::Balanced, Shape::Flat, Shape::Deep, Shape::Random];
+
+/// How the weights are chosen.
+#[derive(Clone, Copy, Debug, PartialEq, Eq)]
+pub enum Weights {
+    One,
+    Zero,
+    Max,
+    Small,
+    Mixed,
+}
+
+/// One tree record.
+pub fn tree_record(kind: u8, weight: u32) -> [u8; TREE_RECORD] {
+    let w = weight.to_le_bytes();
+    [kind, 0, 0, 0, w[0], w[1], w[2], w[3]]
+}
+
+/// A tree file of these kinds, all weights 1.
+pub fn tree_of_kinds(kinds: &[u8]) -> Vec<u8> {
+    kinds.iter().flat_map(|&kind| tree_record(kind, 1)).collect()
+}
+
+fn weight(rng: &mut Rng, weights: Weights) -> u32 {
+    match weights {
+        Weights::One => 1,
+        Weights::Zero => 0,
+        Weights::Max => u32::MAX,
+        Weights::Small => rng.below(5) as u32,
+        Weights::Mixed => match rng.below(5) {
+            0 => 0,
+            1 => u32::MAX,
+            2 => rng.below(10) as u32,
+            _ => rng.next() as u32,
+        },
+    }
+}
+
+/// true opens a child, false ends the innermost task; the root's end is left
+/// out.
+fn balanced(tasks: usize, out: &mut Vec<bool>) {
+    if tasks == 0 {
+        return;
+    }
+    let left = (tasks + 1) / 2;
+    for part in [left, tasks - left] {
+        if part > 0 {
+            out.push(true);
+            balanced(part - 1, out);
+            out.push(false);
+        }
+    }
+}
+
+fn flat(tasks: usize) -> Vec<bool> {
+    let mut out = Vec::new();
+    for _ in 0..tasks {
+        out.push(true);
+        out.push(false);
+    }
+    out
+}
+
+fn deep(rng: &mut Rng, mut tasks: usize) -> Vec<bool> {
+    let mut out = Vec::new();
+    let mut open = 1;
+    while tasks > 0 {
+        // Down to a deep place, often the deepest, then some way up.
+        let bottom = if rng.percent(60) { MAX_OPEN } else { rng.between(2, MAX_OPEN) };
+        while open < bottom && tasks > 0 {
+            out.push(true);
+            open += 1;
+            tasks -= 1;
+        }
+        let top = if rng.percent(30) { 1 } else { rng.between(1, open) };
+        while open > top {
+            out.push(false);
+            open -= 1;
+        }
+    }
+    while open > 1 {
+        out.push(false);
+        open -= 1;
+    }
+    out
+}
+
+fn wild(rng: &mut Rng, mut tasks: usize) -> Vec<bool> {
+    let mut out = Vec::new();
+    let mut open = 1;
+    let chance = rng.between(30, 70);
+    while tasks > 0 || open > 1 {
+        let may_open = tasks > 0 && open < MAX_OPEN;
+        if open == 1 || (may_open && rng.percent(chance)) {
+            out.push(true);
+            open += 1;
+            tasks -= 1;
+        } else {
+            out.push(false);
+            open -= 1;
+        }
+    }
+    out
+}
+
+/// An accepted tree with so many spawned tasks, 0 to 2,047, hence with
+/// 2 * tasks + 1 records. `finish` of a hundred children are finish children.
+pub fn tree_with(
+    rng: &mut Rng,
+    shape: Shape,
+    tasks: usize,
+    finish: usize,
+    weights: Weights,
+) -> Vec<u8> {
+    let mut opens = match shape {
+        Shape::Balanced => {
+            let mut out = Vec::new();
+            balanced(tasks, &mut out);
+            out
+        }
+        Shape::Flat => flat(tasks),
+        Shape::Deep => deep(rng, tasks),
+        Shape::Random => wild(rng, tasks),
+    };
+    opens.push(false);
+    let mut bytes = Vec::new();
+    for open in opens {
+        let kind = if !open {
+            3
+        } else if rng.percent(finish) {
+            2
+        } else {
+            1
+        };
+        let weight = weight(rng, weights);
+        bytes.extend_from_slice(&tree_record(kind, weight));
+    }
+    bytes
+}
+
+/// An accepted tree of any shape with so many spawned tasks.
+pub fn tree(rng: &mut Rng, tasks: usize) -> Vec<u8> {
+    let shape = rng.pick(&SHAPES);
+    let finish = rng.pick(&[0, 20, 50, 80, 100]);
+    let weights = rng.pick(&[
+        Weights::One,
+        Weights::Zero,
+        Weights::Max,
+        Weights::Small,
+        Weights::Mixed,
+        Weights::Mixed,
+    ]);
+    tree_with(rng, shape, tasks, finish, weights)
+}
+
+/// A tree file with one to three damages. It may still be accepted.
+pub fn damaged_tree(rng: &mut Rng, tasks: usize) -> Vec<u8> {
+    let mut bytes = tree(rng, tasks);
+    for _ in 0..rng.between(1, 3) {
+        damage(rng, &mut bytes);
+    }
+    bytes
+}
+
+fn damage(rng: &mut Rng, bytes: &mut Vec<u8>) {
+    let records = bytes.len() / TREE_RECORD;
+    // The start of a random record, also just behind the last one.
+    let any = TREE_RECORD * rng.between(0, records);
+    match rng.below(12) {
+        // Flip bits of one byte.
+        0 => {
+            if !bytes.is_empty() {
+                let at = rng.below(bytes.len());
+                bytes[at] ^= rng.between(1, 255) as u8;
+            }
+        }
+        // Cut at any byte.
+        1 => {
+            let keep = rng.between(0, bytes.len());
+            bytes.truncate(keep);
+        }
+        // Cut whole records.
+        2 => bytes.truncate(any),
+        // Append stray bytes.
+        3 => {
+            for _ in 0..rng.between(1, 20) {
+                bytes.push(rng.next() as u8);
+            }
+        }
+        // Append whole records.
+        4 => {
+            for _ in 0..rng.between(1, 4) {
+                let kind = rng.pick(&[1, 2, 3, 3, 0, 4, 255]);
+                bytes.extend_from_slice(&tree_record(kind, rng.next() as u32));
+            }
+        }
+        // A wrong or another kind.
+        5 => {
+            if any < bytes.len() {
+                bytes[any] = rng.pick(&[0, 1, 2, 3, 4, 5, 128, 255]);
+            }
+        }
+        // A non-zero byte 1 to 3.
+        6 => {
+            let at = any + rng.between(1, 3);
+            if at < bytes.len() {
+                bytes[at] = rng.between(1, 255) as u8;
+            }
+        }
+        // An extra end.
+        7 => {
+            let extra = tree_record(3, 7);
+            bytes.splice(any..any, extra);
+        }
+        // A missing record.
+        8 => {
+            if any + TREE_RECORD <= bytes.len() {
+                bytes.drain(any..any + TREE_RECORD);
+            }
+        }
+        // A chain of 60 to 70 opened tasks, ended or not.
+        9 => {
+            let depth = rng.between(60, 70);
+            let ended = rng.percent(50);
+            let mut chain = Vec::new();
+            for _ in 0..depth {
+                chain.extend_from_slice(&tree_record(rng.pick(&[1, 2]), 1));
+            }
+            if ended {
+                for _ in 0..depth {
+                    chain.extend_from_slice(&tree_record(3, 1));
+                }
+            }
+            bytes.splice(any..any, chain);
+        }
+        // A second tree behind it.
+        10 => {
+            let more = tree_record(3, 1);
+            bytes.extend_from_slice(&more);
+        }
+        // Around the longest length, or nothing at all.
+        _ => {
+            if rng.percent(50) {
+                let length = TREE_RECORD * rng.between(4_093, 4_098);
+                while bytes.len() < length {
+                    bytes.push(0);
+                }
+            } else {
+                bytes.clear();
+            }
+        }
+    }
+}
+
+// ---- Events ----
+
+/// An event that was tried and the number it was refused with, 0 if none.
+#[derive(Clone, Copy, Debug, PartialEq, Eq)]
+pub struct Tried {
+    pub event: [u8; 2],
+    pub refused: u32,
+}
+
+/// How a random schedule is made.
+#[derive(Clone, Copy, Debug)]
+pub struct Plan {
+    /// Workers 0 to workers - 1 take part.
+    pub workers: usize,
+    /// So many events at most.
+    pub events: usize,
+    /// So many of a hundred events are taken at random, good or bad.
+    pub bad: usize,
+    /// In so many of a hundred cases a steal is tried first.
+    pub steals: usize,
+}
+
+impl Plan {
+    pub fn any(rng: &mut Rng) -> Plan {
+        Plan {
+            workers: rng.between(1, WORKERS),
+            events: MAX_EVENTS,
+            bad: 0,
+            steals: rng.pick(&[5, 30, 60, 95]),
+        }
+    }
+}
+
+/// Any event, mostly of the workers that take part.
+fn any_event(rng: &mut Rng, workers: usize) -> [u8; 2] {
+    let one = |rng: &mut Rng| match rng.below(20) {
+        0 => rng.next() as u8,
+        1 => rng.between(14, 18) as u8,
+        _ => rng.below(workers) as u8,
+    };
+    let first = one(rng);
+    if rng.percent(40) {
+        [first, first]
+    } else {
+        [first, one(rng)]
+    }
+}
+
+/// An event that is accepted now, if one is found.
+fn good_event(rng: &mut Rng, run: &Run, plan: &Plan) -> Option<[u8; 2]> {
+    let idle: Vec<usize> = (0..plan.workers).filter(|&w| run.is_idle(w)).collect();
+    let victims: Vec<usize> =
+        (0..plan.workers).filter(|&w| !run.workers[w].deque.is_empty()).collect();
+    if !idle.is_empty() && !victims.is_empty() && rng.percent(plan.steals) {
+        return Some([rng.pick(&idle) as u8, rng.pick(&victims) as u8]);
+    }
+    // The first worker from a random place on that can run its step.
+    let from = rng.below(plan.workers);
+    for k in 0..plan.workers {
+        let worker = ((from + k) % plan.workers) as u8;
+        if run.judge(worker, worker) == 0 {
+            return Some([worker, worker]);
+        }
+    }
+    None
+}
+
+/// Drives the run by random events until it is finished or the plan's count
+/// of events is reached. Hands back all tried events in order.
+pub fn drive(rng: &mut Rng, run: &mut Run, plan: &Plan) -> Vec<Tried> {
+    let mut tried = Vec::new();
+    while tried.len() < plan.events && run.log.len() < run.tree.count() {
+        let event = if rng.percent(plan.bad) {
+            any_event(rng, plan.workers)
+        } else {
+            match good_event(rng, run, plan) {
+                Some(event) => event,
+                None => any_event(rng, plan.workers),
+            }
+        };
+        let refused = match run.event(event[0], event[1]) {
+            Ok(()) => 0,
+            Err(refusal) => refusal.number,
+        };
+        tried.push(Tried { event, refused });
+    }
+    tried
+}
+
+/// The bytes of all tried events.
+pub fn event_bytes(tried: &[Tried]) -> Vec<u8> {
+    tried.iter().flat_map(|t| t.event).collect()
+}
+
+/// The bytes of the accepted events only.
+pub fn accepted_bytes(tried: &[Tried]) -> Vec<u8> {
+    tried.iter().filter(|t| t.refused == 0).flat_map(|t| t.event).collect()
+}
+
+/// A whole event list for this tree: mostly acceptable events, some bad.
+pub fn events(rng: &mut Rng, policy: Policy, tree: &Tree, plan: &Plan) -> Vec<u8> {
+    let mut run = Run::new(policy, tree.clone());
+    event_bytes(&drive(rng, &mut run, plan))
+}
+
+// ---- Traces ----
+
+/// The bytes of one trace record.
+pub fn trace_record(thief: u8, victim: u8, number: u16) -> [u8; 4] {
+    let number = number.to_le_bytes();
+    [thief, victim, number[0], number[1]]
+}
+
+/// A trace of up to `most` records. Each is chosen to be accepted where a few
+/// tries find such a record, and `bad` of a hundred are any record. With
+/// `bad` = 0 the whole trace is accepted.
+pub fn trace(rng: &mut Rng, policy: Policy, tree: &Tree, most: usize, bad: usize) -> Vec<u8> {
+    let mut replay = Replay::new(policy, tree.clone());
+    let mut bytes = Vec::new();
+    let workers = rng.between(2, WORKERS);
+    for _ in 0..most.min(MAX_TRACE) {
+        if rng.percent(bad) {
+            let [thief, victim] = any_event(rng, workers);
+            let number = match rng.below(4) {
+                0 => rng.next() as u16,
+                1 => rng.below(4) as u16,
+                _ => rng.between(0, tree.count() + 1) as u16,
+            };
+            // Accepted or not, the record goes into the trace.
+            let _ = replay.steal(thief, victim, number);
+            bytes.extend_from_slice(&trace_record(thief, victim, number));
+            continue;
+        }
+        for _ in 0..12 {
+            let victims: Vec<usize> =
+                (0..workers).filter(|&w| replay.latest[w].is_some()).collect();
+            let victim = rng.pick(&victims);
+            let thief = (victim + rng.between(1, workers - 1)) % workers;
+            let phase = replay.latest[victim].expect("the victim has had a phase");
+            let number = match policy {
+                Policy::WorkFirst => rng.between(0, tree.child_count(replay.frontier(phase))),
+                Policy::HelpFirst => {
+                    // A step of the phase's stretch, or a near one after it.
+                    let first = replay.phases[phase].first;
+                    let end = tree.end_of(tree.task_of(first));
+                    rng.between(first, end)
+                }
+            } as u16;
+            if replay.steal(thief as u8, victim as u8, number).is_ok() {
+                bytes.extend_from_slice(&trace_record(thief as u8, victim as u8, number));
+                break;
+            }
+        }
+    }
+    bytes
+}

@@ -1,0 +1,262 @@
+//! The examples of document 01.
+
+use frame_tests::random::tree_of_kinds;
+use frame_tests::record::{record, record_to_vecs, RecordAnswer};
+use frame_tests::replay::{replay, replay_to_vecs, ReplayAnswer};
+use frame_tests::run::Run;
+use frame_tests::tree::{Kind, TaskKind, Tree};
+
+/// Tree S.
+fn s() -> Vec<u8> {
+    tree_of_kinds(&[1, 3, 2, 1, 3, 3, 3])
+}
+
+const P1_EVENTS: [u8; 20] = [
+    0, 0, 1, 0, 1, 1, 2, 1, 1, 1, 0, 0, 0, 1, 0, 0, 1, 1, 2, 2,
+];
+const P1_TRACE: [u8; 12] = [1, 0, 1, 0, 2, 1, 2, 0, 0, 1, 1, 0];
+
+fn refused_record(number: u32, position: usize) -> RecordAnswer {
+    RecordAnswer { number, position, ..RecordAnswer::default() }
+}
+
+fn refused_replay(number: u32, position: usize) -> ReplayAnswer {
+    ReplayAnswer { number, position, ..ReplayAnswer::default() }
+}
+
+#[test]
+fn bytes_of_tree_s() {
+    let mut bytes = Vec::new();
+    for kind in [1u8, 3, 2, 1, 3, 3, 3] {
+        bytes.extend_from_slice(&[kind, 0, 0, 0, 1, 0, 0, 0]);
+    }
+    assert_eq!(s(), bytes);
+}
+
+#[test]
+fn tasks_of_tree_s() {
+    let tree = Tree::parse(&s()).unwrap();
+    assert_eq!(tree.count(), 7);
+    assert_eq!(tree.tasks().len(), 4);
+    assert_eq!((0..7).map(|i| tree.task_of(i)).collect::<Vec<_>>(), [0, 1, 0, 2, 3, 2, 0]);
+    assert_eq!((0..7).map(|i| tree.ordinal(i)).collect::<Vec<_>>(), [0, 0, 1, 0, 0, 1, 2]);
+    assert_eq!((0..4).map(|t| tree.child_count(t)).collect::<Vec<_>>(), [2, 0, 1, 0]);
+    assert_eq!((0..4).map(|t| tree.end_of(t)).collect::<Vec<_>>(), [6, 1, 5, 4]);
+    assert_eq!(tree.step_after(1), 2);
+    assert_eq!(tree.step_after(2), 6);
+    assert_eq!(tree.step_after(3), 5);
+    assert_eq!(tree.kind(0), Kind::OpenAsync);
+    assert_eq!(tree.kind(2), Kind::OpenFinish);
+    assert_eq!(tree.kind(6), Kind::End);
+    assert_eq!(tree.tasks()[0].kind, TaskKind::Root);
+    assert_eq!(tree.tasks()[2].kind, TaskKind::Finish);
+    assert_eq!(tree.tasks()[3].parent, Some(2));
+    assert_eq!(tree.child_ended_before(2), Some(1));
+    assert_eq!(
+        (0..7).map(|i| tree.finish_child_before(i)).collect::<Vec<_>>(),
+        [None, None, None, None, None, None, Some(2)]
+    );
+    assert_eq!(tree.steps_with_descendants(0), [0, 1, 2, 3, 4, 5, 6]);
+    assert_eq!(tree.steps_with_descendants(2), [3, 4, 5]);
+    assert_eq!(tree.steps_with_descendants(3), [4]);
+    assert_eq!(tree.total_weight(), 7);
+}
+
+#[test]
+fn weights_are_little_endian() {
+    let bytes = [3, 0, 0, 0, 0x01, 0x02, 0x03, 0x84];
+    assert_eq!(Tree::parse(&bytes).unwrap().weight(0), 0x8403_0201);
+}
+
+#[test]
+fn p1_record() {
+    let mut log = [0xEE; 30];
+    let mut trace = [0xEE; 14];
+    let answer = record(1, &s(), &P1_EVENTS, &mut log, &mut trace);
+    let mut loads = [0; 16];
+    loads[0] = 3; // steps 0 and 1 in phase 0, step 5 in phase 3
+    loads[1] = 3; // steps 2, 3 and 4 in phase 1
+    loads[2] = 1; // step 6 in phase 2
+    assert_eq!(
+        answer,
+        RecordAnswer {
+            number: 0,
+            position: 0,
+            log_count: 7,
+            trace_count: 3,
+            finished: true,
+            loads,
+            heaviest: 0,
+        }
+    );
+    assert_eq!(trace[..12], P1_TRACE);
+    assert_eq!(trace[12..], [0xEE; 2]);
+    #[rustfmt::skip]
+    assert_eq!(log[..28], [
+        0, 0, 0, 0,
+        1, 0, 2, 0,
+        1, 0, 3, 0,
+        0, 0, 1, 0,
+        3, 0, 5, 0,
+        1, 0, 4, 0,
+        2, 0, 6, 0,
+    ]);
+    assert_eq!(log[28..], [0xEE; 2]);
+}
+
+#[test]
+fn p1_replay() {
+    let mut list = [0xEE; 31];
+    let answer = replay(1, &s(), &P1_TRACE, &mut list);
+    let mut loads = [0; 16];
+    loads[0] = 3;
+    loads[1] = 3;
+    loads[2] = 1;
+    assert_eq!(answer, ReplayAnswer { number: 0, position: 0, phases: 4, loads, heaviest: 0 });
+    #[rustfmt::skip]
+    assert_eq!(list[..28], [
+        0, 0, 0, 0,
+        0, 0, 1, 0,
+        1, 0, 2, 0,
+        1, 0, 3, 0,
+        1, 0, 4, 0,
+        2, 0, 6, 0,
+        3, 0, 5, 0,
+    ]);
+    assert_eq!(list[28..], [0xEE; 3]);
+}
+
+#[test]
+fn p1_events_one_by_one() {
+    let mut run = Run::start(1, &s()).unwrap();
+    // After each event: idle set, how many, lowest, finished.
+    let wanted = [
+        (0xFFFE, 15, 1, false),
+        (0xFFFC, 14, 2, false),
+        (0xFFFC, 14, 2, false),
+        (0xFFF8, 13, 3, false),
+        (0xFFF8, 13, 3, false),
+        (0xFFF9, 14, 0, false),
+        (0xFFF8, 13, 3, false),
+        (0xFFF9, 14, 0, false),
+        (0xFFFB, 15, 0, false),
+        (0xFFFF, 16, 0, true),
+    ];
+    for (event, wanted) in P1_EVENTS.chunks(2).zip(wanted) {
+        assert_eq!(run.event(event[0], event[1]), Ok(()));
+        let seen = (run.idle_set(), run.idle_count(), run.lowest_idle(), run.finished());
+        assert_eq!(seen, wanted, "event {:?}", event);
+    }
+}
+
+#[test]
+fn p2() {
+    let mut events = P1_EVENTS[..14].to_vec();
+    events.extend_from_slice(&[1, 1, 2, 2]);
+    let mut log = [0x55; 28];
+    let mut trace = [0x55; 12];
+    assert_eq!(record(1, &s(), &events, &mut log, &mut trace), refused_record(10, 8));
+    assert_eq!(log, [0x55; 28]);
+    assert_eq!(trace, [0x55; 12]);
+}
+
+#[test]
+fn p3() {
+    let (answer, phases) = replay_to_vecs(2, &s(), &[]);
+    assert_eq!((answer.number, answer.position, answer.phases), (0, 0, 1));
+    assert_eq!(phases, [vec![0, 2, 3, 5, 4, 6, 1]]);
+    assert_eq!(answer.loads[0], 7);
+    assert_eq!(answer.heaviest, 0);
+}
+
+#[test]
+fn p4() {
+    let (answer, phases) = replay_to_vecs(2, &s(), &[1, 0, 1, 0, 2, 0, 6, 0]);
+    assert_eq!((answer.number, answer.position, answer.phases), (0, 0, 3));
+    assert_eq!(phases, [vec![0, 2, 3, 5, 4], vec![1], vec![6]]);
+    assert_eq!(answer.loads[..4], [5, 1, 1, 0]);
+}
+
+#[test]
+fn p5() {
+    let (answer, log, trace) = record_to_vecs(1, &[3, 0, 0, 0, 9, 0, 0, 0], &[0, 0]);
+    assert_eq!((answer.number, answer.finished), (0, true));
+    assert_eq!((answer.log_count, answer.trace_count), (1, 0));
+    assert_eq!(log, [0, 0, 0, 0]);
+    assert!(trace.is_empty());
+    assert_eq!(answer.loads[0], 9);
+    // A trace buffer of no bytes is long enough here.
+    let mut log = [7; 4];
+    let answer = record(2, &tree_of_kinds(&[3]), &[0, 0], &mut log, &mut []);
+    assert_eq!((answer.number, answer.finished), (0, true));
+    assert_eq!(log, [0; 4]);
+}
+
+#[test]
+fn p6() {
+    for policy in [1, 2] {
+        let (answer, _, _) = record_to_vecs(policy, &tree_of_kinds(&[3]), &[0, 0, 0, 0]);
+        assert_eq!(answer, refused_record(9, 1));
+    }
+}
+
+#[test]
+fn p7() {
+    for policy in [1, 2] {
+        let run = Run::start(policy, &s()).unwrap();
+        assert!(!run.finished());
+        assert_eq!((run.idle_set(), run.idle_count(), run.lowest_idle()), (65_534, 15, 1));
+        let (answer, log, trace) = record_to_vecs(policy, &s(), &[]);
+        assert_eq!((answer.number, answer.finished), (0, false));
+        assert!(log.is_empty() && trace.is_empty());
+        // Phase 0 covers all steps though none has run.
+        assert_eq!(answer.loads[0], 7);
+    }
+}
+
+#[test]
+fn p8() {
+    let trace = [1, 0, 1, 0, 2, 1, 1, 0];
+    let mut list = [0x55; 28];
+    assert_eq!(replay(1, &s(), &trace, &mut list), refused_replay(15, 1));
+    assert_eq!(list, [0x55; 28]);
+}
+
+#[test]
+fn p9() {
+    let (answer, _) = replay_to_vecs(2, &s(), &[1, 0, 3, 0]);
+    assert_eq!(answer, refused_replay(15, 0));
+}
+
+#[test]
+fn p10_p11() {
+    for policy in [1, 2] {
+        assert_eq!(record_to_vecs(policy, &s(), &[1, 0]).0, refused_record(12, 0));
+        assert_eq!(record_to_vecs(policy, &s(), &[0x10, 0]).0, refused_record(8, 0));
+    }
+}
+
+#[test]
+fn p12() {
+    for policy in [1, 2] {
+        let (answer, _) = replay_to_vecs(policy, &s(), &[0, 1, 1, 0]);
+        assert_eq!(answer, refused_replay(14, 0));
+    }
+}
+
+#[test]
+fn lowest_is_16_when_none_is_idle() {
+    // A chain of 16 spawned tasks under work-first: worker 0 goes down, the
+    // others steal the sixteen pushed steps from the oldest on.
+    let mut kinds = vec![1; 16];
+    kinds.extend(vec![3; 17]);
+    let mut run = Run::start(1, &tree_of_kinds(&kinds)).unwrap();
+    for _ in 0..16 {
+        run.event(0, 0).unwrap();
+    }
+    for thief in 1..16 {
+        assert_eq!(run.lowest_idle(), usize::from(thief));
+        run.event(thief, 0).unwrap();
+    }
+    assert_eq!((run.idle_set(), run.idle_count(), run.lowest_idle()), (0, 0, 16));
+}

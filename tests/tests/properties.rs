@@ -1,0 +1,565 @@
+//! Properties over random and over all small trees and schedules.
+
+use std::collections::HashSet;
+
+use frame_tests::cover::{loads, Phase};
+use frame_tests::random::{self, Plan, Rng, Shape, Weights, SHAPES};
+use frame_tests::record::{record, record_to_vecs, MAX_EVENTS};
+use frame_tests::replay::{replay_to_vecs, Replay};
+use frame_tests::run::{Policy, Run};
+use frame_tests::tree::{Kind, Tree};
+
+/// Names the seed if the test fails while this lives.
+struct Seed(u64);
+
+impl Drop for Seed {
+    fn drop(&mut self) {
+        if std::thread::panicking() {
+            eprintln!("failed with seed {}", self.0);
+        }
+    }
+}
+
+/// Runs the check for many seeds.
+fn for_seeds(seeds: std::ops::Range<u64>, mut check: impl FnMut(u64)) {
+    for seed in seeds {
+        let _named = Seed(seed);
+        check(seed);
+    }
+}
+
+fn policy_of(byte: u8) -> Policy {
+    Policy::parse(byte).unwrap()
+}
+
+/// The live run of these accepted events against the replay of its trace.
+fn same_phases(policy: u8, tree: &[u8], run: &Run, events: &[u8]) {
+    let n = run.tree.count();
+    let total = run.tree.total_weight();
+    let (recorded, log, trace) = record_to_vecs(policy, tree, events);
+    assert_eq!((recorded.number, recorded.position), (0, 0));
+    assert_eq!(recorded.log_count, run.log.len());
+    assert_eq!(recorded.trace_count, run.trace.len());
+    assert_eq!(recorded.finished, run.log.len() == n);
+    assert_eq!(recorded.finished, run.finished());
+    assert_eq!(recorded.loads.iter().sum::<u64>(), total);
+
+    let (replayed, phases) = replay_to_vecs(policy, tree, &trace);
+    assert_eq!((replayed.number, replayed.position), (0, 0));
+    // As many phases, the same worker and first step.
+    assert_eq!(replayed.phases, recorded.trace_count + 1);
+    assert_eq!(replayed.phases, run.phases.len());
+    for (k, phase) in run.phases.iter().enumerate() {
+        let worker = if k == 0 { 0 } else { usize::from(trace[4 * (k - 1)]) };
+        assert_eq!(phase.worker, worker);
+        assert_eq!(phases[k][0], phase.first);
+    }
+    // What each phase ran live leads its replayed steps.
+    let mut live = vec![Vec::new(); replayed.phases];
+    for r in log.chunks(4) {
+        let phase = usize::from(u16::from_le_bytes([r[0], r[1]]));
+        live[phase].push(usize::from(u16::from_le_bytes([r[2], r[3]])));
+    }
+    for k in 0..replayed.phases {
+        assert!(phases[k].starts_with(&live[k]), "phase {}", k);
+        if recorded.finished {
+            assert_eq!(phases[k], live[k], "phase {}", k);
+        }
+    }
+    // The run list holds every step exactly once.
+    let mut all: Vec<usize> = phases.concat();
+    all.sort_unstable();
+    assert_eq!(all, (0..n).collect::<Vec<_>>());
+    // The same loads, and they are those of the replayed steps.
+    assert_eq!(recorded.loads, replayed.loads);
+    assert_eq!(recorded.heaviest, replayed.heaviest);
+    let mut sums = [0u64; 16];
+    for (k, steps) in phases.iter().enumerate() {
+        for &step in steps {
+            sums[run.phases[k].worker] += u64::from(run.tree.weight(step));
+        }
+    }
+    assert_eq!(recorded.loads, sums);
+    let most = *sums.iter().max().unwrap();
+    assert_eq!(recorded.heaviest, sums.iter().position(|&sum| sum == most).unwrap());
+}
+
+/// Facts about a state that only accepted events led to.
+fn sound_state(run: &Run) {
+    let mut can_go_on = false;
+    for worker in 0..16 {
+        let me = &run.workers[worker];
+        assert_eq!(run.is_idle(worker), run.idle_set() >> worker & 1 == 1);
+        if run.is_idle(worker) {
+            assert!(me.deque.is_empty());
+        } else if run.waits(worker) {
+            // Only a thief waits, at the first step of its phase.
+            assert!(me.deque.is_empty());
+            assert_eq!(me.held, Some(run.phases[me.phase.unwrap()].first));
+        } else {
+            can_go_on = true;
+        }
+    }
+    assert_eq!(run.idle_count(), run.idle_set().count_ones() as usize);
+    assert_eq!(run.lowest_idle(), run.idle_set().trailing_zeros() as usize);
+    // Somebody can run until all is done; then all are idle.
+    assert_eq!(can_go_on, !run.finished());
+    assert_eq!(run.finished(), run.idle_set() == 0xFFFF);
+}
+
+fn random_schedule(seed: u64, most_tasks: usize) {
+    let mut rng = Rng::new(seed);
+    let tasks = rng.between(0, most_tasks);
+    let tree = random::tree(&mut rng, tasks);
+    for policy in [1, 2] {
+        let mut plan = Plan::any(&mut rng);
+        plan.bad = rng.pick(&[0, 0, 10, 40]);
+        if rng.percent(40) {
+            plan.events = rng.between(0, 3 * tasks + 2);
+        }
+        let mut run = Run::start(policy, &tree).unwrap();
+        let tried = random::drive(&mut rng, &mut run, &plan);
+        sound_state(&run);
+        if plan.events == MAX_EVENTS && plan.bad == 0 {
+            assert!(run.finished());
+        }
+        same_phases(policy, &tree, &run, &random::accepted_bytes(&tried));
+
+        // All tried events in one call: refused at the first bad one.
+        let (answer, _, _) = record_to_vecs(policy, &tree, &random::event_bytes(&tried));
+        match tried.iter().position(|t| t.refused != 0) {
+            None => assert_eq!(answer.number, 0),
+            Some(at) => assert_eq!((answer.number, answer.position), (tried[at].refused, at)),
+        }
+    }
+}
+
+#[test]
+fn random_small_schedules() {
+    for_seeds(0..4_000, |seed| random_schedule(seed, 12));
+}
+
+#[test]
+fn random_middle_schedules() {
+    for_seeds(10_000..10_400, |seed| random_schedule(seed, 150));
+}
+
+#[test]
+fn random_large_schedules() {
+    for_seeds(20_000..20_016, |seed| random_schedule(seed, 2_047));
+}
+
+/// Full trees of every shape, with as many steals as can be had.
+#[test]
+fn longest_trees() {
+    for_seeds(30_000..30_001, |seed| {
+        let mut rng = Rng::new(seed);
+        for shape in SHAPES {
+            for finish in [0, 50, 100] {
+                let tree = random::tree_with(&mut rng, shape, 2_047, finish, Weights::Mixed);
+                assert_eq!(tree.len(), 32_760);
+                for policy in [1, 2] {
+                    let plan = Plan { workers: 16, events: MAX_EVENTS, bad: 0, steals: 100 };
+                    let mut run = Run::start(policy, &tree).unwrap();
+                    let tried = random::drive(&mut rng, &mut run, &plan);
+                    assert!(run.finished());
+                    same_phases(policy, &tree, &run, &random::accepted_bytes(&tried));
+                }
+            }
+        }
+    });
+}
+
+/// Each tried event is refused live exactly as recording refuses the
+/// accepted events before it followed by this one.
+#[test]
+fn single_events_against_record() {
+    for_seeds(40_000..40_200, |seed| {
+        let mut rng = Rng::new(seed);
+        let tasks = rng.between(0, 10);
+        let tree = random::tree(&mut rng, tasks);
+        for policy in [1, 2] {
+            let plan =
+                Plan { workers: rng.between(1, 5), events: 60, bad: 50, steals: 50 };
+            let mut run = Run::start(policy, &tree).unwrap();
+            let tried = random::drive(&mut rng, &mut run, &plan);
+            let mut before: Vec<u8> = Vec::new();
+            for t in tried {
+                let position = before.len() / 2;
+                before.extend_from_slice(&t.event);
+                let (answer, _, _) = record_to_vecs(policy, &tree, &before);
+                assert_eq!(answer.number, t.refused);
+                if t.refused != 0 {
+                    assert_eq!(answer.position, position);
+                    before.truncate(2 * position);
+                }
+            }
+        }
+    });
+}
+
+/// Bytes behind the written records keep what they held.
+#[test]
+fn bytes_behind_the_records() {
+    for_seeds(50_000..50_300, |seed| {
+        let mut rng = Rng::new(seed);
+        let tasks = rng.between(0, 20);
+        let tree = random::tree(&mut rng, tasks);
+        let n = 2 * tasks + 1;
+        for policy in [1, 2] {
+            let plan = Plan {
+                workers: 4,
+                events: rng.between(0, 3 * n),
+                bad: rng.pick(&[0, 2]),
+                steals: 50,
+            };
+            let parsed = Tree::parse(&tree).unwrap();
+            let events = random::events(&mut rng, policy_of(policy), &parsed, &plan);
+            let mut log = vec![0xC3; 4 * n + rng.below(9)];
+            let mut trace = vec![0xC3; 4 * tasks + rng.below(9)];
+            let answer = record(policy, &tree, &events, &mut log, &mut trace);
+            assert!(log[4 * answer.log_count..].iter().all(|&b| b == 0xC3));
+            assert!(trace[4 * answer.trace_count..].iter().all(|&b| b == 0xC3));
+            let (same, written_log, written_trace) = record_to_vecs(policy, &tree, &events);
+            assert_eq!(answer, same);
+            assert_eq!(log[..4 * answer.log_count], written_log);
+            assert_eq!(trace[..4 * answer.trace_count], written_trace);
+        }
+    });
+}
+
+/// An accepted trace, one that a schedule could give or not: every step
+/// stands once in the run list, and each phase runs what it covers.
+fn check_trace(policy: u8, tree: &[u8], trace: &[u8]) -> u32 {
+    let (answer, phases) = replay_to_vecs(policy, tree, trace);
+    if answer.number != 0 {
+        assert!(answer.position < trace.len() / 4);
+        return answer.number;
+    }
+    let parsed = Tree::parse(tree).unwrap();
+    assert_eq!(answer.phases, trace.len() / 4 + 1);
+    let mut all = phases.concat();
+    all.sort_unstable();
+    assert_eq!(all, (0..parsed.count()).collect::<Vec<_>>());
+    assert_eq!(answer.loads.iter().sum::<u64>(), parsed.total_weight());
+
+    let mut replay = Replay::new(policy_of(policy), parsed);
+    for r in trace.chunks(4) {
+        replay.steal(r[0], r[1], u16::from_le_bytes([r[2], r[3]])).unwrap();
+    }
+    for (k, phase) in replay.phases.iter().enumerate() {
+        let mut steps = phases[k].clone();
+        steps.sort_unstable();
+        let covered = phase.covers(&replay.tree);
+        let covered: Vec<usize> = (0..covered.len()).filter(|&s| covered[s]).collect();
+        assert_eq!(steps, covered);
+        assert_eq!(phases[k][0], phase.first);
+    }
+    0
+}
+
+#[test]
+fn random_traces() {
+    let mut seen = HashSet::new();
+    for_seeds(60_000..62_000, |seed| {
+        let mut rng = Rng::new(seed);
+        let tasks = rng.between(0, 30);
+        let tree = random::tree(&mut rng, tasks);
+        let parsed = Tree::parse(&tree).unwrap();
+        for policy in [1, 2] {
+            let bad = rng.pick(&[0, 0, 3, 50]);
+            let trace = random::trace(&mut rng, policy_of(policy), &parsed, tasks + 3, bad);
+            let number = check_trace(policy, &tree, &trace);
+            assert!(bad != 0 || number == 0);
+            seen.insert((policy, number));
+        }
+    });
+    for policy in [1, 2] {
+        for number in [0, 8, 13, 14, 15] {
+            assert!(seen.contains(&(policy, number)), "{} {}", policy, number);
+        }
+    }
+}
+
+#[test]
+fn random_large_traces() {
+    for_seeds(70_000..70_006, |seed| {
+        let mut rng = Rng::new(seed);
+        let tree = random::tree(&mut rng, 2_047);
+        let parsed = Tree::parse(&tree).unwrap();
+        for policy in [1, 2] {
+            let trace = random::trace(&mut rng, policy_of(policy), &parsed, 2_047, 0);
+            assert_eq!(check_trace(policy, &tree, &trace), 0);
+        }
+    });
+}
+
+/// The most steals: a flat tree, each phase taking all but one child.
+#[test]
+fn most_steals() {
+    let mut rng = Rng::new(1);
+    let tree = random::tree_with(&mut rng, Shape::Flat, 2_047, 0, Weights::Max);
+    let mut trace = Vec::new();
+    for k in 1..=2_047u16 {
+        let victim = (k - 1) % 16;
+        trace.extend_from_slice(&random::trace_record((k % 16) as u8, victim as u8, k));
+    }
+    assert_eq!(check_trace(1, &tree, &trace), 0);
+    // Help-first: worker 1 takes every child from worker 0.
+    let mut trace = Vec::new();
+    for k in 0..2_047u16 {
+        trace.extend_from_slice(&random::trace_record(1, 0, 2 * k + 1));
+    }
+    assert_eq!(check_trace(2, &tree, &trace), 0);
+}
+
+/// All trees with so many spawned tasks.
+fn all_trees(tasks: usize) -> Vec<Vec<u8>> {
+    fn go(left: usize, open: usize, kinds: &mut Vec<u8>, out: &mut Vec<Vec<u8>>) {
+        if left == 0 && open == 1 {
+            let mut whole = kinds.clone();
+            whole.push(3);
+            out.push(random::tree_of_kinds(&whole));
+            return;
+        }
+        if left > 0 {
+            for kind in [1, 2] {
+                kinds.push(kind);
+                go(left - 1, open + 1, kinds, out);
+                kinds.pop();
+            }
+        }
+        if open > 1 {
+            kinds.push(3);
+            go(left, open - 1, kinds, out);
+            kinds.pop();
+        }
+    }
+    let mut out = Vec::new();
+    go(tasks, 1, &mut Vec::new(), &mut out);
+    out
+}
+
+/// All schedules of three workers on all trees with up to four spawned
+/// tasks. States that differ only in the order of the log between phases
+/// are taken once.
+#[test]
+fn all_small_schedules() {
+    assert_eq!(all_trees(3).len(), 40);
+    let mut states = 0;
+    for tasks in 0..=4 {
+        for tree in all_trees(tasks) {
+            for policy in [1, 2] {
+                states += all_schedules(policy, &tree);
+            }
+        }
+    }
+    assert!(states > 100_000, "{} states", states);
+}
+
+fn all_schedules(policy: u8, tree: &[u8]) -> usize {
+    let mut seen = HashSet::new();
+    let mut open = vec![(Run::start(policy, tree).unwrap(), Vec::new())];
+    while let Some((run, events)) = open.pop() {
+        let logs: Vec<_> = (0..run.phases.len()).map(|k| run.steps_run_in(k)).collect();
+        if !seen.insert(format!("{:?} {:?} {:?}", run.workers, run.trace, logs)) {
+            continue;
+        }
+        sound_state(&run);
+        same_phases(policy, tree, &run, &events);
+        for first in 0..3 {
+            for second in 0..3 {
+                let mut next = run.clone();
+                if next.event(first, second).is_ok() {
+                    let mut more = events.clone();
+                    more.extend_from_slice(&[first, second]);
+                    open.push((next, more));
+                }
+            }
+        }
+    }
+    seen.len()
+}
+
+/// All traces of up to three records between three workers.
+#[test]
+fn all_small_traces() {
+    for tasks in 0..=2 {
+        for tree in all_trees(tasks) {
+            let n = tree.len() / 8;
+            let mut records = Vec::new();
+            for thief in 0..3 {
+                for victim in 0..3 {
+                    for number in 0..=n {
+                        records.push(random::trace_record(thief, victim, number as u16));
+                    }
+                }
+            }
+            for policy in [1, 2] {
+                let mut open = vec![Vec::new()];
+                while let Some(trace) = open.pop() {
+                    if check_trace(policy, &tree, &trace) != 0 {
+                        continue;
+                    }
+                    // A trace never has more records than spawned tasks.
+                    assert!(trace.len() / 4 <= tasks);
+                    for r in &records {
+                        let mut more = trace.clone();
+                        more.extend_from_slice(r);
+                        open.push(more);
+                    }
+                }
+            }
+        }
+    }
+}
+
+/// The answers about an accepted tree, found again in another way.
+#[test]
+fn tree_answers() {
+    for_seeds(80_000..80_300, |seed| {
+        let mut rng = Rng::new(seed);
+        let tasks = rng.between(0, 120);
+        let bytes = random::tree(&mut rng, tasks);
+        let tree = Tree::parse(&bytes).unwrap();
+        let n = tree.count();
+        assert_eq!(n, 2 * tasks + 1);
+        assert_eq!(tree.tasks().len(), tasks + 1);
+        let mut deepest = 0;
+        for step in 0..n {
+            assert_eq!(tree.kind(step) as u8 + 1, bytes[8 * step]);
+            // The end of the child that a record opens: opens and ends even out.
+            if tree.kind(step) != Kind::End {
+                let mut open = 1;
+                let mut at = step;
+                while open > 0 {
+                    at += 1;
+                    if tree.kind(at) == Kind::End {
+                        open -= 1;
+                    } else {
+                        open += 1;
+                    }
+                }
+                let child = tree.child_opened_by(step).unwrap();
+                assert_eq!(tree.end_of(child), at);
+                assert_eq!(tree.step_after(child), at + 1);
+                assert_eq!(tree.task_of(step), tree.task_of(at + 1));
+                assert_eq!(tree.ordinal(step) + 1, tree.ordinal(at + 1));
+                assert_eq!(tree.child_ended_before(at + 1), Some(child));
+                assert_eq!(
+                    tree.finish_child_before(at + 1),
+                    Some(child).filter(|_| tree.kind(step) == Kind::OpenFinish)
+                );
+                let inside: Vec<usize> = (step + 1..=at).collect();
+                assert_eq!(tree.steps_with_descendants(child), inside);
+                assert_eq!(tree.first_of_async_child(step + 1), tree.kind(step) == Kind::OpenAsync);
+                assert_eq!(tree.finish_child_before(step + 1), None);
+            }
+            let task = tree.task_of(step);
+            assert_eq!(tree.step_of_ordinal(task, tree.ordinal(step)), Some(step));
+            let mut depth = 1;
+            let mut up = task;
+            while let Some(parent) = tree.tasks()[up].parent {
+                up = parent;
+                depth += 1;
+            }
+            deepest = deepest.max(depth);
+        }
+        assert!(deepest <= 64);
+        assert_eq!(loads(&tree, &[Phase::new(7, 0)])[7], tree.total_weight());
+    });
+}
+
+/// The deep shape does reach 64 open tasks.
+#[test]
+fn deep_trees_are_deep() {
+    let mut rng = Rng::new(5);
+    let bytes = random::tree_with(&mut rng, Shape::Deep, 2_047, 50, Weights::One);
+    let (mut open, mut deepest) = (1, 1);
+    for record in bytes.chunks(8) {
+        if record[0] == 3 {
+            open -= 1;
+        } else {
+            open += 1;
+        }
+        deepest = deepest.max(open);
+    }
+    assert_eq!((open, deepest), (0, 64));
+}
+
+/// A damaged tree is refused by its first bad record; what stands behind it
+/// does not matter.
+#[test]
+fn damaged_trees() {
+    let mut seen = HashSet::new();
+    for_seeds(90_000..94_000, |seed| {
+        let mut rng = Rng::new(seed);
+        let tasks = rng.between(0, 40);
+        let mut bytes = random::damaged_tree(&mut rng, tasks);
+        let n = bytes.len() / 8;
+        let refusal = match Tree::parse(&bytes) {
+            Ok(tree) => {
+                assert_eq!(tree.count(), n);
+                assert_eq!(n % 2, 1);
+                seen.insert(0);
+                return;
+            }
+            Err(refusal) => refusal,
+        };
+        seen.insert(refusal.number);
+        match refusal.number {
+            2 => assert!(n == 0 || bytes.len() % 8 != 0 || n > 4_095),
+            5 if refusal.position == n => {
+                // Ends are missing; with them the tree is accepted.
+                let open = bytes.chunks(8).fold(1, |o, r| if r[0] == 3 { o - 1 } else { o + 1 });
+                for _ in 0..open {
+                    bytes.extend_from_slice(&random::tree_record(3, 0));
+                }
+                if bytes.len() <= 32_760 {
+                    assert!(Tree::parse(&bytes).is_ok());
+                }
+            }
+            3..=5 => {
+                assert!(refusal.position < n);
+                for byte in &mut bytes[8 * (refusal.position + 1)..] {
+                    *byte = rng.next() as u8;
+                }
+                assert_eq!(Tree::parse(&bytes).unwrap_err(), refusal);
+                // Without that record there is no such refusal yet.
+                bytes.truncate(8 * refusal.position);
+                if let Err(shorter) = Tree::parse(&bytes) {
+                    let end = if bytes.is_empty() { (2, 0) } else { (5, refusal.position) };
+                    assert_eq!((shorter.number, shorter.position), end);
+                }
+            }
+            other => panic!("refusal {}", other),
+        }
+    });
+    for number in [0, 2, 3, 4, 5] {
+        assert!(seen.contains(&number), "{}", number);
+    }
+}
+
+/// The event maker reaches every refusal of the event walk.
+#[test]
+fn events_reach_every_refusal() {
+    let mut seen = HashSet::new();
+    for_seeds(100_000..100_300, |seed| {
+        let mut rng = Rng::new(seed);
+        let tasks = rng.between(1, 40);
+        let tree = random::tree(&mut rng, tasks);
+        for policy in [1, 2] {
+            let mut plan = Plan::any(&mut rng);
+            plan.bad = 20;
+            let mut run = Run::start(policy, &tree).unwrap();
+            for t in random::drive(&mut rng, &mut run, &plan) {
+                seen.insert((policy, t.refused));
+            }
+        }
+    });
+    for policy in [1, 2] {
+        for number in [0, 8, 9, 10, 11, 12] {
+            assert!(seen.contains(&(policy, number)), "{} {}", policy, number);
+        }
+    }
+}
