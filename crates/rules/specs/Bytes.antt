@@ -28,7 +28,7 @@ records w bytes = cut w (length bytes / w) bytes
 unfoldable pub wholeRecords : ℕ → ℕ → List ℕ → Bool
 wholeRecords w m bytes = eqb (length bytes % w) 0 && leb (length bytes / w) m
 
--- The numbers from `from` to `to - 1`, of which there are n.
+-- The n numbers from `from` on.
 unfoldable pub count : ℕ → ℕ → List ℕ
 count from zero = []
 count from (suc n) = from ∷ count (suc from) n

@@ -1,5 +1,5 @@
 -- Document 01, "Refusals": what whole calls answer and write, from their arguments alone. `w` is the number of workers,
--- which is 16; `p` the policy's byte. "A refused call returns the number and the position, all other results 0, and changes
+-- `mostWorkers` so far; `p` the policy's byte. "A refused call returns the number and the position, all other results 0, and changes
 -- no buffer."
 use Prim.Native.Nat.{ℕ, _-_, _*_}
 use mathlib.Core.Bool.{Bool, false, cond, _||_, not}

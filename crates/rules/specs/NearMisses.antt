@@ -7,9 +7,9 @@ use mathlib.Core.List.{List, [], _∷_, _++_, map, flatten}
 use lib.ListN.{replicate, take}
 use Rattle.rules.specs.Bytes.{count, Verdict, accepted}
 use Rattle.rules.specs.Tree.{kinds, treeVerdict}
-use Rattle.rules.specs.Scheduling.{workFirst, helpFirst, start}
+use Rattle.rules.specs.Scheduling.{workFirst, helpFirst, mostWorkers, start}
 use Rattle.rules.specs.Calls.{eventCall, Recorded, recordCall, Replayed, replayCall}
-use Rattle.rules.specs.Cases.{sixteen, recording, replaying, idling, ran, phases, idle, refused, answer, Row, row, bytes, ofKinds, S}
+use Rattle.rules.specs.Cases.{recording, replaying, idling, ran, phases, idle, refused, answer, Row, row, bytes, ofKinds, S}
 
 -- ---- schedules and traces
 
@@ -46,7 +46,7 @@ schedules =
     (ran true (bytes 12 0x0100_0100_0200_0600_0300_0400))
     -- worker 2 waits at 6, and is not idle: 0 and 4 to 15 are
     ∷ row (idling helpFirst S (bytes 14 0x0000_0000_0000_0100_0200_0300_0000)) (idle false 65521 13 0)
-    -- sixteen workers hold a step
+    -- all sixteen workers hold a step
     ∷ row (idling helpFirst flat (replicate 30 0 ++ allSteal)) (idle false 0 0 16)
     -- the step after an async child does not wait for it
     ∷ row (recording workFirst S (bytes 6 0x0000_0100_0101)) (ran false (bytes 4 0x0100_0100))
@@ -83,8 +83,8 @@ schedules-as-stated = refl
 
 -- A refused event hands back the state it got, at position 0: on S, a steal from worker 0 before anything was pushed.
 refused-event :
-    eventCall workFirst (kinds S) (start sixteen) (bytes 2 0x0100)
-    ≡ record { verdict = record { number = 12; position = 0 }; state = start sixteen }
+    eventCall workFirst (kinds S) (start mostWorkers) (bytes 2 0x0100)
+    ≡ record { verdict = record { number = 12; position = 0 }; state = start mostWorkers }
 unfolding answer bytes ofKinds S flatten
 refused-event = refl
 
@@ -208,7 +208,7 @@ recordings =
     ∷ []
 
 recordings-as-stated :
-    map (λ r. recordCall sixteen (r .policy) weighted (r .events) (r .log) (r .trace)) recordings ≡ map (λ r. r .says) recordings
+    map (λ r. recordCall mostWorkers (r .policy) weighted (r .events) (r .log) (r .trace)) recordings ≡ map (λ r. r .says) recordings
 unfolding answer bytes recordings recordRow recordRefusal weighted sixteenLoads bad
 recordings-as-stated = refl
 
@@ -258,6 +258,6 @@ replays =
     }
     ∷ []
 
-replays-as-stated : map (λ r. replayCall sixteen workFirst (r .tree) (r .trace) (r .list)) replays ≡ map (λ r. r .says) replays
+replays-as-stated : map (λ r. replayCall mostWorkers workFirst (r .tree) (r .trace) (r .list)) replays ≡ map (λ r. r .says) replays
 unfolding answer bytes replays weighted sixteenLoads bad ofKinds flatten
 replays-as-stated = refl

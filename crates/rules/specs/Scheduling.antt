@@ -15,6 +15,10 @@ workFirst = 1
 abbrev pub helpFirst : ℕ
 helpFirst = 2
 
+-- There are sixteen workers. The rules take the count as an argument, so that a run may have fewer.
+abbrev pub mostWorkers : ℕ
+mostWorkers = 16
+
 -- ---- what running a step holds and pushes
 
 -- A held step, where there is one, and a deque of steps, newest first.
@@ -93,11 +97,11 @@ pub record Run : Type 0 where
   pub log : List Entry
   pub steals : List Steal
 
--- "They hold no step."
+-- An idle worker holds no step.
 unfoldable pub idleWorker : Worker
 idleWorker = record { hand = record { held = none; deque = [] }; phase = 0 }
 
--- "Worker 0 holds step 0 and that begins phase 0. The other workers are idle." There are w workers.
+-- "Worker 0 holds step 0 and that begins phase 0. The other 15 workers are idle: they hold no step." Here of w workers.
 unfoldable pub start : ℕ → Run
 start w =
     record {
@@ -116,7 +120,7 @@ unfoldable pub hasRun : List Entry → ℕ → Bool
 hasRun log j = any (λ e. eqb (e .step) j) log
 
 -- "A step that follows the end of a finish child may run only when all steps of that child and its descendants have run."
--- They are the steps from the child's first to its end, which stands just before step i.
+-- Those are the steps from the child's first step to its end, which stands just before step i.
 unfoldable pub waits : List ℕ → List Entry → ℕ → Bool
 waits ks log i = elim (finishBefore ks i) [ none ↦ false | some first ↦ not (all (hasRun log) (count first (i - first))) ]
 
@@ -203,5 +207,5 @@ idleCount (w ∷ ws) = cond (holdsStep w) 0 1 + idleCount ws
 
 -- "The lowest, which is 16 if there are none", of those from worker i on.
 unfoldable pub idleLowest : ℕ → List Worker → ℕ
-idleLowest i [] = 16
+idleLowest i [] = mostWorkers
 idleLowest i (w ∷ ws) = cond (holdsStep w) (idleLowest (suc i) ws) i

@@ -4,8 +4,10 @@
 --     Shape     trees over any count, test for ends and sizes: induction, nesting, odd sizes
 --     Balance   lists of kinds that end their open tasks exactly at their end
 --     Frames    an accepted tree: its length, shape, count of spawned tasks and open tasks
+--     Places    the task, the ordinal and the finish child before a step, from the opening step that it is a part of
 pub mod Scans
 pub mod Steps
 pub mod Shape
 pub mod Balance
 pub mod Frames
+pub mod Places

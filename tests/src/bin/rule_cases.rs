@@ -1,0 +1,169 @@
+//! Writes random calls with the simulator's answers as a table of antt, so that the prover computes the rules' answers and
+//! compares. The rules are what every proof rests on; nothing else tests them on cases that nobody chose.
+
+use std::fmt::Write;
+
+use frame_tests::random::{accepted_bytes, damaged_tree, drive, trace, tree, Plan, Rng};
+use frame_tests::{record, replay, Policy, Run, Tree};
+
+/// How many rows a theorem has. antt computes each theorem within a fixed count of steps.
+const ROWS: u64 = 10;
+
+/// A damaged tree is at most so long here: antt computes with lists of tens of records.
+const LONGEST: usize = 600;
+
+/// Bytes as the rules' tables write them: a hexadecimal numeral.
+fn bytes(list: &[u8]) -> String {
+    if list.is_empty() {
+        return "[]".to_string();
+    }
+    let digits: String = list.iter().map(|b| format!("{b:02x}")).collect();
+    format!("(bytes {} 0x{digits})", list.len())
+}
+
+fn numbers(list: &[u64]) -> String {
+    let items: String = list.iter().map(|x| format!("{x} ∷ ")).collect();
+    format!("({items}[])")
+}
+
+/// A tree of a few tasks, sometimes damaged, and a policy, sometimes none.
+fn scene(rng: &mut Rng) -> (u8, Vec<u8>) {
+    let policy = if rng.percent(5) { rng.pick(&[0, 3, 255]) } else { rng.pick(&[1, 2]) };
+    let tasks = rng.below(7);
+    let damaged = damaged_tree(rng, tasks);
+    let tree = if rng.percent(10) && damaged.len() < LONGEST { damaged } else { tree(rng, tasks) };
+    (policy, tree)
+}
+
+/// A lent buffer: mostly as long as asked or longer, sometimes short.
+fn lent(rng: &mut Rng, asked: usize) -> Vec<u8> {
+    let len = if rng.percent(5) { asked.saturating_sub(1) } else { asked + rng.below(4) };
+    (0..len).map(|_| rng.next() as u8).collect()
+}
+
+/// A few events for the scene, some of them bad, sometimes cut in a record.
+fn events(rng: &mut Rng, policy: u8, tree: &[u8]) -> Vec<u8> {
+    let mut list = match Run::start(policy, tree) {
+        Err(_) => vec![0, 0],
+        Ok(mut run) => {
+            let plan = Plan { workers: rng.between(1, 5), events: rng.below(24), bad: 0, steals: rng.pick(&[20, 60, 90]) };
+            let mut list = accepted_bytes(&drive(rng, &mut run, &plan));
+            if rng.percent(30) {
+                list.extend([rng.below(18) as u8, rng.below(18) as u8]);
+            }
+            list
+        }
+    };
+    if rng.percent(4) {
+        list.push(0);
+    }
+    list
+}
+
+fn record_row(out: &mut String, seed: u64) {
+    let mut rng = Rng::new(seed);
+    let (policy, tree) = scene(&mut rng);
+    let events = events(&mut rng, policy, &tree);
+    let n = tree.len() / 8;
+    let mut log = lent(&mut rng, 4 * n);
+    let mut trace = lent(&mut rng, 2 * n.saturating_sub(1));
+    let call = format!("recordCall 16 {policy} {} {} {} {}", bytes(&tree), bytes(&events), bytes(&log), bytes(&trace));
+    let answer = record(policy, &tree, &events, &mut log, &mut trace);
+    write!(
+        out,
+        "record {{ got = {call}; says = record {{ verdict = record {{ number = {}; position = {} }}; logCount = {}; \
+         traceCount = {}; finished = {}; loads = {}; heaviest = {}; log = {}; trace = {} }} }} ∷ ",
+        answer.number,
+        answer.position,
+        answer.log_count,
+        answer.trace_count,
+        answer.finished,
+        numbers(&answer.loads),
+        answer.heaviest,
+        bytes(&log),
+        bytes(&trace)
+    )
+    .expect("a string takes all");
+}
+
+fn replay_row(out: &mut String, seed: u64) {
+    let mut rng = Rng::new(seed);
+    let (policy, bytes_of_tree) = scene(&mut rng);
+    let records = match (Policy::parse(policy), Tree::parse(&bytes_of_tree)) {
+        (Ok(policy), Ok(tree)) => {
+            let (most, bad) = (rng.below(6), rng.pick(&[0, 0, 10, 40]));
+            trace(&mut rng, policy, &tree, most, bad)
+        }
+        _ => vec![1, 0, 1, 0],
+    };
+    let n = bytes_of_tree.len() / 8;
+    let mut list = lent(&mut rng, 4 * n);
+    let call = format!("replayCall 16 {policy} {} {} {}", bytes(&bytes_of_tree), bytes(&records), bytes(&list));
+    let answer = replay(policy, &bytes_of_tree, &records, &mut list);
+    write!(
+        out,
+        "record {{ got = {call}; says = record {{ verdict = record {{ number = {}; position = {} }}; phaseCount = {}; \
+         loads = {}; heaviest = {}; list = {} }} }} ∷ ",
+        answer.number,
+        answer.position,
+        answer.phases,
+        numbers(&answer.loads),
+        answer.heaviest,
+        bytes(&list)
+    )
+    .expect("a string takes all");
+}
+
+/// The idle workers after some accepted events, against the simulator's.
+fn idle_row(out: &mut String, seed: u64) {
+    let mut rng = Rng::new(seed);
+    let policy = rng.pick(&[1, 2]);
+    let tasks = rng.below(7);
+    let tree = tree(&mut rng, tasks);
+    let mut run = Run::start(policy, &tree).expect("the tree is accepted");
+    let plan = Plan { workers: rng.between(1, 16), events: rng.below(24), bad: 0, steals: rng.pick(&[20, 60, 90]) };
+    let events = accepted_bytes(&drive(&mut rng, &mut run, &plan));
+    write!(
+        out,
+        "record {{ got = answer (idling {policy} {} {}); says = idle {} {} {} {} }} ∷ ",
+        bytes(&tree),
+        bytes(&events),
+        run.finished(),
+        run.idle_set(),
+        run.idle_count(),
+        run.lowest_idle()
+    )
+    .expect("a string takes all");
+}
+
+fn tables(out: &mut String, name: &str, row: &str, from: u64, theorems: u64, write_row: fn(&mut String, u64)) {
+    for t in 0..theorems {
+        let mut rows = String::new();
+        for k in 0..ROWS {
+            write_row(&mut rows, from + t * ROWS + k);
+        }
+        writeln!(out, "unfoldable {name}-{t} : List {row}\n{name}-{t} = {rows}[]\n").expect("a string takes all");
+        writeln!(out, "{name}-{t}-holds : map (λ r. r .got) {name}-{t} ≡ map (λ r. r .says) {name}-{t}").expect("a string takes all");
+        writeln!(out, "unfolding answer bytes {name}-{t}\n{name}-{t}-holds = refl\n").expect("a string takes all");
+    }
+}
+
+fn main() {
+    let mut args = std::env::args().skip(1).map(|a| a.parse::<u64>().expect("a number"));
+    let (from, theorems) = (args.next().unwrap_or(0), args.next().unwrap_or(10));
+    let mut out = String::from(
+        "-- Random calls and the simulator's answers.\n\
+         use mathlib.Core.Path.{_≡_, refl}\n\
+         use mathlib.Core.Bool.{true, false}\n\
+         use mathlib.Core.List.{List, [], _∷_, map}\n\
+         use Rattle.rules.specs.Calls.{Recorded, recordCall, Replayed, replayCall}\n\
+         use Rattle.rules.specs.Cases.{idling, Answer, idle, answer, bytes}\n\n\
+         record RecordRow : Type 0 where\n  got : Recorded\n  says : Recorded\n\n\
+         record ReplayRow : Type 0 where\n  got : Replayed\n  says : Replayed\n\n\
+         record IdleRow : Type 0 where\n  got : Answer\n  says : Answer\n\n",
+    );
+    tables(&mut out, "recorded", "RecordRow", from, theorems, record_row);
+    tables(&mut out, "replayed", "ReplayRow", from, theorems, replay_row);
+    tables(&mut out, "idled", "IdleRow", from, theorems, idle_row);
+    print!("{out}");
+}
