@@ -14,6 +14,13 @@ use Rattle.tasks.specs.Laws.Scans.{openAt, open-step}
 use Rattle.tasks.specs.Laws.Shape.{after, Inside, Shape, child-inside, after-end, tree-ind, inside-end, inside-parts, inside-first}
 use Rattle.tasks.specs.Laws.Frames.{endAt, sizeAt, cont-after}
 
+-- Step j is a part of an opening step: its child or its continuation.
+pub record Part (ks : List ℕ) (j : ℕ) : Type 0 where
+  pub of : ℕ
+  pub within : of < length ks
+  pub opens : endAt ks of ≡ false
+  pub which : (j ≡ suc of) ⊎ (j ≡ cont ks of)
+
 -- The innermost task with one child more.
 unfoldable grown : List Task → Task
 grown ts = record { first = innermost ts .first; children = suc (innermost ts .children) }
@@ -121,15 +128,8 @@ module _ (ks : List ℕ) (sh : Shape (length ks) (endAt ks) (sizeAt ks)) where
 
   -- ---- every step but the first
 
-  -- Step j is a part of an opening step: its child or its continuation.
-  pub record Part (j : ℕ) : Type 0 where
-    pub of : ℕ
-    pub within : of < length ks
-    pub opens : endAt ks of ≡ false
-    pub which : (j ≡ suc of) ⊎ (j ≡ cont ks of)
-
   Parts : ℕ → Type 0
-  Parts i = (j : ℕ) → Inside (sizeAt ks) i j → (j ≡ i → ⊥) → Part j
+  Parts i = (j : ℕ) → Inside (sizeAt ks) i j → (j ≡ i → ⊥) → Part ks j
 
   parts-end : (i : ℕ) → i < length ks → endAt ks i ≡ true → Parts i
   unfolding Parts
@@ -150,6 +150,6 @@ module _ (ks : List ℕ) (sh : Shape (length ks) (endAt ks) (sizeAt ks)) where
       ]))
       (inside-parts sh i j h e w)
 
-  pub part : (j : ℕ) → 0 < j → j < length ks → Part j
+  pub part : (j : ℕ) → 0 < j → j < length ks → Part ks j
   unfolding Parts
   part j p h = tree-ind sh Parts parts-end parts-open 0 (omega arith) j (inside-first sh j h) (λ z. absurd (omega arith))
