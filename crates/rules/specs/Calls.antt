@@ -1,6 +1,6 @@
 -- Document 01, "Refusals": what whole calls answer and write, from their arguments alone. `w` is the number of workers,
--- `mostWorkers` so far; `p` the policy's byte. "A refused call returns the number and the position, all other results 0, and changes
--- no buffer."
+-- `mostWorkers` so far; `p` the policy's byte. "A refused call returns the number and the position (0 where none is named), all
+-- other results 0, and changes no buffer."
 use Prim.Native.Nat.{ℕ, _-_, _*_}
 use mathlib.Core.Bool.{Bool, false, cond, _||_, not}
 use mathlib.Core.List.{List, [], _∷_, _++_}
@@ -59,8 +59,8 @@ pub record Recorded : Type 0 where
 unfoldable pub recordWalk : ℕ → ℕ → List ℕ → List (List ℕ) → Walked Run
 recordWalk w p ks es = walk (judgeEvent ks) (nextRun p ks) 0 (start w) es
 
---     6  "The events are not whole records or too many."
---     7  "A lent output is short: 4 × n bytes for log, 2 × (n - 1) for a trace."
+--     6  "The events or the trace are not whole records or too many", here the events.
+--     7  "A lent output is short: 4 × n bytes for log or run list, 2 × (n - 1) for a trace", here log or trace.
 --     8 to 12  by the events, in one walk.
 unfoldable pub recordVerdict : ℕ → ℕ → List ℕ → List ℕ → List ℕ → List ℕ → Verdict
 recordVerdict w p tree events log trace =
@@ -80,7 +80,7 @@ recordOf w p tree s log trace =
     let ks = kinds tree in
     let ls = loads w ks (weights tree) (s .phases) in
     record {
-      verdict = record { number = 0; position = 0 };
+      verdict = accepted;
       logCount = length (s .log);
       traceCount = length (s .steals);
       finished = finished ks s;
@@ -119,8 +119,8 @@ pub record Replayed : Type 0 where
   pub heaviest : ℕ
   pub list : List ℕ
 
---     6  "The trace is not whole records or too many."
---     7  "A lent output is short: 4 × n bytes for run list."
+--     6  as for record, here the trace.
+--     7  as for record, here the run list.
 --     8, 13 to 15  by the trace, in one walk.
 unfoldable pub replayVerdict : ℕ → ℕ → List ℕ → List ℕ → List ℕ → Verdict
 replayVerdict w p tree trace list =
@@ -136,7 +136,7 @@ replayOf w p tree phs list =
     let ks = kinds tree in
     let ls = loads w ks (weights tree) phs in
     record {
-      verdict = record { number = 0; position = 0 };
+      verdict = accepted;
       phaseCount = length phs;
       loads = ls;
       heaviest = heaviest ls;

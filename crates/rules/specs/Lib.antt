@@ -1,10 +1,10 @@
--- The rules of document 01 as definitions, in its order. All that must be believed stands here, and nothing else:
+-- The rules of document 01 as definitions, in its order. To be believed:
 --     Bytes        records, little-endian numbers, walks that end at the first refused record
 --     Tree         "The tree file"
 --     Scheduling   "Scheduling"
 --     Traces       "Trace, log, run list"
 --     Calls        "Refusals": what a whole call answers and writes
--- What need not be believed, since it is proved from these:
+-- Proved from these, so not to be believed:
 --     Cases        "Tree S and its schedules": P1 to P12, one theorem
 --     NearMisses   cases that tell the rules from near misses, one theorem
 pub mod Bytes

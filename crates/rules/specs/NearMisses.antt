@@ -2,7 +2,7 @@
 -- refusals, the limits, lent bytes and loads. Each table is one theorem, closed by computation.
 use Prim.Native.Nat.{ℕ}
 use mathlib.Core.Path.{_≡_, refl}
-use mathlib.Core.Bool.{true, false}
+use mathlib.Core.Bool.{Bool, true, false}
 use mathlib.Core.List.{List, [], _∷_, _++_, map, flatten}
 use lib.ListN.{replicate, take}
 use Rattle.rules.specs.Bytes.{count, Verdict, accepted}
@@ -171,32 +171,29 @@ recordRefusal policy events log trace number position =
       trace = trace;
     })
 
+-- An accepted one in which worker 5 takes step 2: how many steps have run, whether all have, and the buffers.
+unfoldable recordTaken : List ℕ → List ℕ → List ℕ → ℕ → Bool → List ℕ → List ℕ → RecordRow
+recordTaken events log trace steps whole log′ trace′ =
+    recordRow workFirst events log trace
+    (record {
+      verdict = accepted;
+      logCount = steps;
+      traceCount = 1;
+      finished = whole;
+      loads = sixteenLoads (3 ∷ 0 ∷ 0 ∷ 0 ∷ 0 ∷ 256 ∷ []);
+      heaviest = 5;
+      log = log′;
+      trace = trace′;
+    })
+
 unfoldable recordings : List RecordRow
 recordings =
-    -- buffers one byte longer than asked; worker 5 has taken step 2 and not run it, and its load counts
-    recordRow workFirst (bytes 6 0x0000_0500_0000) (replicate 13 7) (replicate 5 9)
-    (record {
-      verdict = accepted;
-      logCount = 2;
-      traceCount = 1;
-      finished = false;
-      loads = sixteenLoads (3 ∷ 0 ∷ 0 ∷ 0 ∷ 0 ∷ 256 ∷ []);
-      heaviest = 5;
-      log = bytes 13 0x0000_0000_0000_0100_0707_0707_07;
-      trace = bytes 5 0x0500_0100_09;
-    })
+    -- buffers one byte longer than asked; worker 5 has not run its step, and its load counts
+    recordTaken (bytes 6 0x0000_0500_0000) (replicate 13 7) (replicate 5 9) 2 false (bytes 13 0x0000_0000_0000_0100_0707_0707_07)
+    (bytes 5 0x0500_0100_09)
     -- the same and the step run: finished
-    ∷ recordRow workFirst (bytes 8 0x0000_0500_0000_0505) (replicate 12 7) (replicate 4 9)
-    (record {
-      verdict = accepted;
-      logCount = 3;
-      traceCount = 1;
-      finished = true;
-      loads = sixteenLoads (3 ∷ 0 ∷ 0 ∷ 0 ∷ 0 ∷ 256 ∷ []);
-      heaviest = 5;
-      log = bytes 12 0x0000_0000_0000_0100_0100_0200;
-      trace = bytes 4 0x0500_0100;
-    })
+    ∷ recordTaken (bytes 8 0x0000_0500_0000_0505) (replicate 12 7) (replicate 4 9) 3 true (bytes 12 0x0000_0000_0000_0100_0100_0200)
+    (bytes 4 0x0500_0100)
     -- 1 before 6, 6 before 7, 7 for either buffer, 7 before 9
     ∷ recordRefusal 3 (bytes 1 0x00) [] [] 1 0
     ∷ recordRefusal 0 [] (replicate 12 7) (replicate 4 9) 1 0
@@ -209,7 +206,7 @@ recordings =
 
 recordings-as-stated :
     map (λ r. recordCall mostWorkers (r .policy) weighted (r .events) (r .log) (r .trace)) recordings ≡ map (λ r. r .says) recordings
-unfolding answer bytes recordings recordRow recordRefusal weighted sixteenLoads bad
+unfolding answer bytes recordings recordRow recordRefusal recordTaken weighted sixteenLoads bad
 recordings-as-stated = refl
 
 -- A replay call under work-first on a tree: trace, list; and what it answers.

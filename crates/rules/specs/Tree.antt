@@ -131,7 +131,7 @@ wellFormed r =
 -- A record while d tasks are open.
 --     3  "A tree record has another kind or a non-zero byte 1 to 3 (its position)."
 --     4  "A tree record opens a task while 64 are open (its position)."
---     5  "A record follows the root's end (its position)."
+--     5  "A record follows the root's end (its position)", the first of its two conditions.
 unfoldable pub judgeTreeRecord : ℕ → List ℕ → ℕ
 judgeTreeRecord d r = cond (not (wellFormed r)) 3 (cond (eqb d mostOpen && not (isEnd (kind r))) 4 (cond (eqb d 0) 5 0))
 
@@ -143,11 +143,14 @@ unfoldable pub treeWalk : List ℕ → Walked ℕ
 treeWalk tree = walk judgeTreeRecord nextOpen 0 1 (treeRecords tree)
 
 --     2  "The tree is empty, not whole records, or longer than 32,760 bytes."
---     3, 4, 5  in one walk; and 5 too where "the root is still open (position n)".
+unfoldable pub wrongLength : List ℕ → Bool
+wrongLength tree = eqb (length tree) 0 || not (wholeRecords 8 mostSteps tree)
+
+-- 2; then 3, 4 and 5 in one walk; then 5 where "the root is still open (position n)".
 unfoldable pub treeVerdict : List ℕ → Verdict
 treeVerdict tree =
     firstRefused
-    (refusedIf (eqb (length tree) 0 || not (wholeRecords 8 mostSteps tree)) 2 0
+    (refusedIf (wrongLength tree) 2 0
     ∷ treeWalk tree .verdict
     ∷ refusedIf (not (eqb (treeWalk tree .state) 0)) 5 (length (treeRecords tree))
     ∷ [])

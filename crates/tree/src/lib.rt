@@ -4,7 +4,7 @@ ghost use mathlib.Core.Path.{_≡_};
 ghost use mathlib.Core.List.{[]};
 ghost use Prim.Native.Nat.{_<_};
 ghost use lib.ListN.{length, getD};
-ghost use Rattle.rules.specs.Tree.{kinds, weights, kindAt, treeRecords, wellFormed, judgeTreeRecord};
+ghost use Rattle.rules.specs.Tree.{kinds, weights, kindAt, treeRecords, wrongLength, wellFormed, judgeTreeRecord};
 ghost use Rattle.tree.specs.Answers.{acceptance};
 
 // The serial number of a step.
@@ -32,11 +32,6 @@ pub const FINISH: u8 = 2;
 
 pub const END: u8 = 3;
 
-// Policies.
-pub const WORK_FIRST: u8 = 1;
-
-pub const HELP_FIRST: u8 = 2;
-
 // How many whole records the bytes have.
 pub fn steps(tree: &[u8]) -> usize
     ensures { λ r. ⌜ r ≡ length (kinds (now (tree .entry))) ⌝ }
@@ -56,6 +51,7 @@ pub fn kind(tree: &[u8], step: Step) -> u8
     }
 }
 
+// A byte as a wider number.
 fn wide(b: u8) -> u32
     ensures { λ r. ⌜ (r ≡ b) × (r < 256) ⌝ }
 {
@@ -74,6 +70,23 @@ pub fn weight(tree: &[u8], step: Step) -> u32
     let high = wide(tree[at + 6]) + 256 * wide(tree[at + 7]);
     let low = wide(tree[at + 4]) + 256 * wide(tree[at + 5]);
     low + 65536 * high
+}
+
+// Whether the tree is empty, not whole records, or too long.
+fn wrong_length(tree: &[u8]) -> bool
+    ensures { λ r. ⌜ r ≡ wrongLength (now (tree .entry)) ⌝ }
+{
+    let n = tree.len() / RECORD;
+    if n == 0 {
+        return true;
+    }
+    if tree.len() % RECORD != 0 {
+        return true;
+    }
+    if MOST_STEPS < n {
+        return true;
+    }
+    false
 }
 
 // Whether a record's kind is one of the three and its bytes 1 to 3 are zero.
@@ -128,28 +141,14 @@ pub struct Accepted {
 pub fn accept(tree: &[u8]) -> Accepted
     ensures { λ r. ⌜ r ≡ acceptance (now (tree .entry)) ⌝ }
 {
+    if wrong_length(tree) {
+        return Accepted {
+            number: 2,
+            position: 0,
+            steps: 0,
+        };
+    }
     let n = tree.len() / RECORD;
-    if n == 0 {
-        return Accepted {
-            number: 2,
-            position: 0,
-            steps: 0,
-        };
-    }
-    if tree.len() % RECORD != 0 {
-        return Accepted {
-            number: 2,
-            position: 0,
-            steps: 0,
-        };
-    }
-    if MOST_STEPS < n {
-        return Accepted {
-            number: 2,
-            position: 0,
-            steps: 0,
-        };
-    }
     let mut i = 0;
     let mut depth: usize = 1;
     while i < n {

@@ -1,4 +1,4 @@
--- `host::frame_finish_before` meets its contract. Assumes nothing.
+-- `host::frame_finish_before` meets its contract: it flattens what `finish_before` answers, case by case. Assumes nothing.
 use mathlib.Core.Path.{ap, sym, _∙_}
 use Rattle.host.specs.Answers.{flatChild}
 use borrow.Author.Needs.{needs}

@@ -1,4 +1,4 @@
--- `host::frame_running` meets its contract. Assumes nothing.
+-- `host::frame_running` meets its contract: it flattens what `running_of` answers, case by case. Assumes nothing.
 use mathlib.Core.Path.{ap, sym, _∙_}
 use Rattle.host.specs.Answers.{flatRunning}
 use borrow.Author.Needs.{needs}

@@ -1,4 +1,4 @@
--- `host::frame_task` meets its contract. Assumes nothing.
+-- `host::frame_task` meets its contract: it flattens what `task_of` answers. Assumes nothing.
 use mathlib.Core.Path.{ap}
 use Rattle.host.specs.Answers.{flatTask}
 use borrow.Author.Needs.{needs}

@@ -1,4 +1,4 @@
--- `host::frame_tree` meets its contract. Assumes nothing.
+-- `host::frame_tree` meets its contract: it flattens what `accept` answers. Assumes nothing.
 use mathlib.Core.Path.{ap}
 use Rattle.host.specs.Answers.{flatTree}
 use borrow.Author.Needs.{needs}

@@ -1,4 +1,4 @@
--- `tasks::running_of` meets its contract. Assumes nothing.
+-- `tasks::running_of` meets its contract: each return is a law of what running a step holds and pushes. Assumes nothing.
 use native.Mathlib.Omega.{arith}
 use mathlib.Core.Path.{_∙_, sym}
 use Rattle.rules.specs.Tree.{kinds}

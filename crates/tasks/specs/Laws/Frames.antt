@@ -11,10 +11,10 @@ use lib.Seq.{drop-cons, drop-drop}
 use lib.Dec.{eqb}
 use borrow.Author.Tests.{eq-eqb, ne-eqb, eqb-false}
 use Rattle.rules.specs.Bytes.{Verdict, Walked, walk}
-use Rattle.rules.specs.Tree.{treeRecords, kind, isEnd, kinds, kindAt, Task, leave, enter, openTasks, openAfter, afterEnds, taskEnd, cont, judgeTreeRecord, nextOpen, treeWalk, treeVerdict}
+use Rattle.rules.specs.Tree.{treeRecords, kind, isEnd, kinds, kindAt, Task, leave, enter, openTasks, openAfter, afterEnds, taskEnd, cont, judgeTreeRecord, nextOpen, treeWalk, wrongLength, treeVerdict}
 use Rattle.tree.specs.Laws.Records.{length-kinds}
 use Rattle.tasks.specs.Laws.Scans.{after-none, after-one, openAt, open-step}
-use Rattle.tree.specs.Laws.Acceptance.{judged-open, judged-kind, misfit, misfit-empty, misfit-part, misfit-long, verdict-misfit, verdict-stop, verdict-open}
+use Rattle.tree.specs.Laws.Acceptance.{judged-open, judged-kind, wrong-empty, wrong-part, wrong-long, verdict-wrong, verdict-stop, verdict-open}
 use Rattle.tasks.specs.Laws.Shape.{after, At, Shape}
 use Rattle.tasks.specs.Laws.Balance.{Balanced, spawned, after-sum, after-short, after-drop, balanced-after, balanced-drop, balanced-kind, balanced-none, balanced-some, balanced-count}
 
@@ -210,11 +210,11 @@ module _ (tree : List ℕ) (accepts : treeVerdict tree .number ≡ 0) where
   number : (v : Verdict) → treeVerdict tree ≡ v → v .number ≡ 0
   number v e = ap (λ (x : Verdict). x .number) (sym e) ∙ accepts
 
-  fitting : misfit tree ≡ false
-  fitting = by (misfit tree) refl
+  fitting : wrongLength tree ≡ false
+  fitting = by (wrongLength tree) refl
     where
-      by : (x : Bool) → misfit tree ≡ x → misfit tree ≡ false
-      by true m = absurd (omega (arith, number (record { number = 2; position = 0 }) (verdict-misfit tree m)))
+      by : (x : Bool) → wrongLength tree ≡ x → wrongLength tree ≡ false
+      by true m = absurd (omega (arith, number (record { number = 2; position = 0 }) (verdict-wrong tree m)))
       by false m = m
 
   walk-number : treeWalk tree .verdict .number ≡ 0
@@ -233,17 +233,17 @@ module _ (tree : List ℕ) (accepts : treeVerdict tree .number ≡ 0) where
       ]
 
   -- Refusal 2's condition does not hold.
-  never : {A : Type 0} → misfit tree ≡ true → A
+  never : {A : Type 0} → wrongLength tree ≡ true → A
   never m = absurd (true≢false (sym m ∙ fitting))
 
   bytes-some : 1 ≤ length tree / 8
-  bytes-some = elim (ℕ-discrete (length tree / 8) 0) [ yes e ↦ never (misfit-empty tree e) | no n ↦ omega arith ]
+  bytes-some = elim (ℕ-discrete (length tree / 8) 0) [ yes e ↦ never (wrong-empty tree e) | no n ↦ omega arith ]
 
   bytes-whole : length tree % 8 ≡ 0
-  bytes-whole = elim (ℕ-discrete (length tree % 8) 0) [ yes e ↦ e | no n ↦ never (misfit-part tree n) ]
+  bytes-whole = elim (ℕ-discrete (length tree % 8) 0) [ yes e ↦ e | no n ↦ never (wrong-part tree n) ]
 
   bytes-most : length tree / 8 ≤ 4095
-  bytes-most = elim (decLe (length tree / 8) 4095) [ yes l ↦ l | no n ↦ never (misfit-long tree (lt-of-not-le n)) ]
+  bytes-most = elim (decLe (length tree / 8) 4095) [ yes l ↦ l | no n ↦ never (wrong-long tree (lt-of-not-le n)) ]
 
   balanced : Balanced 1 (kinds tree)
   unfolding kinds treeWalk walked

@@ -6,10 +6,11 @@ use mathlib.Core.Path.{_≡_, _∙_, sym, ap}
 use mathlib.Core.Bool.{false}
 use mathlib.Core.List.{[]}
 use lib.ListN.{length, getD}
+use borrow.Author.Needs.{needs}
 use Rattle.rules.specs.Bytes.{Verdict}
-use Rattle.rules.specs.Tree.{treeRecords, judgeTreeRecord}
+use Rattle.rules.specs.Tree.{treeRecords, judgeTreeRecord, wrongLength}
 use Rattle.tree.specs.Laws.Records.{length-kinds}
-use Rattle.tree.specs.Laws.Acceptance.{Walking, walking-start, walking-end, walking-open, walking-stop, walking-done, misfit, misfit-empty, misfit-part, misfit-long, fits, verdict-misfit, verdict-stop, verdict-open, verdict-accepted, answered-refused, answered-accepted}
+use Rattle.tree.specs.Laws.Acceptance.{Walking, walking-start, walking-end, walking-open, walking-stop, walking-done, verdict-wrong, verdict-stop, verdict-open, verdict-accepted, answered-refused, answered-accepted}
 use Rattle.tree.proofs.accept.Statement.{statement}
 use Rattle.tree.proofs.accept.Tie as tie
 
@@ -20,40 +21,40 @@ abbrev μ-loop : tie.MeasureT-loop
 μ-loop tree n i₀ depth₀ i depth = n - i
 
 -- The length is right.
-whole : (c : tie.Else3 Inv-loop μ-loop) → misfit (c .before .before .before .before .args .tree .now) ≡ false
-whole c = fits (c .before .before .before .before .args .tree .now) (c .before .before .if1 .left) (c .before .if2 .left) (c .if3 .left)
+whole : (c : tie.Else1 Inv-loop μ-loop) → wrongLength (c .before .before .before .args .tree .now) ≡ false
+whole c = sym (c .before .wrong-length .ensures) ∙ c .if1 .left
 
 -- The record is not refused.
-fine : (c : tie.Else4 Inv-loop μ-loop)
-    → judgeTreeRecord (c .before .before .before .loop .depth) (getD (treeRecords (c .before .before .before .before .before .before .before .before .args .tree .now)) (c .before .before .before .loop .i) []) ≡ 0
-fine c = sym (c .before .judge .ensures) ∙ c .if4 .left
+fine : (c : tie.Else2 Inv-loop μ-loop)
+    → judgeTreeRecord (c .before .before .before .loop .depth) (getD (treeRecords (c .before .before .before .before .before .before .before .args .tree .now)) (c .before .before .before .loop .i) []) ≡ 0
+fine c = sym (c .before .judge .ensures) ∙ c .if2 .left
+
+wrong-length-requires : tie.Need-wrong-length-requires Inv-loop μ-loop
+wrong-length-requires c κs = search needs
 
 returns : tie.Need-returns Inv-loop μ-loop
-returns c = answered-refused (c .before .before .args .tree .now) (record { number = 2; position = 0 }) (verdict-misfit (c .before .before .args .tree .now) (misfit-empty (c .before .before .args .tree .now) (c .if1 .taken))) (λ e. absurd (omega arith))
-
-returns-2 : tie.Need-returns-2 Inv-loop μ-loop
-returns-2 c = answered-refused (c .before .before .before .args .tree .now) (record { number = 2; position = 0 }) (verdict-misfit (c .before .before .before .args .tree .now) (misfit-part (c .before .before .before .args .tree .now) (c .if2 .taken))) (λ e. absurd (omega arith))
-
-returns-3 : tie.Need-returns-3 Inv-loop μ-loop
-returns-3 c = answered-refused (c .before .before .before .before .args .tree .now) (record { number = 2; position = 0 }) (verdict-misfit (c .before .before .before .before .args .tree .now) (misfit-long (c .before .before .before .before .args .tree .now) (c .if3 .taken))) (λ e. absurd (omega arith))
+returns c =
+    let tree = c .before .before .before .args .tree .now in
+    answered-refused tree (record { number = 2; position = 0 })
+    (verdict-wrong tree (sym (c .before .wrong-length .ensures) ∙ c .if1 .taken)) (λ e. absurd (omega arith))
 
 loop-holds : tie.Need-loop-holds Inv-loop μ-loop
-loop-holds c = walking-start (c .before .before .before .before .args .tree .now)
+loop-holds c = walking-start (c .before .before .before .args .tree .now)
 
 judge-requires : tie.Need-judge-requires Inv-loop μ-loop
-judge-requires c κs = omega (arith, length-kinds (c .before .before .before .before .before .before .args .tree .now))
+judge-requires c κs = omega (arith, length-kinds (c .before .before .before .before .before .args .tree .now))
 
-returns-4 : tie.Need-returns-4 Inv-loop μ-loop
-returns-4 c =
-    let tree = c .before .before .before .before .before .before .before .before .args .tree .now in
+returns-2 : tie.Need-returns-2 Inv-loop μ-loop
+returns-2 c =
+    let tree = c .before .before .before .before .before .before .before .args .tree .now in
     let loop = c .before .before .before .loop in
     let number = c .before .judge .result in
     let same = c .before .judge .ensures in
-    let refused : judgeTreeRecord (loop .depth) (getD (treeRecords tree) (loop .i) []) ≡ 0 → ⊥ = λ e. c .if4 .taken (same ∙ e) in
+    let refused : judgeTreeRecord (loop .depth) (getD (treeRecords tree) (loop .i) []) ≡ 0 → ⊥ = λ e. c .if2 .taken (same ∙ e) in
     let stop = walking-stop tree (loop .i) (loop .depth) (loop .inv) (omega (arith, length-kinds tree)) refused in
     let at = ap {B = Verdict} (λ (x : ℕ). record { number = x; position = loop .i }) (sym same) in
     answered-refused tree (record { number = number; position = loop .i })
-    (verdict-stop tree (whole (c .before .before .before .before)) (record { number = number; position = loop .i }) (stop ∙ at) (c .if4 .taken)) (c .if4 .taken)
+    (verdict-stop tree (whole (c .before .before .before .before)) (record { number = number; position = loop .i }) (stop ∙ at) (c .if2 .taken)) (c .if2 .taken)
 
 mul-k : tie.Need-mul-k Inv-loop μ-loop
 mul-k c = omega arith
@@ -66,18 +67,18 @@ add-i c = omega arith
 
 sub-depth : tie.Need-sub-depth Inv-loop μ-loop
 sub-depth c =
-    let tree = c .before .before .before .before .before .before .before .before .before .before .args .tree .now in
+    let tree = c .before .before .before .before .before .before .before .before .before .args .tree .now in
     let loop = c .before .before .before .before .before .loop in
-    walking-end tree (loop .i) (loop .depth) (loop .inv) (omega (arith, length-kinds tree)) (fine (c .before .before)) (c .if5 .taken) .0
+    walking-end tree (loop .i) (loop .depth) (loop .inv) (omega (arith, length-kinds tree)) (fine (c .before .before)) (c .if3 .taken) .0
 
 loop-less : tie.Need-loop-less Inv-loop μ-loop
 loop-less c = omega arith
 
 loop-again : tie.Need-loop-again Inv-loop μ-loop
 loop-again c =
-    let tree = c .before .before .before .before .before .before .before .before .before .before .args .tree .now in
+    let tree = c .before .before .before .before .before .before .before .before .before .args .tree .now in
     let loop = c .before .before .before .before .before .loop in
-    walking-end tree (loop .i) (loop .depth) (loop .inv) (omega (arith, length-kinds tree)) (fine (c .before .before)) (c .if5 .taken) .1
+    walking-end tree (loop .i) (loop .depth) (loop .inv) (omega (arith, length-kinds tree)) (fine (c .before .before)) (c .if3 .taken) .1
 
 add-depth : tie.Need-add-depth Inv-loop μ-loop
 add-depth c = omega arith
@@ -87,25 +88,24 @@ loop-less-2 c = omega arith
 
 loop-again-2 : tie.Need-loop-again-2 Inv-loop μ-loop
 loop-again-2 c =
-    let tree = c .before .before .before .before .before .before .before .before .before .before .args .tree .now in
+    let tree = c .before .before .before .before .before .before .before .before .before .args .tree .now in
     let loop = c .before .before .before .before .before .loop in
-    walking-open tree (loop .i) (loop .depth) (loop .inv) (omega (arith, length-kinds tree)) (fine (c .before .before)) (c .if5 .left)
+    walking-open tree (loop .i) (loop .depth) (loop .inv) (omega (arith, length-kinds tree)) (fine (c .before .before)) (c .if3 .left)
 
-returns-5 : tie.Need-returns-5 Inv-loop μ-loop
-returns-5 c =
-    let tree = c .before .before .before .before .before .before .before .args .tree .now in
+returns-3 : tie.Need-returns-3 Inv-loop μ-loop
+returns-3 c =
+    let tree = c .before .before .before .before .before .before .args .tree .now in
     let loop = c .before .before .loop in
     let done = walking-done tree (loop .i) (loop .depth) (loop .inv) (omega (arith, length-kinds tree)) in
     answered-refused tree (record { number = 5; position = length tree / 8 })
-    (verdict-open tree (whole (c .before .before .before)) (done .0) (λ e. c .if6 .taken (sym (done .1) ∙ e)))
-    (λ e. absurd (omega arith))
+    (verdict-open tree (whole (c .before .before .before)) (done .0) (λ e. c .if4 .taken (sym (done .1) ∙ e))) (λ e. absurd (omega arith))
 
-returns-6 : tie.Need-returns-6 Inv-loop μ-loop
-returns-6 c =
-    let tree = c .before .before .before .before .before .before .before .args .tree .now in
+returns-4 : tie.Need-returns-4 Inv-loop μ-loop
+returns-4 c =
+    let tree = c .before .before .before .before .before .before .args .tree .now in
     let loop = c .before .before .loop in
     let done = walking-done tree (loop .i) (loop .depth) (loop .inv) (omega (arith, length-kinds tree)) in
-    answered-accepted tree (verdict-accepted tree (whole (c .before .before .before)) (done .0) (done .1 ∙ c .if6 .left))
+    answered-accepted tree (verdict-accepted tree (whole (c .before .before .before)) (done .0) (done .1 ∙ c .if4 .left))
 
 pub accept-spec : {M : Type 1} → statement M
 accept-spec =
@@ -113,12 +113,11 @@ accept-spec =
     (tie.spec
     Inv-loop
     μ-loop
+    wrong-length-requires
     returns
-    returns-2
-    returns-3
     loop-holds
     judge-requires
-    returns-4
+    returns-2
     mul-k
     shared-slice-read-k
     add-i
@@ -128,5 +127,5 @@ accept-spec =
     add-depth
     loop-less-2
     loop-again-2
-    returns-5
-    returns-6)
+    returns-3
+    returns-4)

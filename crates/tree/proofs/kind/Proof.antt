@@ -1,4 +1,4 @@
--- `tree::kind` meets its contract. Assumes nothing.
+-- `tree::kind` meets its contract: a step's kind is byte 0 of its record, and 0 past the last. Assumes nothing.
 use native.Mathlib.Omega.{arith}
 use mathlib.Core.Path.{sym}
 use Rattle.tree.specs.Laws.Records.{kind-at, kind-past}

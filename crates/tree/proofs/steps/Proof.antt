@@ -1,4 +1,4 @@
--- `tree::steps` meets its contract. Assumes nothing.
+-- `tree::steps` meets its contract: there are as many kinds as whole records. Assumes nothing.
 use mathlib.Core.Path.{sym}
 use Rattle.tree.specs.Laws.Records.{length-kinds}
 use Rattle.tree.proofs.steps.Statement.{statement}

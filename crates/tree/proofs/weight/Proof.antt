@@ -1,4 +1,5 @@
--- `tree::weight` meets its contract. Assumes nothing.
+-- `tree::weight` meets its contract: the sum of the four bytes is the law of a step's weight, and the bounds on bytes make each
+-- sum fit. Assumes nothing.
 use native.Mathlib.Omega.{arith}
 use mathlib.Core.Path.{sym}
 use Rattle.tree.specs.Laws.Records.{weight-at, weight-past}
@@ -67,7 +68,16 @@ add-result : tie.Need-add-result
 add-result c = search needs
 
 returns-2 : tie.Need-returns-2
-returns-2 c = omega (arith, weight-at (c .before .before .before .before .before .before .before .before .before .before .args .tree .now) (c .before .before .before .before .before .before .before .before .before .before .args .step .0) (omega arith), c .before .before .before .before .before .before .wide .ensures .0, c .before .before .before .before .wide2 .ensures .0, c .before .before .wide3 .ensures .0, c .wide4 .ensures .0)
+returns-2 c =
+    let start = c .before .before .before .before .before .before .before .before .before .before .args in
+    omega (
+      arith,
+      weight-at (start .tree .now) (start .step .0) (omega arith),
+      c .before .before .before .before .before .before .wide .ensures .0,
+      c .before .before .before .before .wide2 .ensures .0,
+      c .before .before .wide3 .ensures .0,
+      c .wide4 .ensures .0,
+    )
 
 pub weight-spec : {M : Type 1} → statement M
 weight-spec =

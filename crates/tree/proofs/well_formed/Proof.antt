@@ -2,7 +2,7 @@
 use native.Mathlib.Omega.{arith}
 use mathlib.Core.Path.{_∙_, sym}
 use Rattle.tree.specs.Laws.Records.{length-kinds}
-use Rattle.tree.specs.Laws.Acceptance.{well-formed-at, formed-low, formed-high, formed-first, formed-second, formed-last}
+use Rattle.tree.specs.Laws.Acceptance.{well-formed-at, formed-other, formed-first, formed-second, formed-last}
 use Rattle.tree.proofs.well_formed.Statement.{statement}
 use Rattle.tree.proofs.well_formed.Tie as tie
 
@@ -13,13 +13,13 @@ shared-slice-read-if1 : tie.Need-shared-slice-read-if1
 shared-slice-read-if1 c = omega (arith, length-kinds (c .before .args .tree .now))
 
 returns : tie.Need-returns
-returns c = sym (well-formed-at (c .before .before .args .tree .now) (c .before .before .args .i) (c .before .before .pre) ∙ formed-low _ _ _ _ (c .if1 .taken))
+returns c = sym (well-formed-at (c .before .before .args .tree .now) (c .before .before .args .i) (c .before .before .pre) ∙ formed-other _ _ _ _ (λ j l u e. absurd (omega (arith, c .if1 .taken))))
 
 shared-slice-read-if2 : tie.Need-shared-slice-read-if2
 shared-slice-read-if2 c = omega (arith, length-kinds (c .before .before .before .args .tree .now))
 
 returns-2 : tie.Need-returns-2
-returns-2 c = sym (well-formed-at (c .before .before .before .before .args .tree .now) (c .before .before .before .before .args .i) (c .before .before .before .before .pre) ∙ formed-high _ _ _ _ (c .if2 .taken))
+returns-2 c = sym (well-formed-at (c .before .before .before .before .args .tree .now) (c .before .before .before .before .args .i) (c .before .before .before .before .pre) ∙ formed-other _ _ _ _ (λ j l u e. absurd (omega (arith, c .if2 .taken))))
 
 add-if3 : tie.Need-add-if3
 add-if3 c = omega (arith, length-kinds (c .before .before .before .before .args .tree .now))

@@ -2,7 +2,7 @@
 -- verdict from what the loop finds. Laws are in the terms of the code.
 use Prim.Native.Nat.{ℕ, zero, suc, _+_, _-_, _*_, _/_, _%_, _≤_, _<_}
 use mathlib.Core.Path.{_≡_, refl, sym, ap, _∙_}
-use mathlib.Core.Bool.{Bool, true, false, not, _&&_, _||_, true≢false}
+use mathlib.Core.Bool.{Bool, true, false, _&&_, _||_, true≢false}
 use mathlib.Core.List.{List, []}
 use native.Mathlib.Decide.{ℕ-discrete, decLe}
 use native.Mathlib.Nat.{lt-of-not-le}
@@ -12,7 +12,7 @@ use lib.ListN.{length, drop, getD}
 use lib.Dec.{eqb}
 use borrow.Author.Tests.{eq-eqb, ne-eqb, le-leb, lt-leb}
 use Rattle.rules.specs.Bytes.{Verdict, accepted, Walked, walk, wholeRecords, refusedIf, firstRefused}
-use Rattle.rules.specs.Tree.{mostSteps, treeRecords, kind, isAsync, isFinish, isEnd, kinds, openAfter, wellFormed, judgeTreeRecord, nextOpen, treeWalk, treeVerdict}
+use Rattle.rules.specs.Tree.{treeRecords, kind, isAsync, isFinish, isEnd, kinds, openAfter, wellFormed, judgeTreeRecord, nextOpen, treeWalk, wrongLength, treeVerdict}
 use Rattle.tree.specs.declared.Accepted.{Accepted}
 use Rattle.tree.specs.Answers.{acceptance}
 use Rattle.tree.specs.Laws.Bools.{and-false, or-true}
@@ -25,15 +25,15 @@ use Rattle.tree.specs.Laws.Walks.{walk-on, walk-stop, walk-end}
 unfoldable pub formed : ℕ → ℕ → ℕ → ℕ → Bool
 formed k a b c = (isAsync k || isFinish k || isEnd k) && eqb a 0 && eqb b 0 && eqb c 0
 
-pub formed-low : (k a b c : ℕ) → k < 1 → formed k a b c ≡ false
+-- Another kind.
+pub formed-other : (k a b c : ℕ) → ((j : ℕ) → 1 ≤ j → j ≤ 3 → k ≡ j → ⊥) → formed k a b c ≡ false
 unfolding formed isAsync isFinish isEnd
-formed-low k a b c h =
-    rw (ne-eqb k 1 (λ e. omega arith), ne-eqb k 2 (λ e. omega arith), ne-eqb k 3 (λ e. omega arith)) refl
-
-pub formed-high : (k a b c : ℕ) → 3 < k → formed k a b c ≡ false
-unfolding formed isAsync isFinish isEnd
-formed-high k a b c h =
-    rw (ne-eqb k 1 (λ e. omega arith), ne-eqb k 2 (λ e. omega arith), ne-eqb k 3 (λ e. omega arith)) refl
+formed-other k a b c other =
+    rw (
+      ne-eqb k 1 (other 1 (omega arith) (omega arith)),
+      ne-eqb k 2 (other 2 (omega arith) (omega arith)),
+      ne-eqb k 3 (other 3 (omega arith) (omega arith)),
+    ) refl
 
 pub formed-first : (k a b c : ℕ) → (a ≡ 0 → ⊥) → formed k a b c ≡ false
 unfolding formed
@@ -112,17 +112,13 @@ judged-open d r e =
 
 pub judged-kind : (d : ℕ) (r : List ℕ) → judgeTreeRecord d r ≡ 0 → (1 ≤ kind r) × (kind r ≤ 3)
 unfolding wellFormed formed
-judged-kind d r e =
-    let w : formed (kind r) (getD r 1 0) (getD r 2 0) (getD r 3 0) ≡ true = judged-formed d r e in (
-      elim (decLe 1 (kind r)) [
-        | yes h ↦ h
-        | no h ↦ absurd (true≢false (sym w ∙ formed-low (kind r) (getD r 1 0) (getD r 2 0) (getD r 3 0) (lt-of-not-le h)))
-      ],
-      elim (decLe (kind r) 3) [
-        | yes h ↦ h
-        | no h ↦ absurd (true≢false (sym w ∙ formed-high (kind r) (getD r 1 0) (getD r 2 0) (getD r 3 0) (lt-of-not-le h)))
-      ],
-    )
+judged-kind d r e = (
+  elim (decLe 1 (kind r)) [ yes h ↦ h | no h ↦ other (λ j l u s. absurd (omega (arith, lt-of-not-le h))) ],
+  elim (decLe (kind r) 3) [ yes h ↦ h | no h ↦ other (λ j l u s. absurd (omega (arith, lt-of-not-le h))) ],
+)
+  where
+    other : {A : Type 0} → ((j : ℕ) → 1 ≤ j → j ≤ 3 → kind r ≡ j → ⊥) → A
+    other f = absurd (true≢false (sym (judged-formed d r e) ∙ formed-other (kind r) (getD r 1 0) (getD r 2 0) (getD r 3 0) f))
 
 -- ---- the walk as a loop
 
@@ -195,50 +191,46 @@ module _ (tree : List ℕ) where
 
 -- ---- the verdict
 
--- Refusal 2's condition.
-unfoldable pub misfit : List ℕ → Bool
-misfit tree = eqb (length tree) 0 || not (wholeRecords 8 mostSteps tree)
-
 module _ (tree : List ℕ) where
-  pub misfit-part : (length tree % 8 ≡ 0 → ⊥) → misfit tree ≡ true
-  unfolding misfit wholeRecords
-  misfit-part h = rw (ne-eqb (length tree % 8) 0 h) (or-true (eqb (length tree) 0))
+  pub wrong-part : (length tree % 8 ≡ 0 → ⊥) → wrongLength tree ≡ true
+  unfolding wrongLength wholeRecords
+  wrong-part h = rw (ne-eqb (length tree % 8) 0 h) (or-true (eqb (length tree) 0))
 
-  pub misfit-empty : length tree / 8 ≡ 0 → misfit tree ≡ true
-  unfolding misfit
-  misfit-empty h =
+  pub wrong-empty : length tree / 8 ≡ 0 → wrongLength tree ≡ true
+  unfolding wrongLength
+  wrong-empty h =
       elim (ℕ-discrete (length tree) 0) [
         | yes e ↦ rw (eq-eqb (length tree) 0 e) refl
-        | no n ↦ misfit-part (λ e. absurd (omega arith))
+        | no n ↦ wrong-part (λ e. absurd (omega arith))
       ]
 
-  pub misfit-long : 4095 < length tree / 8 → misfit tree ≡ true
-  unfolding misfit wholeRecords
-  misfit-long h =
+  pub wrong-long : 4095 < length tree / 8 → wrongLength tree ≡ true
+  unfolding wrongLength wholeRecords
+  wrong-long h =
       rw (lt-leb (length tree / 8) 4095 h, and-false (eqb (length tree % 8) 0)) (or-true (eqb (length tree) 0))
 
-  pub fits : (length tree / 8 ≡ 0 → ⊥) → length tree % 8 ≡ 0 → length tree / 8 ≤ 4095 → misfit tree ≡ false
-  unfolding misfit wholeRecords
-  fits n e h =
+  pub right-length : (length tree / 8 ≡ 0 → ⊥) → length tree % 8 ≡ 0 → length tree / 8 ≤ 4095 → wrongLength tree ≡ false
+  unfolding wrongLength wholeRecords
+  right-length n e h =
       rw (ne-eqb (length tree) 0 (λ z. absurd (omega arith)), eq-eqb (length tree % 8) 0 e, le-leb (length tree / 8) 4095 h) refl
 
-  pub verdict-misfit : misfit tree ≡ true → treeVerdict tree ≡ record { number = 2; position = 0 }
-  unfolding misfit treeVerdict firstRefused refusedIf
-  verdict-misfit m = rw m refl
+  pub verdict-wrong : wrongLength tree ≡ true → treeVerdict tree ≡ record { number = 2; position = 0 }
+  unfolding wrongLength treeVerdict firstRefused refusedIf
+  verdict-wrong m = rw m refl
 
-  pub verdict-stop : misfit tree ≡ false → (v : Verdict) → treeWalk tree .verdict ≡ v → (v .number ≡ 0 → ⊥) → treeVerdict tree ≡ v
-  unfolding misfit treeVerdict firstRefused refusedIf accepted
+  pub verdict-stop : wrongLength tree ≡ false → (v : Verdict) → treeWalk tree .verdict ≡ v → (v .number ≡ 0 → ⊥) → treeVerdict tree ≡ v
+  unfolding wrongLength treeVerdict firstRefused refusedIf accepted
   verdict-stop m v e n = rw (m, e, ne-eqb (v .number) 0 n) refl
 
-  pub verdict-open : misfit tree ≡ false → treeWalk tree .verdict .number ≡ 0 → (treeWalk tree .state ≡ 0 → ⊥)
+  pub verdict-open : wrongLength tree ≡ false → treeWalk tree .verdict .number ≡ 0 → (treeWalk tree .state ≡ 0 → ⊥)
       → treeVerdict tree ≡ record { number = 5; position = length tree / 8 }
-  unfolding misfit treeVerdict firstRefused refusedIf accepted treeRecords
+  unfolding wrongLength treeVerdict firstRefused refusedIf accepted treeRecords
   verdict-open m e n =
       rw (m, eq-eqb (treeWalk tree .verdict .number) 0 e, ne-eqb (treeWalk tree .state) 0 n, length-records 8 tree) refl
 
-  pub verdict-accepted : misfit tree ≡ false → treeWalk tree .verdict .number ≡ 0 → treeWalk tree .state ≡ 0
+  pub verdict-accepted : wrongLength tree ≡ false → treeWalk tree .verdict .number ≡ 0 → treeWalk tree .state ≡ 0
       → treeVerdict tree ≡ record { number = 0; position = 0 }
-  unfolding misfit treeVerdict firstRefused refusedIf accepted
+  unfolding wrongLength treeVerdict firstRefused refusedIf accepted
   verdict-accepted m e z = rw (m, eq-eqb (treeWalk tree .verdict .number) 0 e, eq-eqb (treeWalk tree .state) 0 z) refl
 
 -- The answer that a verdict makes.
