@@ -36,6 +36,12 @@ eventCall p ks s e =
     cond (eqb (judgeEvent ks s e) 0) (record { verdict = accepted; state = next })
     (record { verdict = record { number = judgeEvent ks s e; position = 0 }; state = s })
 
+-- The state after a list of events: the first gets a state, "each later one the state that the one before it handed back, refused
+-- or not".
+unfoldable pub afterEvents : ℕ → List ℕ → Run → List (List ℕ) → Run
+afterEvents p ks s [] = s
+afterEvents p ks s (e ∷ es) = afterEvents p ks (eventCall p ks s e .state) es
+
 -- ---- lent buffers
 
 -- A lent buffer with the records at its front and, beyond them, its old bytes.

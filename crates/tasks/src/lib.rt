@@ -120,25 +120,33 @@ pub fn finish_before(tree: &[u8], step: Step) -> FinishChild
     FinishChild::From(Step(first))
 }
 
+// Whether running an opening step of this kind pushes the child and goes on with the parent. The one place where the policies
+// differ.
+pub fn pushes_child(policy: u8, kind: u8) -> bool
+    ensures { λ r. ⌜ r ≡ pushesChild policy kind ⌝ }
+{
+    if policy == HELP_FIRST {
+        return kind == ASYNC;
+    }
+    false
+}
+
 // What running an opening step holds next and pushes.
 pub struct Parts {
     pub hold: Step,
     pub push: Step,
 }
 
-// The parts of an opening step of this kind: `next` is the step after it, `cont` its continuation. The one place where the
-// policies differ.
+// The parts of an opening step of this kind: `next` is the step after it, `cont` its continuation.
 pub fn parts_of(policy: u8, kind: u8, next: Step, cont: Step) -> Parts
     ensures hold { λ r. ⌜ r .hold .0 ≡ cond (pushesChild policy kind) (cont .0) (next .0) ⌝ }
     ensures push { λ r. ⌜ r .push .0 ≡ cond (pushesChild policy kind) (next .0) (cont .0) ⌝ }
 {
-    if policy == HELP_FIRST {
-        if kind == ASYNC {
-            return Parts {
-                hold: cont,
-                push: next,
-            };
-        }
+    if pushes_child(policy, kind) {
+        return Parts {
+            hold: cont,
+            push: next,
+        };
     }
     Parts {
         hold: next,

@@ -1,0 +1,122 @@
+-- Tests and sums over lists.
+use Prim.Native.Nat.{ℕ, zero, suc, _+_, _≤_, _<_}
+use mathlib.Core.Path.{_≡_, refl, sym}
+use mathlib.Core.Bool.{Bool, true, false, cond, _&&_, _||_}
+use mathlib.Core.List.{List, [], _∷_}
+use native.Mathlib.Decide.{ℕ-discrete}
+use native.Mathlib.Nat.{zero-add}
+use native.Mathlib.Omega.{arith}
+use lib.ListN.{length, getD}
+use lib.Dec.{eqb, ltb}
+use borrow.Author.Tests.{lt-ltb, eq-eqb, ne-eqb}
+use Rattle.rules.specs.Bytes.{count, all, any, sum}
+use Rattle.tree.specs.Laws.Bools.{or-true}
+use Rattle.runs.specs.Invariant.{kept}
+
+-- ---- the numbers of an interval
+
+and-both : (x y : Bool) → x && y ≡ true → (x ≡ true) × (y ≡ true)
+and-both true y e = (refl, e)
+and-both false y e =
+    let z : _≡_ {A = ℕ} 0 1 = cc in
+    absurd (omega arith)
+
+-- A test of all numbers from a on, m of them, is the test of each j with a ≤ j < a + m.
+module _ (f : ℕ → Bool) where
+  pub all-count : (m a : ℕ) → all f (count a m) ≡ true → (j : ℕ) → a ≤ j → j < a + m → f j ≡ true
+  unfolding all count
+  all-count zero a e j l u = absurd (omega arith)
+  all-count (suc m) a e j l u =
+      let both = and-both (f a) (all f (count (suc a) m)) e in
+      elim (ℕ-discrete j a) [ yes s ↦ rw s (both .0) | no n ↦ all-count m (suc a) (both .1) j (omega arith) (omega arith) ]
+
+  pub count-all : (m a : ℕ) → ((j : ℕ) → a ≤ j → j < a + m → f j ≡ true) → all f (count a m) ≡ true
+  unfolding all count
+  count-all zero a t = refl
+  count-all (suc m) a t =
+      rw (t a (omega arith) (omega arith)) (count-all m (suc a) (λ j l u. t j (omega arith) (omega arith)))
+
+-- ---- members
+
+-- x stands in the list.
+abbrev pub Has : List ℕ → ℕ → Type 0
+Has l x = any (eqb x) l ≡ true
+
+pub has-head : (x : ℕ) (l : List ℕ) → Has (x ∷ l) x
+unfolding any
+has-head x l = rw (eq-eqb x x refl) refl
+
+has-tail : (x y : ℕ) (l : List ℕ) → Has l x → Has (y ∷ l) x
+unfolding any
+has-tail x y l m = rw m (or-true (eqb x y))
+
+-- In a list with a head, it is the head or stands behind it.
+pub has-cases : {P : Type 0} (x y : ℕ) (l : List ℕ) → Has (y ∷ l) x → (x ≡ y → P) → (Has l x → P) → P
+unfolding any
+has-cases x y l m head tail = elim (ℕ-discrete x y) [ yes s ↦ head s | no n ↦ tail (rw (ne-eqb x y n) at m) ]
+
+pub has-none : {P : Type 0} (x : ℕ) → Has [] x → P
+unfolding any
+has-none x m =
+    let z : _≡_ {A = ℕ} 0 1 = cc in
+    absurd (omega arith)
+
+pub has-sum : (f : ℕ → ℕ) (x : ℕ) (l : List ℕ) → Has l x → f x ≤ sum f l
+unfolding sum
+has-sum f x [] m = has-none x m
+has-sum f x (y ∷ l) m = has-cases x y l m (λ s. rw s (omega arith)) (λ t. omega (arith, has-sum f x l t))
+
+-- Tests of the members.
+module _ (f : ℕ → Bool) where
+  pub all-members : (l : List ℕ) → ((x : ℕ) → Has l x → f x ≡ true) → all f l ≡ true
+  unfolding all
+  all-members [] t = refl
+  all-members (x ∷ l) t = rw (t x (has-head x l)) (all-members l (λ y m. t y (has-tail y x l m)))
+
+  pub no-members : (l : List ℕ) → ((x : ℕ) → Has l x → f x ≡ false) → any f l ≡ false
+  unfolding any
+  no-members [] t = refl
+  no-members (x ∷ l) t = rw (t x (has-head x l)) (no-members l (λ y m. t y (has-tail y x l m)))
+
+  pub kept-members : (l : List ℕ) → ((x : ℕ) → Has l x → f x ≡ false) → kept f l ≡ l
+  unfolding kept
+  kept-members [] t = refl
+  kept-members (x ∷ l) t = rw (t x (has-head x l), kept-members l (λ y m. t y (has-tail y x l m))) refl
+
+-- ---- sums
+
+module _ {A : Type 0} where
+  pub sum-ones : (l : List A) → sum (λ x. 1) l ≡ length l
+  unfolding sum
+  sum-ones [] = refl
+  sum-ones (x ∷ l) = omega (arith, sum-ones l)
+
+  -- By places. Past the end stands d.
+  pub sum-at : (f : A → ℕ) (d : A) → f d ≡ 0 → (l : List A) (i : ℕ) → f (getD l i d) ≤ sum f l
+  unfolding sum
+  sum-at f d z [] i = omega arith
+  sum-at f d z (x ∷ l) zero = omega arith
+  sum-at f d z (x ∷ l) (suc i) = omega (arith, sum-at f d z l i)
+
+  pub sum-below : (f g : A → ℕ) (d : A) (l : List A) → ((i : ℕ) → f (getD l i d) ≤ g (getD l i d)) → sum f l ≤ sum g l
+  unfolding sum
+  sum-below f g d [] t = omega arith
+  sum-below f g d (x ∷ l) t = omega (arith, t 0, sum-below f g d l (λ i. t (suc i)))
+
+  pub sum-none : (f : A → ℕ) (d : A) (l : List A) → ((i : ℕ) → f (getD l i d) ≡ 0) → sum f l ≡ 0
+  unfolding sum
+  sum-none f d [] t = refl
+  sum-none f d (x ∷ l) t = omega (arith, t 0, sum-none f d l (λ i. t (suc i)))
+
+  -- A test passes somewhere where the count of its places is not 0.
+  pub any-sum : (f : A → Bool) (l : List A) → any f l ≡ ltb 0 (sum (λ x. cond (f x) 1 0) l)
+  unfolding any sum
+  any-sum f [] = refl
+  any-sum f (x ∷ l) = by (f x) (any-sum f l)
+    where
+      n : ℕ
+      n = sum (λ y. cond (f y) 1 0) l
+
+      by : (b : Bool) → any f l ≡ ltb 0 n → b || any f l ≡ ltb 0 (cond b 1 0 + n)
+      by true e = sym (lt-ltb 0 (1 + n) (omega arith))
+      by false e = rw zero-add e

@@ -1,0 +1,5 @@
+-- What is so of every run, whatever the scheduler does.
+--     Invariant   the statement: what holds of every state that events lead to (to be read)
+--     Laws        its proof, and what follows from it
+pub mod Invariant
+pub mod Laws
