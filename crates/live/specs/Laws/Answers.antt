@@ -1,0 +1,168 @@
+-- A run's and a steal's answer, case by case: on any state a refusal keeps it; on a state that shows a run the rules' verdict.
+use Prim.Native.Nat.{ℕ, _<_}
+use mathlib.Core.Path.{_≡_, refl}
+use mathlib.Core.Bool.{Bool, true, false, cond, _||_}
+use mathlib.Core.List.{List, [], _∷_}
+use mathlib.Core.Option.{Option, none, some}
+use native.Mathlib.Omega.{arith}
+use lib.ListN.{length, getD}
+use lib.Dec.{leb, ltb}
+use borrow.Author.Tests.{lt-ltb, le-ltb, le-leb, lt-leb, ne-eqb}
+use Rattle.rules.specs.Tree.{kinds}
+use Rattle.rules.specs.Scheduling.{mostWorkers, pushes, Run, workerAt, waits, judgeRun, runStep, holdsStep, judgeSteal, oldest, steal}
+use Rattle.moves.specs.Answers.{oldestMark, waitsFor}
+use Rattle.state.specs.declared.RunState.{RunState}
+use Rattle.state.specs.declared.TraceNumber.{TraceNumber}
+use Rattle.state.specs.declared.Outcome.{Outcome}
+use Rattle.state.specs.declared.Outcome.the-variants.{Ran, Stole, Refused}
+use Rattle.state.specs.declared.Answer.{Answer}
+use Rattle.state.specs.Answers.{refused, numberOf, ranState, runAnswer, robbedState, stealAnswer}
+use Rattle.live.specs.Tie.{Shows, heldStep}
+use Rattle.live.specs.Laws.Scans.{waits-shown}
+use Rattle.live.specs.Laws.Moves.{Known, Stolen, held-none, held-some, run-shows, nothing-found, steal-shows}
+
+-- ---- any state
+
+-- If the answer refuses, its state is s.
+pub record Keeps (s : RunState) (answer : Answer) : Type 0 where
+  pub same : (number : ℕ) → answer .outcome ≡ Refused number → answer .state ≡ s
+
+module _ (s : RunState) where
+  pub keeps-if : (b : Bool) {x y : Answer} → Keeps s x → Keeps s y → Keeps s (cond b x y)
+  keeps-if true k l = k
+  keeps-if false k l = l
+
+  keeps-refused : (number : ℕ) → Keeps s (refused number s)
+  unfolding refused
+  keeps-refused number = record { same = λ n e. refl }
+
+  pub keeps-run : (tree : List ℕ) (w : ℕ) → Keeps s (runAnswer s tree w)
+  unfolding runAnswer
+  keeps-run tree w =
+      let n = length (kinds tree) in
+      let i = getD (s .held) w 0 in
+      keeps-if (leb 16 w) (keeps-refused 8)
+      (keeps-if (ltb 4095 n) (keeps-refused 2)
+      (keeps-if (leb n i) (keeps-refused 9)
+      (keeps-if (waitsFor (kinds tree) (s .place) i) (keeps-refused 10)
+      (record { same = λ m e. let z : _≡_ {A = ℕ} 0 1 = cc in absurd (omega arith) }))))
+
+  keeps-found : (found : Option ℕ) (number : ℕ → TraceNumber) (next : ℕ → RunState)
+      → Keeps s (elim found [ none ↦ refused 12 s | some q ↦ record { outcome = Stole (number q); state = next q } ])
+  keeps-found none number next = keeps-refused 12
+  keeps-found (some q) number next = record { same = λ m e. let z : _≡_ {A = ℕ} 0 1 = cc in absurd (omega arith) }
+
+  pub keeps-steal : (tree : List ℕ) (t v : ℕ) → Keeps s (stealAnswer s tree t v)
+  unfolding stealAnswer
+  keeps-steal tree t v =
+      let n = length (kinds tree) in
+      keeps-if (leb 16 t || leb 16 v) (keeps-refused 8)
+      (keeps-if (ltb 4095 n) (keeps-refused 2)
+      (keeps-if (ltb (getD (s .held) t 0) n) (keeps-refused 11)
+      (keeps-found (oldestMark (s .place) v (getD (s .low) v 0) n)
+      (λ q. numberOf (s .policy) (kinds tree) (pushes (s .policy) (kinds tree) q)) (robbedState s (kinds tree) t v))))
+
+-- ---- a state that shows a run
+
+-- An answer on the state s, and the rules' number, word and next run: both refuse with that number, or both accept.
+pub data Agrees (p : ℕ) (ks : List ℕ) (s : RunState) (answer : Answer) (number : ℕ) (word : Outcome) (next : Run) : Type 0 where
+  refuses : (number ≡ 0 → ⊥) → answer ≡ refused number s → Agrees p ks s answer number word next
+  accepts : number ≡ 0 → answer .outcome ≡ word → Shows p ks (answer .state) next → Agrees p ks s answer number word next
+
+module _ {p : ℕ} (tree : List ℕ) {s : RunState} {r : Run} (known : Known p (kinds tree) s r) where
+  -- A run by worker w.
+  module _ (w : ℕ) (few : w < mostWorkers) where
+    idle-answer : workerAt r w .hand .held ≡ none → runAnswer s tree w ≡ refused 9 s
+    unfolding runAnswer
+    idle-answer e =
+        let n = length (kinds tree) in
+        rw (
+          lt-leb 16 w few,
+          le-ltb 4095 n (known .most),
+          held-none known w few e,
+          le-leb n 65535 (omega (arith, known .most)),
+        ) refl
+
+    held-answer : (i : ℕ) → workerAt r w .hand .held ≡ some i
+        → runAnswer s tree w
+        ≡ cond (waits (kinds tree) (r .log) i) (refused 10 s)
+        (record { outcome = Ran (record { 0 = getD (s .phase) w 0 }) (record { 0 = i }); state = ranState s (kinds tree) w i })
+    unfolding runAnswer
+    held-answer i e =
+        let n = length (kinds tree) in
+        let held = held-some known w i few e in
+        let waiting = waits-shown (kinds tree) (s .place) (r .log) (known .shows .unrun) i (held .1) in
+        rw (lt-leb 16 w few, le-ltb 4095 n (known .most), held .0, lt-leb n i (held .1), waiting) refl
+
+    abbrev pub RunAgrees : Type 0
+    RunAgrees =
+        Agrees p (kinds tree) s (runAnswer s tree w) (judgeRun (kinds tree) r w)
+        (Ran (record { 0 = workerAt r w .phase }) (record { 0 = heldStep (workerAt r w) })) (runStep p (kinds tree) r w)
+
+    run-by : (i : ℕ) → workerAt r w .hand .held ≡ some i → (b : Bool) → waits (kinds tree) (r .log) i ≡ b → RunAgrees
+    unfolding judgeRun heldStep
+    run-by i e true h = rw (held-answer i e, h, e, judgeRun, h) (refuses (omega arith) refl)
+    run-by i e false h =
+        rw (held-answer i e, h)
+        (accepts (rw (e, judgeRun, h) refl) (rw (known .shows .hands w few .latest, e, heldStep) refl) (run-shows known w i few e))
+
+    pub run-agrees : RunAgrees
+    unfolding judgeRun
+    run-agrees = by (workerAt r w .hand .held) refl
+      where
+        by : (o : Option ℕ) → workerAt r w .hand .held ≡ o → RunAgrees
+        by none e = rw (idle-answer e, e, judgeRun) (refuses (omega arith) refl)
+        by (some i) e = run-by i e (waits (kinds tree) (r .log) i) refl
+
+  -- A steal by t from v.
+  module _ (t v : ℕ) (small : t < mostWorkers) (few : v < mostWorkers) (other : t ≡ v → ⊥) where
+    steal-answer : (found : Option ℕ) → oldestMark (s .place) v (getD (s .low) v 0) (length (kinds tree)) ≡ found
+        → stealAnswer s tree t v
+        ≡ cond (ltb (getD (s .held) t 0) (length (kinds tree))) (refused 11 s)
+        (elim found [
+          | none ↦ refused 12 s
+          | some q ↦ record {
+            outcome = Stole (numberOf (s .policy) (kinds tree) (pushes (s .policy) (kinds tree) q));
+            state = robbedState s (kinds tree) t v q;
+          }
+        ])
+    unfolding stealAnswer
+    steal-answer found e = rw (lt-leb 16 t small, lt-leb 16 v few, le-ltb 4095 (length (kinds tree)) (known .most), e) refl
+
+    abbrev pub StealAgrees : Type 0
+    StealAgrees =
+        Agrees p (kinds tree) s (stealAnswer s tree t v) (judgeSteal r t v)
+        (Stole (numberOf p (kinds tree) (oldest (workerAt r v .hand .deque)))) (steal r t v)
+
+    steal-busy : (j : ℕ) → workerAt r t .hand .held ≡ some j → StealAgrees
+    unfolding judgeSteal holdsStep
+    steal-busy j e =
+        let held = held-some known t j small e in
+        rw (steal-answer _ refl, held .0, lt-ltb j (length (kinds tree)) (held .1), e, holdsStep) (refuses (omega arith) refl)
+
+    not-busy : workerAt r t .hand .held ≡ none → ltb (getD (s .held) t 0) (length (kinds tree)) ≡ false
+    not-busy e = rw (held-none known t small e) (le-ltb 65535 (length (kinds tree)) (omega (arith, known .most)))
+
+    steal-taken : workerAt r t .hand .held ≡ none → (length (workerAt r v .hand .deque) ≡ 0 → ⊥) → (q : ℕ)
+        → Stolen p (kinds tree) s r t v q → StealAgrees
+    unfolding judgeSteal holdsStep
+    steal-taken e full q stolen =
+        rw (steal-answer (some q) (stolen .found), not-busy e)
+        (accepts (rw (e, holdsStep, ne-eqb (length (workerAt r v .hand .deque)) 0 full) refl)
+        (rw (known .shows .policy, stolen .taken) refl) (stolen .next))
+
+    steal-by : workerAt r t .hand .held ≡ none → (deque : List ℕ) → workerAt r v .hand .deque ≡ deque → StealAgrees
+    unfolding judgeSteal holdsStep
+    steal-by e [] d =
+        rw (steal-answer none (nothing-found known v few d), not-busy e, e, holdsStep, d) (refuses (omega arith) refl)
+    steal-by e (x ∷ xs) d =
+        let full : length (workerAt r v .hand .deque) ≡ 0 → ⊥ = rw d (omega arith) in
+        let stolen = steal-shows known t v small few other e full in
+        steal-taken e full (stolen .0) (stolen .1)
+
+    pub steal-agrees : StealAgrees
+    steal-agrees = by (workerAt r t .hand .held) refl
+      where
+        by : (o : Option ℕ) → workerAt r t .hand .held ≡ o → StealAgrees
+        by none e = steal-by e (workerAt r v .hand .deque) refl
+        by (some j) e = steal-busy j e

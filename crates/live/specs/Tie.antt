@@ -1,0 +1,86 @@
+-- How a state by value shows a run of the rules, and what its calls answer then. `p` is the policy, `ks` the tree's kinds.
+use Prim.Native.Nat.{ℕ, _≤_, _<_}
+use mathlib.Core.Path.{_≡_}
+use mathlib.Core.Bool.{false, cond, not}
+use mathlib.Core.List.{List, [], _∷_, map}
+use mathlib.Core.Option.{Option, none, some}
+use lib.ListN.{length, getD}
+use lib.Dec.{eqb}
+use Rattle.rules.specs.Bytes.{any}
+use Rattle.rules.specs.Tree.{kinds, kindAt, isEnd, taskEnd}
+use Rattle.rules.specs.Scheduling.{mostWorkers, pushes, Worker, Run, workerAt, hasRun, isRun, oldest, judgeEvent}
+use Rattle.rules.specs.Calls.{eventCall}
+use Rattle.moves.specs.Answers.{marked}
+use Rattle.state.specs.declared.RunState.{RunState}
+use Rattle.state.specs.declared.Outcome.{Outcome}
+use Rattle.state.specs.declared.Outcome.the-variants.{Ran, Stole, Refused}
+use Rattle.state.specs.Answers.{numberOf, eventAnswer}
+
+-- ---- a worker
+
+-- The pushers of a deque's steps, newest first: opening steps, the held step x past the first of them and before the end of its
+-- task, each so with respect to the next, and none below `low`.
+abbrev pub Line : List ℕ → ℕ → ℕ → List ℕ → Type 0
+Line ks low x [] = (low ≤ x) × (x < length ks)
+Line ks low x (q ∷ qs) = (isEnd (kindAt ks q) ≡ false) × (q < x) × (x < taskEnd ks q) × Line ks low q qs
+
+-- What the state has for a held step, and its `low`.
+abbrev pub HeldShown : List ℕ → Option ℕ → ℕ → ℕ → List ℕ → Type 0
+HeldShown ks none held low qs = (held ≡ 65535) × (qs ≡ [])
+HeldShown ks (some h) held low qs = (held ≡ h) × Line ks low h qs
+
+-- The steps marked with w are the pushers of its deque's steps.
+pub record HandShown (p : ℕ) (ks place : List ℕ) (w held low phase : ℕ) (worker : Worker) : Type 0 where
+  pub pushers : List ℕ
+  pub deque : worker .hand .deque ≡ map (pushes p ks) pushers
+  pub marks : (j : ℕ) → j < length ks → marked place w j ≡ any (eqb j) pushers
+  pub holding : HeldShown ks (worker .hand .held) held low pushers
+  pub latest : phase ≡ worker .phase
+
+-- ---- the state
+
+pub record Shows (p : ℕ) (ks : List ℕ) (s : RunState) (r : Run) : Type 0 where
+  pub policy : s .policy ≡ p
+  pub places : length (s .place) ≡ 4095
+  pub helds : length (s .held) ≡ mostWorkers
+  pub phases : length (s .phase) ≡ mostWorkers
+  pub lows : length (s .low) ≡ mostWorkers
+  pub workers : length (r .workers) ≡ mostWorkers
+  pub hands : (w : ℕ) → w < mostWorkers
+      → HandShown p ks (s .place) w (getD (s .held) w 0) (getD (s .low) w 0) (getD (s .phase) w 0) (workerAt r w)
+  -- 17 is the mark of the steps that have not run.
+  pub unrun : (j : ℕ) → j < length ks → eqb (getD (s .place) j 0) 17 ≡ not (hasRun (r .log) j)
+  pub steals : s .steals ≡ length (r .steals)
+
+-- ---- what an event's call tells
+
+-- The step that a worker holds.
+unfoldable pub heldStep : Worker → ℕ
+heldStep worker = elim (worker .hand .held) [ none ↦ 0 | some i ↦ i ]
+
+-- By the rules: the refusal; or of a run its log record, phase and step; or of a steal its trace number.
+unfoldable pub told : ℕ → List ℕ → Run → List ℕ → Outcome
+told p ks r e =
+    let first = workerAt r (getD e 0 0) in
+    let second = workerAt r (getD e 1 0) in
+    let ran = Ran (record { 0 = first .phase }) (record { 0 = heldStep first }) in
+    let stole = Stole (numberOf p ks (oldest (second .hand .deque))) in
+    cond (eqb (judgeEvent ks r e) 0) (cond (isRun e) ran stole) (Refused (judgeEvent ks r e))
+
+-- ---- lists of events
+
+-- By the rules, of each event in order.
+unfoldable pub toldAll : ℕ → List ℕ → Run → List (List ℕ) → List Outcome
+toldAll p ks r [] = []
+toldAll p ks r (e ∷ es) = told p ks r e ∷ toldAll p ks (eventCall p ks r e .state) es
+
+-- By the calls: each gets the state that the one before it handed back, refused or not.
+unfoldable pub outcomes : List ℕ → RunState → List (List ℕ) → List Outcome
+outcomes tree s [] = []
+outcomes tree s (e ∷ es) =
+    let answer = eventAnswer s tree (getD e 0 0) (getD e 1 0) in
+    answer .outcome ∷ outcomes tree (answer .state) es
+
+unfoldable pub stateAfter : List ℕ → RunState → List (List ℕ) → RunState
+stateAfter tree s [] = s
+stateAfter tree s (e ∷ es) = stateAfter tree (eventAnswer s tree (getD e 0 0) (getD e 1 0) .state) es

@@ -1,0 +1,37 @@
+-- `moves::held_after` meets its contract: it takes the branch that `pushesChild` takes. Assumes nothing.
+use mathlib.Core.Path.{sym, _∙_}
+use native.Mathlib.Omega.{arith}
+use Rattle.rules.specs.Tree.{kinds}
+use Rattle.tree.specs.Laws.Records.{length-kinds}
+use Rattle.moves.specs.Laws.Steps.{holds-cont, holds-next}
+use borrow.Author.Needs.{needs}
+use Rattle.moves.proofs.held_after.Statement.{statement}
+use Rattle.moves.proofs.held_after.Tie as tie
+
+kind-requires : tie.Need-kind-requires
+kind-requires c κs = search needs
+
+pushes-child-requires : tie.Need-pushes-child-requires
+pushes-child-requires c κs = search needs
+
+cont-requires : tie.Need-cont-requires
+cont-requires c κs = search needs
+
+returns : tie.Need-returns
+returns c =
+    let a = c .before .before .before .before .before .args in
+    c .cont .ensures
+    ∙ holds-cont (a .policy) (kinds (a .tree .now)) (a .step .0) (rw (c .before .before .before .kind .ensures) at (sym (c .before .before .pushes-child .ensures) ∙ c .before .if1 .taken))
+
+add-t7 : tie.Need-add-t7
+add-t7 c =
+    omega (arith, length-kinds (c .before .before .before .before .args .tree .now))
+
+returns-2 : tie.Need-returns-2
+returns-2 c =
+    let a = c .before .before .before .before .args in
+    holds-next (a .policy) (kinds (a .tree .now)) (a .step .0) (rw (c .before .before .kind .ensures) at (sym (c .before .pushes-child .ensures) ∙ c .if1 .left))
+
+pub held-after-spec : {M : Type 1} → statement M
+held-after-spec =
+    tie.close (tie.spec kind-requires pushes-child-requires cont-requires returns add-t7 returns-2)

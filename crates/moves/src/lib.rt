@@ -1,0 +1,146 @@
+// What runs and steals do to the deques of all workers, which are kept in one byte for each step (document 01, "Scheduling"):
+// `place[j]` is NOT_RUN, or RUN, or the number of the worker in whose deque the step is that step j pushed when it ran. A deque is
+// in the order of its pushers, so its newest step is that of its highest pusher, its oldest that of its lowest. No links are
+// kept: any bytes are safe to scan.
+ghost use mathlib.Core.Path.{_≡_};
+ghost use Prim.Native.Nat.{_≤_, _<_};
+ghost use lib.ListN.{length};
+ghost use Rattle.rules.specs.Tree.{kinds};
+ghost use Rattle.rules.specs.Scheduling.{holds, pushes};
+ghost use Rattle.moves.specs.Answers.{newestMark, oldestMark, pusherOf, allRun, waitsFor, popped, robbed};
+use tasks::FinishChild;
+use tasks::cont;
+use tasks::finish_before;
+use tasks::pushes_child;
+use tree::Step;
+use tree::kind;
+
+// A step that has run, where the step that it pushed, if any, is in no deque any more.
+pub const RUN: u8 = 16;
+
+// A step that has not run.
+pub const NOT_RUN: u8 = 17;
+
+// The pusher of a step of a deque, or none.
+pub enum Pusher {
+    At(Step),
+    Nothing,
+}
+
+// The highest step marked with the worker among those from `low` to before `end`.
+pub fn newest(place: &[u8; 4095], worker: u8, low: usize, end: usize) -> Pusher
+    requires { ⌜ end ≤ 4095 ⌝ }
+    ensures { λ r. ⌜ r ≡ pusherOf (newestMark (now (place .entry)) worker low end) ⌝ }
+{
+    let mut j = end;
+    while low < j {
+        j -= 1;
+        if place[j] == worker {
+            return Pusher::At(Step(j));
+        }
+    }
+    Pusher::Nothing
+}
+
+// The lowest.
+pub fn oldest(place: &[u8; 4095], worker: u8, low: usize, end: usize) -> Pusher
+    requires { ⌜ end ≤ 4095 ⌝ }
+    ensures { λ r. ⌜ r ≡ pusherOf (oldestMark (now (place .entry)) worker low end) ⌝ }
+{
+    let mut j = low;
+    while j < end {
+        if place[j] == worker {
+            return Pusher::At(Step(j));
+        }
+        j += 1;
+    }
+    Pusher::Nothing
+}
+
+// Whether all steps from `first` to before `end` have run.
+pub fn all_run(place: &[u8; 4095], first: usize, end: usize) -> bool
+    requires { ⌜ end ≤ 4095 ⌝ }
+    ensures { λ r. ⌜ r ≡ allRun (now (place .entry)) first end ⌝ }
+{
+    let mut j = first;
+    while j < end {
+        if place[j] == NOT_RUN {
+            return false;
+        }
+        j += 1;
+    }
+    true
+}
+
+// Whether a held step waits for a finish child.
+pub fn waits(tree: &[u8], place: &[u8; 4095], step: Step) -> bool
+    requires { ⌜ step .0 ≤ 4095 ⌝ }
+    ensures { λ r. ⌜ r ≡ waitsFor (kinds (now (tree .entry))) (now (place .entry)) (step .0) ⌝ }
+{
+    match finish_before(tree, step) {
+        FinishChild::From(first) => !all_run(place, first.0, step.0),
+        FinishChild::Nothing => false,
+    }
+}
+
+// The step that running an opening step holds next.
+pub fn held_after(tree: &[u8], policy: u8, step: Step) -> Step
+    requires { ⌜ step .0 < length (kinds (now tree)) ⌝ }
+    ensures { λ r. ⌜ r .0 ≡ holds policy (kinds (now (tree .entry))) (step .0) ⌝ }
+{
+    let i = step.0;
+    if pushes_child(policy, kind(tree, step)) {
+        return cont(tree, step);
+    }
+    Step(i + 1)
+}
+
+// The step that running an opening step pushes.
+pub fn pushed_by(tree: &[u8], policy: u8, step: Step) -> Step
+    requires { ⌜ step .0 < length (kinds (now tree)) ⌝ }
+    ensures { λ r. ⌜ r .0 ≡ pushes policy (kinds (now (tree .entry))) (step .0) ⌝ }
+{
+    let i = step.0;
+    if pushes_child(policy, kind(tree, step)) {
+        return Step(i + 1);
+    }
+    cont(tree, step)
+}
+
+// A worker runs an end: the step has run, and the newest step of the worker's deque leaves it. Gives that step's pusher.
+pub fn pop(place: &mut [u8; 4095], worker: u8, low: usize, step: Step) -> Pusher
+    requires { ⌜ step .0 < 4095 ⌝ }
+    ensures gives { λ r. ⌜ r ≡ pusherOf (newestMark (now (place .entry)) worker low (step .0)) ⌝ }
+    ensures marks { λ r. ⌜ now (place .exit) ≡ popped (now (place .entry)) worker low (step .0) ⌝ }
+{
+    let i = step.0;
+    match newest(place, worker, low, i) {
+        Pusher::At(q) => {
+            let p = q.0;
+            place[i] = RUN;
+            place[p] = RUN;
+            Pusher::At(q)
+        }
+        Pusher::Nothing => {
+            place[i] = RUN;
+            Pusher::Nothing
+        }
+    }
+}
+
+// A thief takes the oldest step of the victim's deque, among the steps pushed by those from `low` to before `end`. Gives that
+// step's pusher.
+pub fn take(place: &mut [u8; 4095], victim: u8, low: usize, end: usize) -> Pusher
+    requires { ⌜ end ≤ 4095 ⌝ }
+    ensures gives { λ r. ⌜ r ≡ pusherOf (oldestMark (now (place .entry)) victim low end) ⌝ }
+    ensures marks { λ r. ⌜ now (place .exit) ≡ robbed (now (place .entry)) victim low end ⌝ }
+{
+    match oldest(place, victim, low, end) {
+        Pusher::At(q) => {
+            let p = q.0;
+            place[p] = RUN;
+            Pusher::At(q)
+        }
+        Pusher::Nothing => Pusher::Nothing,
+    }
+}

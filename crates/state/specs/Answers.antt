@@ -1,0 +1,153 @@
+-- What each call answers, and every field of the state that it hands back: functions of the state, the tree's bytes and the
+-- event alone, for any of them. On the states that a run leads to these are the rules; on any other a held step that the tree
+-- has not is none, and a tree with too many records is refused with 2.
+use Prim.Native.Nat.{ℕ, zero, suc, _+_, _*_, _%_}
+use mathlib.Core.Bool.{Bool, cond, _||_}
+use mathlib.Core.List.{List}
+use mathlib.Core.Option.{none, some}
+use lib.ListN.{length, getD, set, replicate}
+use lib.Dec.{eqb, leb, ltb}
+use Rattle.rules.specs.Tree.{kinds, kindAt, isEnd, ordinal, mostSteps}
+use Rattle.rules.specs.Scheduling.{workFirst, mostWorkers, holds, pushes}
+use Rattle.rules.specs.Calls.{startVerdict}
+use Rattle.moves.specs.Answers.{newestMark, oldestMark, waitsFor, popped, robbed}
+use Rattle.state.specs.declared.RunState.{RunState}
+use Rattle.state.specs.declared.TraceNumber.{TraceNumber}
+use Rattle.state.specs.declared.TraceNumber.the-variants.{ByOrdinal, BySerial}
+use Rattle.state.specs.declared.Outcome.{Outcome}
+use Rattle.state.specs.declared.Outcome.the-variants.{Ran, Stole, Refused}
+use Rattle.state.specs.declared.Answer.{Answer}
+use Rattle.state.specs.declared.Started.{Started}
+use Rattle.state.specs.declared.Idle.{Idle}
+
+-- ---- the start
+
+-- "All other results 0": the state beside a refusal.
+unfoldable pub zeros : RunState
+zeros =
+    record {
+      place = replicate 4095 0;
+      held = replicate 16 0;
+      phase = replicate 16 0;
+      low = replicate 16 0;
+      steals = 0;
+      policy = 0;
+    }
+
+-- "Worker 0 holds step 0 and that begins phase 0. The other 15 workers are idle." No step has run.
+unfoldable pub fresh : ℕ → RunState
+fresh p =
+    record {
+      place = replicate 4095 17;
+      held = set (replicate 16 65535) 0 0;
+      phase = replicate 16 0;
+      low = replicate 16 0;
+      steals = 0;
+      policy = p;
+    }
+
+unfoldable pub startAnswer : ℕ → List ℕ → Started
+startAnswer p tree =
+    let refusal = startVerdict p tree in
+    record {
+      number = refusal .number;
+      position = refusal .position;
+      state = cond (eqb (refusal .number) 0) (fresh p) zeros;
+    }
+
+-- ---- events
+
+unfoldable pub refused : ℕ → RunState → Answer
+refused number s = record { outcome = Refused number; state = s }
+
+-- The trace number of a stolen step: its ordinal or its serial number, and never the one for the other.
+unfoldable pub numberOf : ℕ → List ℕ → ℕ → TraceNumber
+numberOf p ks step = cond (eqb p workFirst) (ByOrdinal (record { 0 = ordinal ks step })) (BySerial (record { 0 = step }))
+
+-- The step that worker w holds once it has run step i.
+unfoldable pub heldNext : RunState → List ℕ → ℕ → ℕ → ℕ
+heldNext s ks w i =
+    let newest = newestMark (s .place) w (getD (s .low) w 0) i in
+    cond (isEnd (kindAt ks i)) (elim newest [ none ↦ 65535 | some q ↦ pushes (s .policy) ks q ]) (holds (s .policy) ks i)
+
+-- Worker w has run step i.
+unfoldable pub ranState : RunState → List ℕ → ℕ → ℕ → RunState
+ranState s ks w i =
+    record {
+      place = cond (isEnd (kindAt ks i)) (popped (s .place) w (getD (s .low) w 0) i) (set (s .place) i w);
+      held = set (s .held) w (heldNext s ks w i);
+      phase = s .phase;
+      low = s .low;
+      steals = s .steals;
+      policy = s .policy;
+    }
+
+unfoldable pub runAnswer : RunState → List ℕ → ℕ → Answer
+runAnswer s tree w =
+    let ks = kinds tree in
+    let i = getD (s .held) w 0 in
+    let ran = Ran (record { 0 = getD (s .phase) w 0 }) (record { 0 = i }) in
+    cond (leb mostWorkers w) (refused 8 s)
+    (cond (ltb mostSteps (length ks)) (refused 2 s)
+    (cond (leb (length ks) i) (refused 9 s)
+    (cond (waitsFor ks (s .place) i) (refused 10 s) (record { outcome = ran; state = ranState s ks w i }))))
+
+-- The number of the phase that begins at the next steal. A run has at most 2,048 phases.
+unfoldable pub nextPhase : RunState → ℕ
+nextPhase s = s .steals % 2048 + 1
+
+-- The thief t has taken from v the step that step q pushed.
+unfoldable pub robbedState : RunState → List ℕ → ℕ → ℕ → ℕ → RunState
+robbedState s ks t v q =
+    let taken = pushes (s .policy) ks q in
+    record {
+      place = robbed (s .place) v (getD (s .low) v 0) (length ks);
+      held = set (s .held) t taken;
+      phase = set (s .phase) t (nextPhase s);
+      low = set (set (s .low) v (suc q)) t taken;
+      steals = nextPhase s;
+      policy = s .policy;
+    }
+
+unfoldable pub stealAnswer : RunState → List ℕ → ℕ → ℕ → Answer
+stealAnswer s tree t v =
+    let ks = kinds tree in
+    cond (leb mostWorkers t || leb mostWorkers v) (refused 8 s)
+    (cond (ltb mostSteps (length ks)) (refused 2 s)
+    (cond (ltb (getD (s .held) t 0) (length ks)) (refused 11 s)
+    (elim (oldestMark (s .place) v (getD (s .low) v 0) (length ks)) [
+      | none ↦ refused 12 s
+      | some q ↦ record { outcome = Stole (numberOf (s .policy) ks (pushes (s .policy) ks q)); state = robbedState s ks t v q }
+    ])))
+
+-- "Equal bytes: that worker runs its step. Different bytes: the first steals from the second."
+unfoldable pub eventAnswer : RunState → List ℕ → ℕ → ℕ → Answer
+eventAnswer s tree a b = cond (eqb a b) (runAnswer s tree a) (stealAnswer s tree a b)
+
+-- ---- the idle workers
+
+-- A worker is idle where what it has for a held step is none of any tree.
+unfoldable pub isIdle : ℕ → Bool
+isIdle held = leb mostSteps held
+
+-- Of the m workers from worker i on: the set as bits, the lowest worker's lowest; how many are idle; the lowest that is.
+unfoldable pub idleBits : List ℕ → ℕ → ℕ → ℕ
+idleBits held i zero = 0
+idleBits held i (suc m) = cond (isIdle (getD held i 0)) 1 0 + 2 * idleBits held (suc i) m
+
+unfoldable pub idleNumber : List ℕ → ℕ → ℕ → ℕ
+idleNumber held i zero = 0
+idleNumber held i (suc m) = cond (isIdle (getD held i 0)) 1 0 + idleNumber held (suc i) m
+
+unfoldable pub idleFirst : List ℕ → ℕ → ℕ → ℕ
+idleFirst held i zero = mostWorkers
+idleFirst held i (suc m) = cond (isIdle (getD held i 0)) i (idleFirst held (suc i) m)
+
+unfoldable pub idleAnswer : RunState → Idle
+idleAnswer s =
+    record {
+      set = idleBits (s .held) 0 mostWorkers;
+      count = idleNumber (s .held) 0 mostWorkers;
+      lowest = idleFirst (s .held) 0 mostWorkers;
+      state = s;
+    }
