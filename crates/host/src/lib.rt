@@ -5,7 +5,11 @@ ghost use lib.ListN.{getD};
 ghost use Rattle.rules.specs.Tree.{kinds, weights, kindAt, cont, finishBefore};
 ghost use Rattle.tree.specs.Answers.{acceptance};
 ghost use Rattle.tasks.specs.Answers.{taskOf, childOf, runningOf};
-ghost use Rattle.host.specs.Answers.{flatTree, flatTask, flatChild, flatRunning};
+ghost use Rattle.state.specs.Answers.{startAnswer, eventAnswer, idleAnswer};
+ghost use Rattle.host.specs.Answers.{flatTree, flatTask, flatChild, flatRunning, flatStart, flatEvent, flatIdle};
+use state::Outcome;
+use state::RunState;
+use state::TraceNumber;
 use tree::Step;
 
 // A tree's refusal and position, or its count of steps.
@@ -105,5 +109,104 @@ pub extern "C" fn frame_running(tree: &[u8], policy: u8, step: usize) -> FrameRu
             hold: 0,
             push: 0,
         },
+    }
+}
+
+// A start's refusal and position, or the first state. The state beside a refusal is all 0.
+#[repr(C)]
+pub struct FrameStart {
+    pub number: usize,
+    pub position: usize,
+    pub state: RunState,
+}
+
+#[no_mangle]
+pub extern "C" fn frame_start(tree: &[u8], policy: u8) -> FrameStart
+    ensures { λ r. ⌜ r ≡ flatStart (startAnswer policy (now (tree .entry))) ⌝ }
+{
+    let a = state::start(tree, policy);
+    let state = a.state;
+    FrameStart {
+        number: a.number as usize,
+        position: a.position,
+        state,
+    }
+}
+
+// An event's refusal, or what it did: `what` is 1 for a run, of `step` in `phase`, and 2 for a steal, whose trace record has
+// `trace`. What is not answered is 0. The state is the next one, and after a refusal the very state given.
+#[repr(C)]
+pub struct FrameEvent {
+    pub number: usize,
+    pub what: usize,
+    pub phase: usize,
+    pub step: usize,
+    pub trace: usize,
+    pub state: RunState,
+}
+
+// Equal bytes: that worker runs its step. Different bytes: the first steals from the second.
+#[no_mangle]
+pub extern "C" fn frame_event(state: RunState, tree: &[u8], first: u8, second: u8) -> FrameEvent
+    ensures { λ r. ⌜ r ≡ flatEvent (eventAnswer state (now (tree .entry)) first second) ⌝ }
+{
+    let a = state.event(tree, first, second);
+    let state = a.state;
+    let outcome = a.outcome;
+    match outcome {
+        Outcome::Ran { phase, step } => FrameEvent {
+            number: 0,
+            what: 1,
+            phase: phase.0,
+            step: step.0,
+            trace: 0,
+            state,
+        },
+        Outcome::Stole(number) => match number {
+            TraceNumber::ByOrdinal(ordinal) => FrameEvent {
+                number: 0,
+                what: 2,
+                phase: 0,
+                step: 0,
+                trace: ordinal.0,
+                state,
+            },
+            TraceNumber::BySerial(step) => FrameEvent {
+                number: 0,
+                what: 2,
+                phase: 0,
+                step: 0,
+                trace: step.0,
+                state,
+            },
+        },
+        Outcome::Refused(number) => FrameEvent {
+            number: number as usize,
+            what: 0,
+            phase: 0,
+            step: 0,
+            trace: 0,
+            state,
+        },
+    }
+}
+
+// The idle workers: worker w is bit w of `set`; how many; the lowest, 16 for none.
+#[repr(C)]
+pub struct FrameIdle {
+    pub set: usize,
+    pub count: usize,
+    pub lowest: usize,
+}
+
+#[no_mangle]
+pub extern "C" fn frame_idle(state: RunState) -> FrameIdle
+    ensures { λ r. ⌜ r ≡ flatIdle (idleAnswer state) ⌝ }
+{
+    let a = state.idle();
+    FrameIdle {
+        set: a.set as usize,
+        count: a.count as usize,
+        lowest: a.lowest as usize,
     }
 }
