@@ -9,8 +9,8 @@ use mathlib.Core.Option.{none, some}
 use lib.ListN.{length, take}
 use lib.Dec.{eqb}
 use Rattle.rules.specs.Bytes.{all, any, sum}
-use Rattle.rules.specs.Tree.{kindAt, isEnd, taskEnd, cont}
-use Rattle.rules.specs.Scheduling.{workFirst, Hand, pushes, pop, Phase, phaseAt, Worker, Entry, Steal, Run, workerAt, holdsStep}
+use Rattle.rules.specs.Tree.{kindAt, isFinish, isEnd, taskEnd, cont}
+use Rattle.rules.specs.Scheduling.{workFirst, Hand, pushes, pop, Phase, phaseAt, Worker, Entry, Run, workerAt, hasRun, holdsStep}
 use Rattle.rules.specs.Traces.{lastStolen, runAlone}
 
 -- ---- what a phase has run, and what it has still to run
@@ -55,6 +55,10 @@ Chain p ks x [] = x < length ks
 Chain p ks x (s ∷ r) =
     (q : ℕ) × (s ≡ pushes p ks q) × (isEnd (kindAt ks q) ≡ false) × (q < x) × (x < taskEnd ks q) × Chain p ks q r
 
+-- Step x was pushed by an opening step.
+abbrev pub Pushed : ℕ → List ℕ → ℕ → Type 0
+Pushed p ks x = (q : ℕ) × (q < length ks) × (isEnd (kindAt ks q) ≡ false) × (x ≡ pushes p ks q)
+
 abbrev pub Chained : ℕ → List ℕ → List ℕ → Type 0
 Chained p ks [] = 0 ≤ 0
 Chained p ks (x ∷ r) = Chain p ks x r
@@ -95,6 +99,13 @@ pub record PhaseFacts (p : ℕ) (ks : List ℕ) (ph : Phase) (log stack : List �
 
 -- ---- the whole run
 
+-- "A step that follows the end of a finish child may run only when all steps of that child and its descendants have run." For
+-- the child that step q opens these are the steps between q and the step after the child's end.
+abbrev pub Waited : List ℕ → List Entry → Type 0
+Waited ks log =
+    (q : ℕ) → q < length ks → isFinish (kindAt ks q) ≡ true → hasRun log (cont ks q) ≡ true
+    → (j : ℕ) → q < j → j < cont ks q → hasRun log j ≡ true
+
 -- Worker w, where the run has it.
 pub record WorkerFacts (s : Run) (w : ℕ) : Type 0 where
   -- "If the deque is empty the phase ends and the worker is idle": an idle worker's deque is empty.
@@ -112,6 +123,9 @@ pub record Invariant (p : ℕ) (ks : List ℕ) (s : Run) : Type 0 where
   -- steal."
   pub begunBy : map (λ ph. ph .worker) (s .phases) ≡ 0 ∷ map (λ e. e .thief) (s .steals)
   pub begunWith : map (λ ph. ph .first) (s .phases) ≡ 0 ∷ map (λ e. e .step) (s .steals)
+  -- A steal takes a pushed step: every phase but the first begins with one.
+  pub spawned : (k : ℕ) → 0 < k → k < length (s .phases) → Pushed p ks (phaseAt (s .phases) k .first)
+  pub waited : Waited ks (s .log)
   -- Every step has been run once or is in the part from one pending step.
   pub total : (whole each : ℕ → ℕ) → Weighs ks whole each
       → sum (λ e. each (e .step)) (s .log) + sum (λ w. sum whole (stack (w .hand))) (s .workers) ≡ whole 0

@@ -2,14 +2,14 @@
 --     Counts         lists: intervals of numbers, members, sums
 --     Weights        sums over parts of the tree: steps, sizes, opening steps; what running a step does to them
 --     Phase          one phase alone: its facts at its beginning, after it runs a step and after a steal from it
+--     Waiting        the step after a finish child
 --     Moves          what a run or a steal changes in a run's state, and what it leaves
 --     Always         the invariant at the start, kept by each move, so true after every list of events
 --     Consequences   what follows: no step twice, at most n runs, at most a steal for each spawned task, finished, order, frontier
---     Waiting        the step after a finish child
 pub mod Counts
 pub mod Weights
 pub mod Phase
+pub mod Waiting
 pub mod Moves
 pub mod Always
 pub mod Consequences
-pub mod Waiting

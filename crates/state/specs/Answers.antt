@@ -14,7 +14,6 @@ use Rattle.moves.specs.Answers.{newestMark, oldestMark, waitsFor, popped, robbe
 use Rattle.state.specs.declared.RunState.{RunState}
 use Rattle.state.specs.declared.TraceNumber.{TraceNumber}
 use Rattle.state.specs.declared.TraceNumber.the-variants.{ByOrdinal, BySerial}
-use Rattle.state.specs.declared.Outcome.{Outcome}
 use Rattle.state.specs.declared.Outcome.the-variants.{Ran, Stole, Refused}
 use Rattle.state.specs.declared.Answer.{Answer}
 use Rattle.state.specs.declared.Started.{Started}

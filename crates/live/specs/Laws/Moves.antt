@@ -87,7 +87,7 @@ module _ {p : ℕ} {ks : List ℕ} {s : RunState} {r : Run} (known : Known p ks 
     unrun =
         let queued : Has (stack (workerAt r w .hand)) i = rw (holding, stack) (has-head i (workerAt r w .hand .deque)) in
         eqb-true (getD (s .place) i 0) 17
-        (shows .unrun i within ∙ ap not (pending-unrun p ks some-step sh r inv w i (omega (arith, shows .workers)) queued))
+        (shows .unrun i within ∙ ap not (pending-unrun p ks some-step sh r inv w i queued))
 
     -- ---- a run
 

@@ -8,14 +8,15 @@ use native.Mathlib.Decide.{ℕ-discrete}
 use native.Mathlib.Omega.{arith}
 use lib.ListN.{length, take, getD, length-append}
 use borrow.Author.Tests.{eq-eqb, ne-eqb}
-use Rattle.rules.specs.Bytes.{sum}
-use Rattle.rules.specs.Scheduling.{afterRun, Phase, firstPhases, phaseAt, Worker, Run, start, idleWorker, workerAt, isRun, runStep, holdsStep, judgeSteal, oldest, steal, judgeEvent, nextRun}
+use Rattle.rules.specs.Bytes.{any, sum}
+use Rattle.rules.specs.Scheduling.{afterRun, Phase, firstPhases, phaseAt, Worker, Run, start, idleWorker, workerAt, hasRun, waits, isRun, judgeRun, runStep, holdsStep, judgeSteal, oldest, steal, judgeEvent, nextRun}
 use Rattle.rules.specs.Calls.{eventCall, afterEvents}
 use Rattle.tasks.specs.Laws.Shape.{Shape}
 use Rattle.tasks.specs.Laws.Frames.{endAt, sizeAt}
-use Rattle.runs.specs.Invariant.{logOf, stack, pending, self, opening, PhaseFacts, WorkerFacts, Invariant}
-use Rattle.runs.specs.Laws.Phase.{phase-begins, phase-runs, phase-robbed, oldest-within}
-use Rattle.runs.specs.Laws.Moves.{sum-one, sum-replicate, getD-alike, map-one, length-dropLast, log-own, log-other, pending-latest, pending-past, pending-idle, pending-same, some-holds, some-stack, holds-some, none-stack, worker-facts, after-idle, after-deque, onward, ran, run-is, ran-here, ran-other, ran-sum, robbed, begin-length, begin-new, begin-robbed, begin-other, begin-worker, begin-map, enriched, lightened, steal-thief, steal-other, steal-victim, steal-sum, thief-idle, victim-rich, first-within, second-within, event-runs, event-steals}
+use Rattle.runs.specs.Invariant.{logOf, stack, pending, self, opening, Pushed, PhaseFacts, WorkerFacts, Invariant}
+use Rattle.runs.specs.Laws.Phase.{phase-begins, phase-runs, phase-robbed, oldest-pushed, oldest-within}
+use Rattle.runs.specs.Laws.Waiting.{waited-more}
+use Rattle.runs.specs.Laws.Moves.{sum-one, sum-replicate, getD-alike, map-one, length-dropLast, log-own, log-other, pending-latest, pending-past, pending-idle, pending-same, some-holds, some-stack, holds-some, none-stack, worker-facts, after-idle, after-deque, onward, ran, run-is, ran-here, ran-other, ran-sum, robbed, begin-length, begin-new, begin-robbed, begin-other, begin-same, begin-map, enriched, lightened, steal-thief, steal-other, steal-victim, steal-sum, thief-idle, victim-rich, first-within, second-within, run-held, run-free, event-runs, event-steals}
 
 -- The number of worker w's latest phase, its deque, and what would be stolen from it.
 abbrev phaseOf : Run → ℕ → ℕ
@@ -47,7 +48,7 @@ module _ (p : ℕ) (ks : List ℕ) (some-step : 1 ≤ length ks) (sh : Shape (le
   start-phases n (suc k) h = absurd (omega arith)
 
   pub start-invariant : (w : ℕ) → 1 ≤ w → Invariant p ks (start w)
-  unfolding start firstPhases logOf sum stack idleWorker
+  unfolding start firstPhases logOf sum stack idleWorker hasRun any
   start-invariant zero h = absurd (omega arith)
   start-invariant (suc n) h =
       record {
@@ -56,6 +57,8 @@ module _ (p : ℕ) (ks : List ℕ) (some-step : 1 ≤ length ks) (sh : Shape (le
         logged = λ k l. refl;
         begunBy = refl;
         begunWith = refl;
+        spawned = λ k p l. absurd (omega arith);
+        waited = λ q l f ran. absurd (true≢false (sym ran));
         total = λ whole each weighs. omega (arith, sum-replicate (λ x. sum whole (stack (x .hand))) n idleWorker refl);
         taken = λ j. omega arith;
         pushed = omega (arith, sum-replicate (λ x. length (x .hand .deque)) n idleWorker refl);
@@ -77,7 +80,7 @@ module _ (p : ℕ) (ks : List ℕ) (some-step : 1 ≤ length ks) (sh : Shape (le
 
     -- ---- it runs the step
 
-    module _ (h : w < length (s .workers)) where
+    module _ (h : w < length (s .workers)) (free : waits ks (s .log) i ≡ false) where
       ran-workers : (x : ℕ) → WorkerFacts (ran p ks s w i) x
       unfolding ran onward
       ran-workers x =
@@ -129,6 +132,8 @@ module _ (p : ℕ) (ks : List ℕ) (some-step : 1 ≤ length ks) (sh : Shape (le
             logged = λ k l. log-other k (s .log) _ (omega (arith, begun)) ∙ inv .logged k l;
             begunBy = inv .begunBy;
             begunWith = inv .begunWith;
+            spawned = inv .spawned;
+            waited = waited-more ks sh (s .log) (record { phase = phaseOf s w; step = i }) free (inv .waited);
             -- The phase's cover, before and after, has what the step and its parts weigh.
             total = λ whole each weighs. omega (
               arith,
@@ -166,7 +171,7 @@ module _ (p : ℕ) (ks : List ℕ) (some-step : 1 ≤ length ks) (sh : Shape (le
 
       same-worker : (k : ℕ) → k < length (s .phases) → phaseAt (steal s t w .phases) k .worker ≡ phaseAt (s .phases) k .worker
       unfolding steal
-      same-worker = begin-worker (s .phases) t (phaseOf s w) (loot s w)
+      same-worker = begin-same (s .phases) t (phaseOf s w) (loot s w) (λ ph. ph .worker) refl
 
       new-phase : phaseAt (steal s t w .phases) (length (s .phases)) ≡ record { worker = t; first = loot s w; stolen = [] }
       unfolding steal
@@ -248,6 +253,18 @@ module _ (p : ℕ) (ks : List ℕ) (some-step : 1 ≤ length ks) (sh : Shape (le
             ]
           ]
 
+      stolen-spawned : (k : ℕ) → 0 < k → k < length (steal s t w .phases) → Pushed p ks (phaseAt (steal s t w .phases) k .first)
+      unfolding steal
+      stolen-spawned k some-steal l =
+          elim (ℕ-discrete k (length (s .phases))) [
+            | yes same ↦
+                let first : phaseAt (steal s t w .phases) k .first ≡ loot s w = rw same (ap (λ (ph : Phase). ph .first) new-phase) in
+                rw first (oldest-pushed p ks sh i (dequeOf s w) rich (facts .chain))
+            | no a ↦
+                let old : k < length (s .phases) = omega (arith, longer) in
+                rw (begin-same (s .phases) t (phaseOf s w) (loot s w) (λ ph. ph .first) refl k old) (inv .spawned k some-steal old)
+          ]
+
       stolen-keeps : Invariant p ks (steal s t w)
       unfolding steal sum stack enriched lightened
       stolen-keeps =
@@ -257,6 +274,8 @@ module _ (p : ℕ) (ks : List ℕ) (some-step : 1 ≤ length ks) (sh : Shape (le
             logged = λ k l. inv .logged k (omega (arith, longer));
             begunBy = rw (begin-map (s .phases) t (phaseOf s w) (loot s w) (λ x. x .worker) refl, inv .begunBy, map-one) refl;
             begunWith = rw (begin-map (s .phases) t (phaseOf s w) (loot s w) (λ x. x .first) refl, inv .begunWith, map-one) refl;
+            spawned = stolen-spawned;
+            waited = inv .waited;
             total = λ whole each weighs. omega (
               arith,
               inv .total whole each weighs,
@@ -287,9 +306,10 @@ module _ (p : ℕ) (ks : List ℕ) (some-step : 1 ≤ length ks) (sh : Shape (le
             );
           }
 
-  pub run-keeps : (s : Run) → Invariant p ks s → (w i : ℕ) → w < length (s .workers) → workerAt s w .hand .held ≡ some i
-      → Invariant p ks (runStep p ks s w)
-  run-keeps s inv w i h e = rw (run-is p ks s w i e) (ran-keeps s inv w i e h)
+  pub run-keeps : (s : Run) → Invariant p ks s → (w : ℕ) → w < length (s .workers) → judgeRun ks s w ≡ 0 → Invariant p ks (runStep p ks s w)
+  run-keeps s inv w h j =
+      let held = run-held ks s w j in
+      rw (run-is p ks s w (held .0) (held .1)) (ran-keeps s inv w (held .0) (held .1) h (run-free ks s w j (held .0) (held .1)))
 
   pub steal-keeps : (s : Run) → Invariant p ks s → (thief victim : ℕ) → thief < length (s .workers) → victim < length (s .workers)
       → (thief ≡ victim → ⊥) → judgeSteal s thief victim ≡ 0 → Invariant p ks (steal s thief victim)
@@ -308,9 +328,7 @@ module _ (p : ℕ) (ks : List ℕ) (some-step : 1 ≤ length ks) (sh : Shape (le
   next-keeps s inv e j =
       let first = first-within ks s e j in
       elim (ℕ-discrete (getD e 0 0) (getD e 1 0)) [
-        | yes same ↦
-            let held = event-runs ks s e j same in
-            rw (eq-eqb (getD e 0 0) (getD e 1 0) same) (run-keeps s inv (getD e 0 0) (held .0) first (held .1))
+        | yes same ↦ rw (eq-eqb (getD e 0 0) (getD e 1 0) same) (run-keeps s inv (getD e 0 0) first (event-runs ks s e j same))
         | no n ↦ rw (ne-eqb (getD e 0 0) (getD e 1 0) n)
             (steal-keeps s inv (getD e 0 0) (getD e 1 0) first (second-within ks s e j) n (event-steals ks s e j n))
       ]

@@ -207,8 +207,9 @@ module _ (p : ℕ) (ks : List ℕ) (some-step : 1 ≤ length ks) (sh : Shape (le
             (λ w. ⊎-elim (λ l. rw (l .1) refl) (λ r. absurd (true≢false (sym (r .1) ∙ f w))) (idle-or-not (workerAt s w))),
       )
 
-  pending-not-run : (w x : ℕ) → Has (stack (workerAt s w .hand)) x → hasRun (s .log) x ≡ false
-  pending-not-run w x m =
+  -- A step that is held, or is in a deque, has not run.
+  pub pending-unrun : (w x : ℕ) → Has (stack (workerAt s w .hand)) x → hasRun (s .log) x ≡ false
+  pending-unrun w x m =
       run-counts (s .log) x
       ∙ le-ltb 0 (sum (λ e. self x (e .step)) (s .log))
       (omega (
@@ -225,7 +226,8 @@ module _ (p : ℕ) (ks : List ℕ) (some-step : 1 ≤ length ks) (sh : Shape (le
   pub runs-most : length (s .log) ≤ length ks
   runs-most = omega (arith, inv .total (sizeAt ks) (λ i. 1) (size-weighs ks sh), sum-ones (s .log), sh .whole)
 
-  -- No step is stolen twice, and there is at most one steal for each spawned task: (n - 1) / 2 in all.
+  -- No step is stolen twice. Every stolen step is the one that an opening step pushed (`spawned`), so there is at most one steal
+  -- for each spawned task: (n - 1) / 2 in all.
   pub steal-once : (j : ℕ) → sum (λ e. self j (e .step)) (s .steals) ≤ 1
   unfolding workerAt
   steal-once j =
@@ -252,10 +254,6 @@ module _ (p : ℕ) (ks : List ℕ) (some-step : 1 ≤ length ks) (sh : Shape (le
         length-map (s .steals) (λ (e : Steal). e .thief),
       )
 
-  -- A step that is held, or is in a deque, has not run.
-  pub pending-unrun : (w : ℕ) (x : ℕ) → w < length (s .workers) → any (eqb x) (stack (workerAt s w .hand)) ≡ true → hasRun (s .log) x ≡ false
-  pending-unrun w x h m = pending-not-run w x m
-
   -- "Whether every step has run": exactly when n steps have, and exactly when all workers are idle.
   pub finished-idle : finished ks s ≡ true → (w : ℕ) → holdsStep (workerAt s w) ≡ false
   unfolding finished
@@ -263,7 +261,7 @@ module _ (p : ℕ) (ks : List ℕ) (some-step : 1 ≤ length ks) (sh : Shape (le
       idle-by w
       (λ x m.
       let ran = all-count (hasRun (s .log)) (length ks) 0 f x (omega arith) (omega (arith, pending-within w x m)) in
-      absurd (true≢false (sym ran ∙ pending-not-run w x m)))
+      absurd (true≢false (sym ran ∙ pending-unrun w x m)))
 
   pub idle-finished : ((w : ℕ) → holdsStep (workerAt s w) ≡ false) → finished ks s ≡ true
   unfolding finished

@@ -1,8 +1,8 @@
 -- Tests and sums over lists.
 use Prim.Native.Nat.{ℕ, zero, suc, _+_, _≤_, _<_}
 use mathlib.Core.Path.{_≡_, refl, sym}
-use mathlib.Core.Bool.{Bool, true, false, cond, _&&_, _||_}
-use mathlib.Core.List.{List, [], _∷_}
+use mathlib.Core.Bool.{Bool, true, false, cond, _&&_, _||_, true≢false}
+use mathlib.Core.List.{List, [], _∷_, _++_}
 use native.Mathlib.Decide.{ℕ-discrete}
 use native.Mathlib.Nat.{zero-add}
 use native.Mathlib.Omega.{arith}
@@ -13,13 +13,25 @@ use Rattle.rules.specs.Bytes.{count, all, any, sum}
 use Rattle.tree.specs.Laws.Bools.{or-true}
 use Rattle.runs.specs.Invariant.{kept}
 
--- ---- the numbers of an interval
+-- ---- truth values
 
-and-both : (x y : Bool) → x && y ≡ true → (x ≡ true) × (y ≡ true)
+pub and-both : (x y : Bool) → x && y ≡ true → (x ≡ true) × (y ≡ true)
 and-both true y e = (refl, e)
-and-both false y e =
-    let z : _≡_ {A = ℕ} 0 1 = cc in
-    absurd (omega arith)
+and-both false y e = absurd (true≢false (sym e))
+
+pub or-none : (x y : Bool) → x || y ≡ false → (x ≡ false) × (y ≡ false)
+or-none false y e = (refl, e)
+or-none true y e = absurd (true≢false e)
+
+or-false : (x : Bool) → x || false ≡ x
+or-false true = refl
+or-false false = refl
+
+or-assoc : (x y z : Bool) → x || (y || z) ≡ (x || y) || z
+or-assoc true y z = refl
+or-assoc false y z = refl
+
+-- ---- the numbers of an interval
 
 -- A test of all numbers from a on, m of them, is the test of each j with a ≤ j < a + m.
 module _ (f : ℕ → Bool) where
@@ -57,9 +69,7 @@ has-cases x y l m head tail = elim (ℕ-discrete x y) [ yes s ↦ head s | no n 
 
 pub has-none : {P : Type 0} (x : ℕ) → Has [] x → P
 unfolding any
-has-none x m =
-    let z : _≡_ {A = ℕ} 0 1 = cc in
-    absurd (omega arith)
+has-none x m = absurd (true≢false (sym m))
 
 pub has-sum : (f : ℕ → ℕ) (x : ℕ) (l : List ℕ) → Has l x → f x ≤ sum f l
 unfolding sum
@@ -86,6 +96,11 @@ module _ (f : ℕ → Bool) where
 -- ---- sums
 
 module _ {A : Type 0} where
+  pub any-one : (f : A → Bool) (l : List A) (x : A) → any f (l ++ (x ∷ [])) ≡ any f l || f x
+  unfolding any
+  any-one f [] x = or-false (f x)
+  any-one f (y ∷ l) x = rw (any-one f l x) (or-assoc (f y) (any f l) (f x))
+
   pub sum-ones : (l : List A) → sum (λ x. 1) l ≡ length l
   unfolding sum
   sum-ones [] = refl

@@ -12,7 +12,7 @@ use lib.Dec.{eqb}
 use borrow.Author.Tests.{eq-eqb, ne-eqb, le-leb, lt-leb}
 use Rattle.rules.specs.Bytes.{sum}
 use Rattle.rules.specs.Tree.{kindAt, isEnd}
-use Rattle.rules.specs.Scheduling.{Hand, holds, pushes, pop, afterRun, Phase, phaseAt, begin, Worker, Entry, Run, idleWorker, workerAt, isRun, judgeRun, runStep, holdsStep, judgeSteal, oldest, steal, judgeEvent}
+use Rattle.rules.specs.Scheduling.{Hand, holds, pushes, pop, afterRun, Phase, phaseAt, begin, Worker, Entry, Run, idleWorker, workerAt, waits, isRun, judgeRun, runStep, holdsStep, judgeSteal, oldest, steal, judgeEvent}
 use Rattle.tree.specs.Laws.Bools.{or-true}
 use Rattle.runs.specs.Invariant.{logOf, stack, pending, opening, WorkerFacts}
 use Rattle.runs.specs.Laws.Weights.{sum-append}
@@ -210,14 +210,15 @@ module _ (phs : List Phase) (thief k s : ℕ) where
   unfolding phaseAt
   begin-other j h n = begin-old j h ∙ getD-set-other phs k j _ _ n
 
-  pub begin-worker : (j : ℕ) → j < length phs → phaseAt (begin phs thief k s) j .worker ≡ phaseAt phs j .worker
-  begin-worker j h =
+  -- What being stolen from does not change in a phase.
+  pub begin-same : (f : Phase → ℕ) → f (robbed (phaseAt phs k) s) ≡ f (phaseAt phs k) → (j : ℕ) → j < length phs
+      → f (phaseAt (begin phs thief k s) j) ≡ f (phaseAt phs j)
+  begin-same f same j h =
       elim (ℕ-discrete j k) [
-        | yes e ↦ rw e (ap (λ (ph : Phase). ph .worker) (begin-robbed (rw e at h)))
-        | no n ↦ ap (λ (ph : Phase). ph .worker) (begin-other j h n)
+        | yes e ↦ rw e (ap f (begin-robbed (rw e at h)) ∙ same)
+        | no n ↦ ap f (begin-other j h n)
       ]
 
-  -- For what being stolen from does not change in a phase.
   pub begin-map : (f : Phase → ℕ) → f (robbed (phaseAt phs k) s) ≡ f (phaseAt phs k)
       → map f (begin phs thief k s) ≡ map f phs ++ (f (record { worker = thief; first = s; stolen = [] }) ∷ [])
   unfolding begin phaseAt
@@ -258,6 +259,24 @@ module _ (s : Run) (t v : ℕ) where
 
 -- ---- events that are not refused
 
+-- The step that a run names is held and does not wait.
+module _ (ks : List ℕ) (s : Run) (w : ℕ) (j : judgeRun ks s w ≡ 0) where
+  pub run-held : (i : ℕ) × (workerAt s w .hand .held ≡ some i)
+  unfolding judgeRun
+  run-held = by (workerAt s w .hand .held) refl
+    where
+      by : (o : Option ℕ) → workerAt s w .hand .held ≡ o → (i : ℕ) × (workerAt s w .hand .held ≡ some i)
+      by none h = absurd (omega (arith, rw (judgeRun, h) at j))
+      by (some i) h = (i, h)
+
+  pub run-free : (i : ℕ) → workerAt s w .hand .held ≡ some i → waits ks (s .log) i ≡ false
+  unfolding judgeRun
+  run-free i h = by (waits ks (s .log) i) refl
+    where
+      by : (b : Bool) → waits ks (s .log) i ≡ b → waits ks (s .log) i ≡ false
+      by true t = absurd (omega (arith, rw (judgeRun, h, t) at j))
+      by false t = t
+
 module _ (s : Run) (t v : ℕ) (j : judgeSteal s t v ≡ 0) where
   pub thief-idle : holdsStep (workerAt s t) ≡ false
   unfolding judgeSteal
@@ -293,13 +312,9 @@ module _ (ks : List ℕ) (s : Run) (e : List ℕ) (j : judgeEvent ks s e ≡ 0) 
   judged =
       rw (lt-leb (length (s .workers)) (getD e 0 0) first-within, lt-leb (length (s .workers)) (getD e 1 0) second-within) at j
 
-  pub event-runs : getD e 0 0 ≡ getD e 1 0 → (i : ℕ) × (workerAt s (getD e 0 0) .hand .held ≡ some i)
-  unfolding isRun judgeRun
-  event-runs same = by (workerAt s (getD e 0 0) .hand .held) refl
-    where
-      by : (o : Option ℕ) → workerAt s (getD e 0 0) .hand .held ≡ o → (i : ℕ) × (workerAt s (getD e 0 0) .hand .held ≡ some i)
-      by none h = absurd (omega (arith, rw (eq-eqb (getD e 0 0) (getD e 1 0) same, judgeRun, h) at judged))
-      by (some i) h = (i, h)
+  pub event-runs : getD e 0 0 ≡ getD e 1 0 → judgeRun ks s (getD e 0 0) ≡ 0
+  unfolding isRun
+  event-runs same = rw (eq-eqb (getD e 0 0) (getD e 1 0) same) at judged
 
   pub event-steals : (getD e 0 0 ≡ getD e 1 0 → ⊥) → judgeSteal s (getD e 0 0) (getD e 1 0) ≡ 0
   unfolding isRun

@@ -1,8 +1,8 @@
 -- One phase alone: its facts hold as it begins, after it has run a step, and after a steal from it. Workers and other phases
 -- do not matter here.
 use Prim.Native.Nat.{ℕ, suc, _+_, _-_, _≤_, _<_}
-use mathlib.Core.Path.{_≡_, refl, sym, ap, _∙_}
-use mathlib.Core.Bool.{Bool, true, false, _&&_, _||_, true≢false}
+use mathlib.Core.Path.{_≡_, refl, ap, _∙_}
+use mathlib.Core.Bool.{Bool, true, false}
 use mathlib.Core.List.{List, [], _∷_, _++_, dropLast, append-assoc}
 use mathlib.Core.Option.{some}
 use native.Mathlib.Omega.{arith}
@@ -13,18 +13,11 @@ use Rattle.rules.specs.Scheduling.{workFirst, pushesChild, holds, pushes, pop, 
 use Rattle.rules.specs.Traces.{lastStolen, runAlone}
 use Rattle.tasks.specs.Laws.Shape.{Shape}
 use Rattle.tasks.specs.Laws.Frames.{endAt, sizeAt}
-use Rattle.runs.specs.Invariant.{stack, Weighs, Chain, Chained, Ends, frontierEnd, kept, PhaseFacts}
+use Rattle.runs.specs.Invariant.{stack, Weighs, Chain, Pushed, Chained, Ends, frontierEnd, kept, PhaseFacts}
+use Rattle.runs.specs.Laws.Counts.{and-both, or-none, sum-ones}
 use Rattle.runs.specs.Laws.Weights.{sum-append, end-within, cont-inside, size-weighs, run-weighs, holds-inside, pushes-inside, nested-end}
 
 -- ---- lists
-
-or-none : (a b : Bool) → (a || b) ≡ false → (a ≡ false) × (b ≡ false)
-or-none false b e = (refl, e)
-or-none true b e = absurd (true≢false e)
-
-and-both : (a b : Bool) → (a && b) ≡ true → (a ≡ true) × (b ≡ true)
-and-both true b e = (refl, e)
-and-both false b e = absurd (true≢false (sym e))
 
 module _ (gone : ℕ → Bool) where
   any-append : (xs ys : List ℕ) → any gone (xs ++ ys) ≡ false → (any gone xs ≡ false) × (any gone ys ≡ false)
@@ -47,11 +40,6 @@ module _ (gone : ℕ → Bool) where
   unfolding kept
   kept-last [] o g = rw g
   kept-last (x ∷ xs) o g = rw (kept-last xs o g)
-
-sum-ones : (xs : List ℕ) → sum (λ x. 1) xs ≡ length xs
-unfolding sum
-sum-ones [] = refl
-sum-ones (x ∷ xs) = omega (arith, sum-ones xs)
 
 last-stolen : (xs : List ℕ) (o : ℕ) → lastStolen (xs ++ (o ∷ [])) ≡ some o
 unfolding lastStolen
@@ -122,12 +110,17 @@ module _ (p : ℕ) (ks : List ℕ) (sh : Shape (length ks) (endAt ks) (sizeAt ks
   held-within i [] c = c
   held-within i (s ∷ r) c = omega (arith, c .4, end-within ks sh (c .0) (held-within (c .0) r (c .5)))
 
-  oldest-in : (i : ℕ) (front : List ℕ) (o : ℕ) → Chain p ks i (front ++ (o ∷ [])) → o < length ks
-  oldest-in i [] o c = omega (arith, c .1, pushes-inside ks sh p (c .0) (c .5) (c .2), end-within ks sh (c .0) (c .5))
-  oldest-in i (s ∷ front) o c = oldest-in (c .0) front o (c .5)
+  last-pushed : (i : ℕ) (front : List ℕ) (o : ℕ) → Chain p ks i (front ++ (o ∷ [])) → Pushed p ks o
+  last-pushed i [] o c = (c .0, c .5, c .2, c .1)
+  last-pushed i (s ∷ front) o c = last-pushed (c .0) front o (c .5)
+
+  pub oldest-pushed : (i : ℕ) (deque : List ℕ) → (length deque ≡ 0 → ⊥) → Chained p ks (i ∷ deque) → Pushed p ks (oldest deque)
+  oldest-pushed i deque n c = last-pushed i (dropLast deque) (oldest deque) (rw (oldest-last deque n) at c)
 
   pub oldest-within : (i : ℕ) (deque : List ℕ) → (length deque ≡ 0 → ⊥) → Chained p ks (i ∷ deque) → oldest deque < length ks
-  oldest-within i deque n c = oldest-in i (dropLast deque) (oldest deque) (rw (oldest-last deque n) at c)
+  oldest-within i deque n c =
+      let by = oldest-pushed i deque n c in
+      omega (arith, by .3, pushes-inside ks sh p (by .0) (by .1) (by .2), end-within ks sh (by .0) (by .1))
 
   -- A step inside the part from q is chained as q is.
   chain-inside : (q s : ℕ) (r : List ℕ) → q ≤ s → s < taskEnd ks q → Chain p ks q r → Chain p ks s r

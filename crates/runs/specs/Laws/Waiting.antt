@@ -2,19 +2,27 @@
 -- Until then its holder waits and is not idle."
 use Prim.Native.Nat.{ℕ, suc, _-_, _≤_, _<_}
 use mathlib.Core.Path.{_≡_, refl, sym, ap, _∙_}
-use mathlib.Core.Bool.{true, false, not}
-use mathlib.Core.List.{List}
+use mathlib.Core.Bool.{Bool, true, false, _||_, not}
+use mathlib.Core.List.{List, [], _∷_, _++_}
 use mathlib.Core.Option.{some}
 use native.Mathlib.Omega.{arith}
 use lib.ListN.{length}
-use borrow.Author.Tests.{not-false}
+use lib.Dec.{eqb}
+use borrow.Author.Tests.{eqb-true, ne-eqb, not-false}
 use Rattle.rules.specs.Bytes.{count, all}
-use Rattle.rules.specs.Tree.{kindAt, isFinish, cont, finishBefore}
+use Rattle.rules.specs.Tree.{kindAt, isFinish, isEnd, cont, finishBefore}
 use Rattle.rules.specs.Scheduling.{Entry, Run, workerAt, hasRun, waits, judgeRun, holdsStep}
 use Rattle.tasks.specs.Laws.Shape.{Shape}
 use Rattle.tasks.specs.Laws.Frames.{endAt, sizeAt}
 use Rattle.tasks.specs.Laws.Places.{finish-child, finish-cont}
-use Rattle.runs.specs.Laws.Counts.{all-count, count-all}
+use Rattle.runs.specs.Invariant.{Waited}
+use Rattle.runs.specs.Laws.Counts.{any-one, all-count, count-all}
+
+finish-opens : (k : ℕ) → isFinish k ≡ true → isEnd k ≡ false
+unfolding isFinish isEnd
+finish-opens k f =
+    let two = eqb-true k 2 f in
+    ne-eqb k 3 (omega arith)
 
 module _ (ks : List ℕ) (sh : Shape (length ks) (endAt ks) (sizeAt ks)) (log : List Entry) where
   waits-finish : (q : ℕ) → q < length ks → endAt ks q ≡ false → isFinish (kindAt ks q) ≡ true
@@ -54,3 +62,27 @@ pub waiting-refused : (ks : List ℕ) (s : Run) (w i : ℕ) → workerAt s w .ha
     → (holdsStep (workerAt s w) ≡ true) × (judgeRun ks s w ≡ 10)
 unfolding holdsStep judgeRun
 waiting-refused ks s w i e t = (rw (e, holdsStep) refl, rw (e, t, judgeRun) refl)
+
+-- ---- logs
+
+-- What has run stays so, and the step run now has run.
+module _ (log : List Entry) (e : Entry) where
+  pub run-more : (j : ℕ) → hasRun (log ++ (e ∷ [])) j ≡ hasRun log j || eqb (e .step) j
+  unfolding hasRun
+  run-more j = any-one (λ x. eqb (x .step) j) log e
+
+  pub run-stays : (j : ℕ) → hasRun log j ≡ true → hasRun (log ++ (e ∷ [])) j ≡ true
+  run-stays j h = run-more j ∙ rw h refl
+
+-- Running a step that does not wait keeps to the rule: whatever follows a finish child has run after the child.
+pub waited-more : (ks : List ℕ) (sh : Shape (length ks) (endAt ks) (sizeAt ks)) (log : List Entry) (e : Entry)
+    → waits ks log (e .step) ≡ false → Waited ks log → Waited ks (log ++ (e ∷ []))
+unfolding endAt
+waited-more ks sh log e free old q h f ran j l u = run-stays log e j (by (hasRun log (cont ks q)) refl)
+  where
+    by : (b : Bool) → hasRun log (cont ks q) ≡ b → hasRun log j ≡ true
+    by true r = old q h f r j l u
+    by false r =
+        let now : eqb (e .step) (cont ks q) ≡ true = rw r at (sym (run-more log e (cont ks q)) ∙ ran) in
+        let same = eqb-true (e .step) (cont ks q) now in
+        waits-until ks sh log q h (finish-opens (kindAt ks q) f) f (rw same at free) j l u

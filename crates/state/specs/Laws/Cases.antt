@@ -8,7 +8,7 @@ use native.Mathlib.Decide.{ℕ-discrete}
 use native.Mathlib.Numerals.{add-one}
 use native.Mathlib.Omega.{arith}
 use lib.ListN.{length, getD, set}
-use lib.Dec.{eqb, leb, ltb}
+use lib.Dec.{eqb, leb}
 use borrow.Author.Tests.{eq-eqb, ne-eqb, lt-ltb, le-ltb, le-leb, lt-leb}
 use Rattle.rules.specs.Bytes.{Verdict, accepted, refusedIf, firstRefused}
 use Rattle.rules.specs.Tree.{kinds, kindAt, isEnd, taskEnd, cont, ordinal, treeVerdict}
@@ -23,7 +23,6 @@ use Rattle.moves.specs.Answers.{newestMark, oldestMark, waitsFor, popped, robbe
 use Rattle.state.specs.declared.RunState.{RunState}
 use Rattle.state.specs.declared.TraceNumber.{TraceNumber}
 use Rattle.state.specs.declared.TraceNumber.the-variants.{ByOrdinal, BySerial}
-use Rattle.state.specs.declared.Outcome.{Outcome}
 use Rattle.state.specs.declared.Outcome.the-variants.{Ran, Stole, Refused}
 use Rattle.state.specs.declared.Answer.{Answer}
 use Rattle.state.specs.declared.Started.{Started}

@@ -1,5 +1,5 @@
 -- `RunState::run` meets its contract: each return is a law of its answers. Assumes nothing.
-use mathlib.Core.Path.{_≡_, refl, sym, _∙_}
+use mathlib.Core.Path.{refl, sym, _∙_}
 use native.Mathlib.Omega.{arith}
 use Rattle.rules.specs.Tree.{kinds}
 use Rattle.moves.specs.Answers.{newestMark}
