@@ -1,23 +1,22 @@
 -- An accepted run or steal: the next state shows the rules' next run.
 use Prim.Native.Nat.{ℕ, suc, _≤_, _<_}
 use mathlib.Core.Path.{_≡_, refl, sym, ap, _∙_}
-use mathlib.Core.Bool.{Bool, true, false, _||_, not, or-false, or-true, or-assoc}
-use mathlib.Core.List.{List, [], _∷_, _++_, dropLast}
+use mathlib.Core.Bool.{Bool, true, false, not, or-false, or-true}
+use mathlib.Core.List.{List, [], _∷_, dropLast}
 use mathlib.Core.Option.{Option, none, some}
 use native.Mathlib.Decide.{ℕ-discrete}
 use native.Mathlib.Omega.{arith}
 use lib.ListN.{length, getD, set, length-set, length-append}
 use lib.Seq.{set-getD}
-use lib.Dec.{eqb}
 use borrow.Author.Tests.{eq-eqb, ne-eqb, eqb-true}
-use Rattle.rules.specs.Bytes.{any}
 use Rattle.rules.specs.Tree.{kindAt, isEnd}
-use Rattle.rules.specs.Scheduling.{mostWorkers, holds, pushes, afterRun, Worker, Entry, Steal, Run, workerAt, hasRun, runStep, holdsStep, oldest, steal}
+use Rattle.rules.specs.Scheduling.{mostWorkers, holds, pushes, afterRun, Worker, Steal, Run, workerAt, runStep, holdsStep, oldest, steal}
 use Rattle.tasks.specs.Laws.Shape.{Shape}
 use Rattle.tasks.specs.Laws.Frames.{endAt, sizeAt}
 use Rattle.runs.specs.Invariant.{stack, pending, Chained, Invariant}
 use Rattle.runs.specs.Laws.Counts.{Has, has-head}
 use Rattle.runs.specs.Laws.Phase.{held-within, oldest-within}
+use Rattle.runs.specs.Laws.Waiting.{run-more}
 use Rattle.runs.specs.Laws.Consequences.{steals-most, phases-count, pending-unrun}
 use Rattle.moves.specs.Answers.{marked, newestMark, oldestMark, popped, robbed}
 use Rattle.state.specs.declared.RunState.{RunState}
@@ -25,12 +24,6 @@ use Rattle.state.specs.Answers.{heldNext, ranState, nextPhase, robbedState}
 use Rattle.live.specs.Tie.{HandShown, Shows}
 use Rattle.live.specs.Laws.Hands.{opened-shown, ended-nothing, ended-newest, ended-idle-shown, ended-shown, oldest-none, oldest-pusher, robbed-shown, idle-none, thief-shown, other-shown, push-other, pop-other, rob-other, push-unrun, push-run, pop-unrun, pop-run, rob-unrun, popped-length, robbed-length}
 use Rattle.live.specs.Laws.Tables.{Table, Spared, tables-of, shows-by, table-set}
-
--- One more step has run.
-run-more : (log : List Entry) (e : Entry) (j : ℕ) → hasRun (log ++ (e ∷ [])) j ≡ hasRun log j || eqb (e .step) j
-unfolding hasRun any
-run-more [] e j = or-false (eqb (e .step) j)
-run-more (x ∷ log) e j = rw (run-more log e j) (sym (or-assoc (eqb (x .step) j) (hasRun log j) (eqb (e .step) j)))
 
 -- What a run of step i by worker w does to the places.
 record Stored (ks before after : List ℕ) (w i : ℕ) : Type 0 where

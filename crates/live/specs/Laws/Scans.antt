@@ -2,71 +2,17 @@
 use Prim.Native.Nat.{ℕ, zero, suc, _+_, _-_, _≤_, _<_}
 use mathlib.Core.Path.{_≡_, refl, ap, _∙_}
 use mathlib.Core.Bool.{Bool, true, false, not, Bool·not-not}
-use mathlib.Core.List.{List, [], _∷_, _++_, reverse, reverse-append}
+use mathlib.Core.List.{List}
 use mathlib.Core.Option.{Option, none, some}
-use native.Mathlib.Decide.{ℕ-discrete}
-use native.Mathlib.Nat.{add-zero}
+use native.Mathlib.Decide.{ℕ-discrete, decLt, decLe}
 use native.Mathlib.Omega.{arith}
 use lib.ListN.{length, getD}
 use lib.Dec.{eqb}
 use Rattle.rules.specs.Bytes.{count, all}
 use Rattle.rules.specs.Tree.{finishBefore}
 use Rattle.rules.specs.Scheduling.{Entry, hasRun, waits}
-use Rattle.moves.specs.Answers.{find, marked, newestMark, oldestMark, allRun, waitsFor}
-
--- ---- the numbers of an interval, from either side
-
-count-snoc : (m a : ℕ) → count a (suc m) ≡ count a m ++ ((a + m) ∷ [])
-unfolding count
-count-snoc zero a = rw add-zero
-count-snoc (suc m) a =
-    let e : suc a + m ≡ a + suc m = omega arith in
-    ap (λ (l : List ℕ). a ∷ l) (count-snoc m (suc a) ∙ ap (λ (x : ℕ). count (suc a) m ++ (x ∷ [])) e)
-
-count-down : (m a : ℕ) → reverse (count a (suc m)) ≡ (a + m) ∷ reverse (count a m)
-count-down m a = ap reverse (count-snoc m a) ∙ reverse-append (count a m) ((a + m) ∷ [])
-
-module _ (test : ℕ → Bool) where
-  find-up : (m a q : ℕ) → a ≤ q → q < a + m → test q ≡ true → ((j : ℕ) → a ≤ j → j < q → test j ≡ false)
-      → find test (count a m) ≡ some q
-  unfolding find count
-  find-up zero a q l u t under = absurd (omega arith)
-  find-up (suc m) a q l u t under =
-      elim (ℕ-discrete a q) [
-        | yes e ↦ rw (e, t) refl
-        | no n ↦ rw (under a (omega arith) (omega arith))
-            (find-up m (suc a) q (omega arith) (omega arith) t (λ j x y. under j (omega arith) y))
-      ]
-
-  up-nothing : (m a : ℕ) → ((j : ℕ) → a ≤ j → j < a + m → test j ≡ false) → find test (count a m) ≡ none
-  unfolding find count
-  up-nothing zero a no-mark = refl
-  up-nothing (suc m) a no-mark =
-      rw (no-mark a (omega arith) (omega arith)) (up-nothing m (suc a) (λ j x y. no-mark j (omega arith) (omega arith)))
-
-  find-down : (m a q : ℕ) → a ≤ q → q < a + m → test q ≡ true → ((j : ℕ) → q < j → j < a + m → test j ≡ false)
-      → find test (reverse (count a m)) ≡ some q
-  unfolding find
-  find-down zero a q l u t above = absurd (omega arith)
-  find-down (suc m) a q l u t above =
-      rw (count-down m a) (elim (ℕ-discrete (a + m) q) [
-        | yes e ↦ rw (e, t) refl
-        | no n ↦ rw (above (a + m) (omega arith) (omega arith))
-            (find-down m a q l (omega arith) t (λ j x y. above j x (omega arith)))
-      ])
-
-  down-nothing : (m a : ℕ) → ((j : ℕ) → a ≤ j → j < a + m → test j ≡ false) → find test (reverse (count a m)) ≡ none
-  unfolding find count
-  down-nothing zero a no-mark = refl
-  down-nothing (suc m) a no-mark =
-      rw (count-down m a, no-mark (a + m) (omega arith) (omega arith))
-      (down-nothing m a (λ j x y. no-mark j x (omega arith)))
-
-all-same : (f g : ℕ → Bool) (m a : ℕ) → ((j : ℕ) → a ≤ j → j < a + m → f j ≡ g j) → all f (count a m) ≡ all g (count a m)
-unfolding all count
-all-same f g zero a same = refl
-all-same f g (suc m) a same =
-    rw (same a (omega arith) (omega arith), all-same f g m (suc a) (λ j x y. same j (omega arith) (omega arith))) refl
+use Rattle.moves.specs.Laws.Marks.{newest-turn, newest-done, oldest-turn, oldest-done}
+use Rattle.moves.specs.Answers.{marked, newestMark, oldestMark, allRun, waitsFor}
 
 -- ---- marks
 
@@ -74,24 +20,60 @@ module _ (place : List ℕ) (w low : ℕ) where
   -- Downwards the highest marked step is found, upwards the lowest.
   pub newest-found : (end q : ℕ) → low ≤ q → q < end → marked place w q ≡ true
       → ((j : ℕ) → q < j → j < end → marked place w j ≡ false) → newestMark place w low end ≡ some q
-  unfolding newestMark
-  newest-found end q l u m above =
-      find-down (marked place w) (end - low) low q l (omega arith) m (λ j x y. above j x (omega arith))
+  newest-found zero q l u m above = absurd (omega arith)
+  newest-found (suc end) q l u m above =
+      newest-turn place w low end (omega arith)
+      ∙ (elim (ℕ-discrete end q) [
+        | yes e ↦ rw (e, m) refl
+        | no n ↦ rw (above end (omega arith) (omega arith)) (newest-found end q l (omega arith) m (λ j x y. above j x (omega arith)))
+      ])
 
   pub newest-nothing : (end : ℕ) → ((j : ℕ) → low ≤ j → j < end → marked place w j ≡ false) → newestMark place w low end ≡ none
-  unfolding newestMark
-  newest-nothing end no-mark = down-nothing (marked place w) (end - low) low (λ j x y. no-mark j x (omega arith))
+  newest-nothing zero no-mark = newest-done place w low zero (omega arith)
+  newest-nothing (suc end) no-mark =
+      elim (decLe low end) [
+        | yes l ↦ newest-turn place w low end l
+            ∙ (rw (no-mark end l (omega arith)) (newest-nothing end (λ j x y. no-mark j x (omega arith))))
+        | no n ↦ newest-done place w low (suc end) (omega arith)
+      ]
 
+module _ (place : List ℕ) (w end : ℕ) where
+  found-within : (m low q : ℕ) → q < low + m → low ≤ q → q < end → marked place w q ≡ true
+      → ((j : ℕ) → low ≤ j → j < q → marked place w j ≡ false) → oldestMark place w low end ≡ some q
+  found-within zero low q h l u m under = absurd (omega arith)
+  found-within (suc k) low q h l u m under =
+      oldest-turn place w low end (omega arith)
+      ∙ (elim (ℕ-discrete low q) [
+        | yes e ↦ rw (e, m) refl
+        | no n ↦ rw (under low (omega arith) (omega arith))
+            (found-within k (suc low) q (omega arith) (omega arith) u m (λ j x y. under j (omega arith) y))
+      ])
+
+  nothing-within : (m low : ℕ) → end ≤ low + m → ((j : ℕ) → low ≤ j → j < end → marked place w j ≡ false)
+      → oldestMark place w low end ≡ none
+  nothing-within zero low h no-mark = oldest-done place w low end (omega arith)
+  nothing-within (suc k) low h no-mark =
+      elim (decLt low end) [
+        | yes l ↦ oldest-turn place w low end l
+            ∙ (rw (no-mark low (omega arith) l) (nothing-within k (suc low) (omega arith) (λ j x y. no-mark j (omega arith) y)))
+        | no n ↦ oldest-done place w low end (omega arith)
+      ]
+
+module _ (place : List ℕ) (w low : ℕ) where
   pub oldest-found : (end q : ℕ) → low ≤ q → q < end → marked place w q ≡ true
       → ((j : ℕ) → low ≤ j → j < q → marked place w j ≡ false) → oldestMark place w low end ≡ some q
-  unfolding oldestMark
-  oldest-found end q l u m under = find-up (marked place w) (end - low) low q l (omega arith) m under
+  oldest-found end q l u m under = found-within place w end end low q (omega arith) l u m under
 
   pub oldest-nothing : (end : ℕ) → ((j : ℕ) → low ≤ j → j < end → marked place w j ≡ false) → oldestMark place w low end ≡ none
-  unfolding oldestMark
-  oldest-nothing end no-mark = up-nothing (marked place w) (end - low) low (λ j x y. no-mark j x (omega arith))
+  oldest-nothing end no-mark = nothing-within place w end end low (omega arith) no-mark
 
 -- ---- waiting
+
+all-same : (f g : ℕ → Bool) (m a : ℕ) → ((j : ℕ) → a ≤ j → j < a + m → f j ≡ g j) → all f (count a m) ≡ all g (count a m)
+unfolding all count
+all-same f g zero a same = refl
+all-same f g (suc m) a same =
+    rw (same a (omega arith) (omega arith), all-same f g m (suc a) (λ j x y. same j (omega arith) (omega arith))) refl
 
 -- Where 17 marks the steps that have not run, waiting is the rules' waiting.
 pub waits-shown : (ks place : List ℕ) (log : List Entry)

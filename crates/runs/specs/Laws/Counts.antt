@@ -1,7 +1,7 @@
 -- Tests and sums over lists.
 use Prim.Native.Nat.{ℕ, zero, suc, _+_, _≤_, _<_}
 use mathlib.Core.Path.{_≡_, refl, sym}
-use mathlib.Core.Bool.{Bool, true, false, cond, _&&_, _||_, true≢false}
+use mathlib.Core.Bool.{Bool, true, false, cond, _&&_, _||_, true≢false, or-false, or-assoc}
 use mathlib.Core.List.{List, [], _∷_, _++_}
 use native.Mathlib.Decide.{ℕ-discrete}
 use native.Mathlib.Nat.{zero-add}
@@ -22,14 +22,6 @@ and-both false y e = absurd (true≢false (sym e))
 pub or-none : (x y : Bool) → x || y ≡ false → (x ≡ false) × (y ≡ false)
 or-none false y e = (refl, e)
 or-none true y e = absurd (true≢false e)
-
-or-false : (x : Bool) → x || false ≡ x
-or-false true = refl
-or-false false = refl
-
-or-assoc : (x y z : Bool) → x || (y || z) ≡ (x || y) || z
-or-assoc true y z = refl
-or-assoc false y z = refl
 
 -- ---- the numbers of an interval
 
@@ -99,7 +91,7 @@ module _ {A : Type 0} where
   pub any-one : (f : A → Bool) (l : List A) (x : A) → any f (l ++ (x ∷ [])) ≡ any f l || f x
   unfolding any
   any-one f [] x = or-false (f x)
-  any-one f (y ∷ l) x = rw (any-one f l x) (or-assoc (f y) (any f l) (f x))
+  any-one f (y ∷ l) x = rw (any-one f l x) (sym (or-assoc (f y) (any f l) (f x)))
 
   pub sum-ones : (l : List A) → sum (λ x. 1) l ≡ length l
   unfolding sum
