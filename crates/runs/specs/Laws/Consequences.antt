@@ -1,18 +1,18 @@
 -- What follows from the invariant, in document 01's words.
 use Prim.Native.Nat.{ℕ, suc, pred, _+_, _-_, _/_, _≤_, _<_}
 use mathlib.Core.Path.{_≡_, refl, sym, ap, _∙_}
-use mathlib.Core.Bool.{Bool, true, false, cond, _&&_, true≢false}
+use mathlib.Core.Bool.{Bool, true, false, cond, true≢false}
 use mathlib.Core.List.{List, [], _∷_, _++_}
 use mathlib.Core.Logic.{_⊎_, inl, inr, ⊎-elim}
 use mathlib.Core.Option.{Option, none, some}
 use native.Mathlib.Decide.{ℕ-discrete, decLt}
 use native.Mathlib.Omega.{arith}
 use lib.ListN.{length, take, length-map}
-use lib.Dec.{eqb, leb, ltb}
+use lib.Dec.{eqb, ltb}
 use borrow.Author.Tests.{lt-ltb, le-ltb, le-leb, eq-eqb, ne-eqb}
 use Rattle.rules.specs.Bytes.{any, sum}
 use Rattle.rules.specs.Scheduling.{workFirst, pop, Phase, phaseAt, Worker, Entry, Steal, Run, idleWorker, workerAt, holdsStep, hasRun, oldest}
-use Rattle.rules.specs.Traces.{lastStolen, frontier, runAlone, runningOrder}
+use Rattle.rules.specs.Traces.{fromStep, lastStolen, frontier, runAlone, runningOrder}
 use Rattle.rules.specs.Tree.{taskEnd, task}
 use Rattle.rules.specs.Calls.{finished}
 use Rattle.tree.specs.Laws.Bools.{and-false}
@@ -40,14 +40,14 @@ at-most-one false = omega arith
 
 span-most : (ks : List ℕ) (j i : ℕ) → span ks j i ≤ 1
 unfolding span
-span-most ks j i = at-most-one (leb i j && ltb j (taskEnd ks i))
+span-most ks j i = at-most-one (fromStep ks i j)
 
 span-in : (ks : List ℕ) (j i : ℕ) → i ≤ j → j < taskEnd ks i → span ks j i ≡ 1
-unfolding span
+unfolding span fromStep
 span-in ks j i l u = rw (le-leb i j l, lt-ltb j (taskEnd ks i) u)
 
 span-before : (ks : List ℕ) (j i : ℕ) → 1 ≤ span ks j i → j < taskEnd ks i
-unfolding span
+unfolding span fromStep
 span-before ks j i h =
     elim (decLt j (taskEnd ks i)) [
       | yes u ↦ u
@@ -218,6 +218,13 @@ module _ (p : ℕ) (ks : List ℕ) (some-step : 1 ≤ length ks) (sh : Shape (le
         span-most ks x 0,
         span-self p ks sh x (pending-within w x m),
       ))
+
+  -- Cover, step by step: what is in the part from a phase's first step has run once in it, or is in the part from one of its
+  -- pending steps, or in one part stolen from it.
+  pub covered-once : (k : ℕ) → k < length (s .phases) → (j : ℕ)
+      → sum (self j) (logOf k (s .log)) + sum (span ks j) (pending s k) + sum (span ks j) (phaseAt (s .phases) k .stolen)
+      ≡ span ks j (phaseAt (s .phases) k .first)
+  covered-once k h j = inv .phases k h .cover (span ks j) (self j) (span-weighs ks sh j)
 
   -- No step runs twice, and at most n do.
   pub run-once : (j : ℕ) → sum (λ e. self j (e .step)) (s .log) ≤ 1

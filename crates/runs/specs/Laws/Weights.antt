@@ -1,17 +1,18 @@
 -- Sums over parts of the tree: which steps are inside, how many, how many of them open; and what running a step does to them.
 use Prim.Native.Nat.{ℕ, suc, _+_, _-_, _/_, _≤_, _<_}
 use mathlib.Core.Path.{_≡_, refl, ap}
-use mathlib.Core.Bool.{true, false, cond, _&&_}
+use mathlib.Core.Bool.{true, false, cond}
 use mathlib.Core.List.{List, [], _∷_, _++_}
 use native.Mathlib.Decide.{ℕ-discrete, decLt}
 use native.Mathlib.Numerals.{add-one}
 use native.Mathlib.Omega.{arith}
 use lib.ListN.{length}
-use lib.Dec.{leb, ltb}
+use lib.Dec.{ltb}
 use borrow.Author.Tests.{lt-ltb, le-ltb, le-leb, lt-leb, eq-eqb, ne-eqb}
 use Rattle.rules.specs.Bytes.{sum}
 use Rattle.rules.specs.Tree.{kindAt, isEnd, taskEnd, cont}
 use Rattle.rules.specs.Scheduling.{pushesChild, holds, pushes}
+use Rattle.rules.specs.Traces.{fromStep}
 use Rattle.tasks.specs.Laws.Shape.{after, Shape, child-inside, nested, odd}
 use Rattle.tasks.specs.Laws.Frames.{endAt, sizeAt, cont-after}
 use Rattle.runs.specs.Invariant.{Weighs, self, opening}
@@ -28,7 +29,7 @@ module _ {A : Type 0} where
 
 -- 1 where step j is in the part from i, else 0.
 unfoldable pub span : List ℕ → ℕ → ℕ → ℕ
-span ks j i = cond (leb i j && ltb j (taskEnd ks i)) 1 0
+span ks j i = cond (fromStep ks i j) 1 0
 
 -- How many steps of the part from i open a task.
 unfoldable pub openings : List ℕ → ℕ → ℕ
@@ -66,7 +67,7 @@ self-below j i =
 
 module _ (ks : List ℕ) where
   span-below : (j i : ℕ) → i ≤ taskEnd ks i → span ks j i ≡ below j (taskEnd ks i) - below j i
-  unfolding span below
+  unfolding span fromStep below
   span-below j i h =
       elim (decLt j i) [
         | yes l ↦ rw (lt-leb i j l, lt-ltb j i l, lt-ltb j (taskEnd ks i) (omega arith))
