@@ -1,6 +1,9 @@
 //! The proved library over its C interface: all declarations, and safe calls. Nothing checks a declaration against the
 //! library's source, so they stand in this one file.
 
+// A test program need not use them all.
+#![allow(dead_code)]
+
 #[repr(C)]
 #[derive(Clone, Copy, Debug, PartialEq, Eq)]
 pub struct FrameTree {
@@ -24,8 +27,53 @@ pub struct FrameRunning {
     pub push: usize,
 }
 
+/// What a worker that holds no step has for one.
+pub const NO_STEP: u16 = 65_535;
+/// The place of a step that has run and whose pushed step, if any, is in no deque.
+pub const RUN: u8 = 16;
+/// The place of a step that has not run.
+pub const NOT_RUN: u8 = 17;
+
+#[repr(C)]
+#[derive(Clone, Copy, PartialEq, Eq)]
+pub struct RunState {
+    pub place: [u8; 4095],
+    pub held: [u16; 16],
+    pub phase: [u16; 16],
+    pub low: [u16; 16],
+    pub steals: u16,
+    pub policy: u8,
+}
+
+#[repr(C)]
+#[derive(Clone, Copy, PartialEq, Eq)]
+pub struct FrameStart {
+    pub number: usize,
+    pub position: usize,
+    pub state: RunState,
+}
+
+#[repr(C)]
+#[derive(Clone, Copy, PartialEq, Eq)]
+pub struct FrameEvent {
+    pub number: usize,
+    pub what: usize,
+    pub phase: usize,
+    pub step: usize,
+    pub trace: usize,
+    pub state: RunState,
+}
+
+#[repr(C)]
+#[derive(Clone, Copy, Debug, PartialEq, Eq)]
+pub struct FrameIdle {
+    pub set: usize,
+    pub count: usize,
+    pub lowest: usize,
+}
+
 mod c {
-    use super::{FrameRunning, FrameTask, FrameTree};
+    use super::{FrameEvent, FrameIdle, FrameRunning, FrameStart, FrameTask, FrameTree, RunState};
 
     extern "C" {
         pub fn frame_tree(tree: *const u8, len: usize) -> FrameTree;
@@ -35,6 +83,9 @@ mod c {
         pub fn frame_task(tree: *const u8, len: usize, step: usize) -> FrameTask;
         pub fn frame_finish_before(tree: *const u8, len: usize, step: usize) -> usize;
         pub fn frame_running(tree: *const u8, len: usize, policy: u8, step: usize) -> FrameRunning;
+        pub fn frame_start(tree: *const u8, len: usize, policy: u8) -> FrameStart;
+        pub fn frame_event(state: RunState, tree: *const u8, len: usize, first: u8, second: u8) -> FrameEvent;
+        pub fn frame_idle(state: RunState) -> FrameIdle;
     }
 }
 
@@ -66,4 +117,16 @@ pub fn finish_before(tree: &[u8], step: usize) -> usize {
 
 pub fn running(tree: &[u8], policy: u8, step: usize) -> FrameRunning {
     unsafe { c::frame_running(tree.as_ptr(), tree.len(), policy, step) }
+}
+
+pub fn start(tree: &[u8], policy: u8) -> FrameStart {
+    unsafe { c::frame_start(tree.as_ptr(), tree.len(), policy) }
+}
+
+pub fn event(state: RunState, tree: &[u8], first: u8, second: u8) -> FrameEvent {
+    unsafe { c::frame_event(state, tree.as_ptr(), tree.len(), first, second) }
+}
+
+pub fn idle(state: RunState) -> FrameIdle {
+    unsafe { c::frame_idle(state) }
 }

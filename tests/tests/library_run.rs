@@ -1,0 +1,1008 @@
+//! Starts, single events and idle answers over the C interface, event by event: against the simulator on the runs that a
+//! start leads to, and against the contract on any state and any bytes. A failure names its seed and its event.
+
+mod library;
+#[path = "library/guarded.rs"]
+mod guarded;
+
+use std::fmt;
+
+use frame_tests::cover::WORKERS;
+use frame_tests::random::{damaged_tree, drive, tree, tree_of_kinds, tree_with, Plan, Rng, Weights, SHAPES};
+use frame_tests::run::Run;
+use guarded::Guarded;
+use library::{FrameEvent, FrameIdle, RunState, NOT_RUN, NO_STEP, RUN};
+
+/// The most steps of a tree.
+const MOST_STEPS: usize = 4_095;
+
+/// Where a comparison stands: after which event of which seed.
+#[derive(Clone, Copy)]
+struct At {
+    seed: u64,
+    event: Option<usize>,
+}
+
+impl fmt::Display for At {
+    fn fmt(&self, f: &mut fmt::Formatter) -> fmt::Result {
+        match self.event {
+            None => write!(f, "seed {}, start", self.seed),
+            Some(k) => write!(f, "seed {}, event {k}", self.seed),
+        }
+    }
+}
+
+/// The state beside a refused start.
+fn zeros() -> RunState {
+    RunState { place: [0; 4095], held: [0; 16], phase: [0; 16], low: [0; 16], steals: 0, policy: 0 }
+}
+
+/// Worker 0 holds step 0 in phase 0, the others are idle, and no step has run.
+fn first_state(policy: u8) -> RunState {
+    let mut held = [NO_STEP; 16];
+    held[0] = 0;
+    RunState { place: [NOT_RUN; 4095], held, phase: [0; 16], low: [0; 16], steals: 0, policy }
+}
+
+/// All of an event's answer but the state: number, what, phase, step, trace.
+fn numbers(answer: &FrameEvent) -> [usize; 5] {
+    [answer.number, answer.what, answer.phase, answer.step, answer.trace]
+}
+
+// ---- The simulator ----
+
+/// What each worker holds, its latest phase, and the idle workers are the simulator's, and so is the count of steals.
+fn same_workers(state: &RunState, run: &Run, at: At) {
+    for (w, worker) in run.workers.iter().enumerate() {
+        let held = worker.held.map_or(NO_STEP, |step| step as u16);
+        assert_eq!(state.held[w], held, "{at}, held by worker {w}");
+        if let Some(phase) = worker.phase {
+            assert_eq!(usize::from(state.phase[w]), phase, "{at}, phase of worker {w}");
+        }
+    }
+    assert_eq!(usize::from(state.steals), run.trace.len(), "{at}, steals");
+    let idle = FrameIdle { set: run.idle_set().into(), count: run.idle_count(), lowest: run.lowest_idle() };
+    assert_eq!(library::idle(*state), idle, "{at}");
+}
+
+/// Which steps have run and what stands in the deques, as the places say it, are the simulator's.
+fn same_places(state: &RunState, run: &Run, at: At) {
+    let n = run.tree.count();
+    let mut deques = vec![Vec::new(); WORKERS];
+    for step in 0..n {
+        let place = state.place[step];
+        assert!(place <= NOT_RUN, "{at}, step {step} has place {place}");
+        assert_eq!(place != NOT_RUN, run.ran[step], "{at}, whether step {step} has run");
+        if place < RUN {
+            let w = usize::from(place);
+            assert!(usize::from(state.low[w]) <= step, "{at}, worker {w} has step {step} below its low");
+            match run.policy.push_and_hold(&run.tree, step) {
+                Some((pushed, _)) => deques[w].push(pushed),
+                None => panic!("{at}, step {step} pushes nothing and is in the deque of worker {w}"),
+            }
+        }
+    }
+    for (w, worker) in run.workers.iter().enumerate() {
+        let (got, want) = (&deques[w], &worker.deque);
+        assert!(got.iter().eq(want), "{at}, deque of worker {w}: {got:?}, not {want:?}");
+    }
+    assert!(state.place[n..] == [NOT_RUN; MOST_STEPS][n..], "{at}, a place beyond the tree");
+}
+
+/// How often the events met each case.
+#[derive(Default, Debug)]
+struct Seen {
+    runs: usize,
+    steals: usize,
+    /// By number.
+    refused: [usize; 13],
+    finished: usize,
+    nobody_idle: usize,
+}
+
+/// The library and the simulator on the same run.
+struct Both<'a> {
+    tree: &'a [u8],
+    run: Run,
+    state: RunState,
+    policy: u8,
+    at: At,
+}
+
+impl Both<'_> {
+    fn start(tree: &[u8], policy: u8, seed: u64) -> Both<'_> {
+        let at = At { seed, event: None };
+        let run = Run::start(policy, tree).unwrap_or_else(|refusal| panic!("{at}: {refusal:?}"));
+        let started = library::start(tree, policy);
+        assert_eq!((started.number, started.position), (0, 0), "{at}");
+        let both = Both { tree, run, state: started.state, policy, at };
+        both.whole_view();
+        both
+    }
+
+    fn whole_view(&self) {
+        assert_eq!(self.state.policy, self.policy, "{}", self.at);
+        same_workers(&self.state, &self.run, self.at);
+        same_places(&self.state, &self.run, self.at);
+    }
+
+    /// One event to both.
+    fn event(&mut self, event: [u8; 2], seen: &mut Seen) {
+        self.at.event = Some(self.at.event.map_or(0, |k| k + 1));
+        let at = self.at;
+        let [first, second] = event;
+        let given = self.state;
+        let got = library::event(given, self.tree, first, second);
+        let want = match self.run.event(first, second) {
+            Err(refusal) => [refusal.number as usize, 0, 0, 0, 0],
+            Ok(()) if first == second => {
+                let record = self.run.log.last().expect("a run event is logged");
+                [0, 1, record.phase, record.step, 0]
+            }
+            Ok(()) => {
+                let record = self.run.trace.last().expect("a steal is traced");
+                [0, 2, 0, 0, record.number]
+            }
+        };
+        assert_eq!(numbers(&got), want, "{at}: {first} {second}");
+        if got.number != 0 {
+            assert!(got.state == given, "{at}: {first} {second}: a refused event changed the state");
+        }
+        self.state = got.state;
+        same_workers(&self.state, &self.run, at);
+        match got.what {
+            1 => seen.runs += 1,
+            2 => seen.steals += 1,
+            _ => seen.refused[got.number] += 1,
+        }
+        seen.nobody_idle += usize::from(self.run.idle_set() == 0);
+    }
+
+    /// All events, with the whole view after every so many and at the end.
+    fn events(&mut self, events: &[[u8; 2]], every: usize, seen: &mut Seen) {
+        for (k, &event) in events.iter().enumerate() {
+            self.event(event, seen);
+            if k % every == 0 {
+                self.whole_view();
+            }
+        }
+        self.whole_view();
+        seen.finished += usize::from(self.run.finished());
+    }
+}
+
+/// Any two bytes, mostly the numbers of workers.
+fn any_pair(rng: &mut Rng) -> [u8; 2] {
+    let limit = rng.pick(&[4, 16, 16, 20, 256]);
+    let first = rng.below(limit) as u8;
+    if rng.percent(40) {
+        [first, first]
+    } else {
+        [first, rng.below(limit) as u8]
+    }
+}
+
+/// At most so many events for a run from its start: good ones, bad ones and any bytes, in turns. Some go past the run's end.
+fn event_list(rng: &mut Rng, mut run: Run, most: usize) -> Vec<[u8; 2]> {
+    let mut list = Vec::new();
+    if rng.percent(2) {
+        return list;
+    }
+    let mut plan = Plan { bad: rng.pick(&[0, 0, 5, 30]), ..Plan::any(rng) };
+    // So many of a hundred turns are of any bytes.
+    let any = rng.pick(&[0, 0, 10, 40, 100]);
+    if any > 0 {
+        plan.workers = WORKERS;
+    }
+    let most = if rng.percent(20) { rng.below(most + 1) } else { most };
+    while list.len() < most && !run.finished() {
+        plan.events = rng.between(1, 40).min(most - list.len());
+        if rng.percent(any) {
+            for _ in 0..plan.events {
+                let [first, second] = any_pair(rng);
+                // Refused or not, the event goes into the list.
+                let _ = run.event(first, second);
+                list.push([first, second]);
+            }
+        } else {
+            list.extend(drive(rng, &mut run, &plan).iter().map(|tried| tried.event));
+        }
+    }
+    for _ in 0..rng.below(6) {
+        list.push(any_pair(rng));
+    }
+    list
+}
+
+#[test]
+fn starts() {
+    let mut guarded = Guarded::new(40_000);
+    let mut accepted = 0;
+    let mut refused = [0; 6];
+    for seed in 0..60_000 {
+        let mut rng = Rng::new(seed);
+        let tasks = if rng.percent(1) { rng.below(2_048) } else { rng.below(20) };
+        let plain = match rng.below(20) {
+            0..=8 => tree(&mut rng, tasks),
+            9..=18 => damaged_tree(&mut rng, tasks),
+            _ => {
+                let len = if rng.percent(95) { rng.below(100) } else { rng.between(0, 40_000) };
+                any_bytes(&mut rng, len)
+            }
+        };
+        let bytes: &[u8] = if rng.percent(50) { guarded.at_end(&plain) } else { guarded.at_start(&plain) };
+        let any = rng.next() as u8;
+        let policies = if seed % 200 == 0 { (0..=255).collect() } else { vec![0, 1, 2, 3, any] };
+        for policy in policies {
+            let at = At { seed, event: None };
+            let got = library::start(bytes, policy);
+            match Run::start(policy, bytes) {
+                Err(refusal) => {
+                    let want = (refusal.number as usize, refusal.position);
+                    assert_eq!((got.number, got.position), want, "{at}, policy {policy}");
+                    assert!(got.state == zeros(), "{at}, policy {policy}: a state beside a refusal");
+                    refused[want.0] += 1;
+                }
+                Ok(run) => {
+                    assert_eq!((got.number, got.position), (0, 0), "{at}, policy {policy}");
+                    assert!(got.state == first_state(policy), "{at}, policy {policy}: another first state");
+                    same_workers(&got.state, &run, at);
+                    same_places(&got.state, &run, at);
+                    accepted += 1;
+                }
+            }
+        }
+    }
+    assert!(accepted > 10_000 && refused[1..].iter().all(|&times| times > 100), "{accepted} {refused:?}");
+}
+
+#[test]
+fn small_runs() {
+    let mut seen = Seen::default();
+    for seed in 0..60_000 {
+        let mut rng = Rng::new(seed);
+        let tasks = if rng.percent(10) { rng.below(120) } else { rng.below(25) };
+        let bytes = tree(&mut rng, tasks);
+        let policy = rng.between(1, 2) as u8;
+        let mut both = Both::start(&bytes, policy, seed);
+        let list = event_list(&mut rng, both.run.clone(), 12 * (tasks + 1));
+        both.events(&list, 1, &mut seen);
+    }
+    assert!(seen.runs > 500_000 && seen.steals > 100_000, "{seen:?}");
+    assert!(seen.refused[8..].iter().all(|&times| times > 10_000), "{seen:?}");
+    assert!(seen.finished > 10_000 && seen.nobody_idle > 10_000, "{seen:?}");
+}
+
+#[test]
+fn large_runs() {
+    let mut seen = Seen::default();
+    let mut longest = 0;
+    for seed in 0..240 {
+        let mut rng = Rng::new(seed);
+        let shape = SHAPES[seed as usize % 4];
+        let policy = 1 + (seed / 4 % 2) as u8;
+        let tasks = if seed / 8 % 3 == 0 { 2_047 } else { rng.between(100, 2_047) };
+        let finish = rng.pick(&[0, 20, 50, 80, 100]);
+        let bytes = tree_with(&mut rng, shape, tasks, finish, Weights::Mixed);
+        let mut both = Both::start(&bytes, policy, seed);
+        let list = event_list(&mut rng, both.run.clone(), 10_000);
+        longest = longest.max(list.len());
+        both.events(&list, 61, &mut seen);
+    }
+    // A list of single events may be longer than one that is recorded.
+    assert!(longest > 8_192, "{longest}");
+    assert!(seen.runs > 100_000 && seen.steals > 20_000, "{seen:?}");
+    assert!(seen.refused[8..].iter().all(|&times| times > 10_000), "{seen:?}");
+    assert!(seen.finished > 50 && seen.nobody_idle > 10_000, "{seen:?}");
+}
+
+/// The root opens so many async children, each of one step.
+fn flat_tree(children: usize) -> Vec<u8> {
+    let mut kinds = [1, 3].repeat(children);
+    kinds.push(3);
+    tree_of_kinds(&kinds)
+}
+
+/// Every spawned task is stolen: 2,047 steals, the last begins phase 2,047.
+#[test]
+fn as_many_steals_as_a_run_can_have() {
+    let bytes = flat_tree(2_047);
+    for policy in [1, 2] {
+        let mut events = Vec::new();
+        for k in 0..2_047 {
+            if policy == 1 {
+                // The one opens a child, the other takes what follows it.
+                let (one, other) = if k % 2 == 0 { (0, 1) } else { (1, 0) };
+                events.extend([[one, one], [other, one], [one, one]]);
+            } else {
+                events.extend([[0, 0], [1, 0], [1, 1]]);
+            }
+        }
+        let last = if policy == 1 { 1 } else { 0 };
+        events.push([last, last]);
+        let mut seen = Seen::default();
+        let mut both = Both::start(&bytes, policy, policy.into());
+        both.events(&events, 61, &mut seen);
+        assert_eq!((seen.runs, seen.steals, seen.finished), (4_095, 2_047, 1), "policy {policy}");
+        assert_eq!(both.state.steals, 2_047, "policy {policy}");
+        assert_eq!(both.state.phase[1], 2_047, "policy {policy}");
+        assert_eq!(library::idle(both.state).set, 65_535, "policy {policy}");
+    }
+}
+
+// ---- Document 01's cases ----
+
+/// An event of tree S, what it answers, who is idle then, and the state: the seven steps' places, and the first three
+/// workers' held step, phase and low.
+struct Row {
+    event: [u8; 2],
+    answer: [usize; 5],
+    idle: [usize; 3],
+    place: [u8; 7],
+    held: [u16; 3],
+    phase: [u16; 3],
+    low: [u16; 3],
+    steals: u16,
+}
+
+const S: [u8; 7] = [1, 3, 2, 1, 3, 3, 3];
+const NO: u16 = NO_STEP;
+
+const P1: [Row; 10] = [
+    Row {
+        event: [0, 0],
+        answer: [0, 1, 0, 0, 0],
+        idle: [65_534, 15, 1],
+        place: [0, 17, 17, 17, 17, 17, 17],
+        held: [1, NO, NO],
+        phase: [0, 0, 0],
+        low: [0, 0, 0],
+        steals: 0,
+    },
+    Row {
+        event: [1, 0],
+        answer: [0, 2, 0, 0, 1],
+        idle: [65_532, 14, 2],
+        place: [16, 17, 17, 17, 17, 17, 17],
+        held: [1, 2, NO],
+        phase: [0, 1, 0],
+        low: [1, 2, 0],
+        steals: 1,
+    },
+    Row {
+        event: [1, 1],
+        answer: [0, 1, 1, 2, 0],
+        idle: [65_532, 14, 2],
+        place: [16, 17, 1, 17, 17, 17, 17],
+        held: [1, 3, NO],
+        phase: [0, 1, 0],
+        low: [1, 2, 0],
+        steals: 1,
+    },
+    Row {
+        event: [2, 1],
+        answer: [0, 2, 0, 0, 2],
+        idle: [65_528, 13, 3],
+        place: [16, 17, 16, 17, 17, 17, 17],
+        held: [1, 3, 6],
+        phase: [0, 1, 2],
+        low: [1, 3, 6],
+        steals: 2,
+    },
+    Row {
+        event: [1, 1],
+        answer: [0, 1, 1, 3, 0],
+        idle: [65_528, 13, 3],
+        place: [16, 17, 16, 1, 17, 17, 17],
+        held: [1, 4, 6],
+        phase: [0, 1, 2],
+        low: [1, 3, 6],
+        steals: 2,
+    },
+    Row {
+        event: [0, 0],
+        answer: [0, 1, 0, 1, 0],
+        idle: [65_529, 14, 0],
+        place: [16, 16, 16, 1, 17, 17, 17],
+        held: [NO, 4, 6],
+        phase: [0, 1, 2],
+        low: [1, 3, 6],
+        steals: 2,
+    },
+    Row {
+        event: [0, 1],
+        answer: [0, 2, 0, 0, 1],
+        idle: [65_528, 13, 3],
+        place: [16, 16, 16, 16, 17, 17, 17],
+        held: [5, 4, 6],
+        phase: [3, 1, 2],
+        low: [5, 4, 6],
+        steals: 3,
+    },
+    Row {
+        event: [0, 0],
+        answer: [0, 1, 3, 5, 0],
+        idle: [65_529, 14, 0],
+        place: [16, 16, 16, 16, 17, 16, 17],
+        held: [NO, 4, 6],
+        phase: [3, 1, 2],
+        low: [5, 4, 6],
+        steals: 3,
+    },
+    Row {
+        event: [1, 1],
+        answer: [0, 1, 1, 4, 0],
+        idle: [65_531, 15, 0],
+        place: [16, 16, 16, 16, 16, 16, 17],
+        held: [NO, NO, 6],
+        phase: [3, 1, 2],
+        low: [5, 4, 6],
+        steals: 3,
+    },
+    Row {
+        event: [2, 2],
+        answer: [0, 1, 2, 6, 0],
+        idle: [65_535, 16, 0],
+        place: [16, 16, 16, 16, 16, 16, 16],
+        held: [NO, NO, NO],
+        phase: [3, 1, 2],
+        low: [5, 4, 6],
+        steals: 3,
+    },
+];
+
+/// P2's last two events: worker 1 ends its part, and worker 2 waits for worker 0's.
+const P2_END: [Row; 2] = [
+    Row {
+        event: [1, 1],
+        answer: [0, 1, 1, 4, 0],
+        idle: [65_530, 14, 1],
+        place: [16, 16, 16, 16, 16, 17, 17],
+        held: [5, NO, 6],
+        phase: [3, 1, 2],
+        low: [5, 4, 6],
+        steals: 3,
+    },
+    Row {
+        event: [2, 2],
+        answer: [10, 0, 0, 0, 0],
+        idle: [65_530, 14, 1],
+        place: [16, 16, 16, 16, 16, 17, 17],
+        held: [5, NO, 6],
+        phase: [3, 1, 2],
+        low: [5, 4, 6],
+        steals: 3,
+    },
+];
+
+/// The start, with the row's numbers in it.
+fn state_of(row: &Row) -> RunState {
+    let mut state = first_state(1);
+    state.place[..7].copy_from_slice(&row.place);
+    state.held[..3].copy_from_slice(&row.held);
+    state.phase[..3].copy_from_slice(&row.phase);
+    state.low[..3].copy_from_slice(&row.low);
+    state.steals = row.steals;
+    state
+}
+
+fn idle_numbers(state: RunState) -> [usize; 3] {
+    let idle = library::idle(state);
+    [idle.set, idle.count, idle.lowest]
+}
+
+fn follow<'a>(case: &str, rows: impl Iterator<Item = &'a Row>) {
+    let bytes = tree_of_kinds(&S);
+    let started = library::start(&bytes, 1);
+    assert_eq!((started.number, started.position), (0, 0), "{case}");
+    assert!(started.state == first_state(1), "{case}");
+    let mut state = started.state;
+    for (k, row) in rows.enumerate() {
+        let got = library::event(state, &bytes, row.event[0], row.event[1]);
+        assert_eq!(numbers(&got), row.answer, "{case}, event {k}");
+        assert_eq!(idle_numbers(got.state), row.idle, "{case}, event {k}");
+        assert!(got.state == state_of(row), "{case}, event {k}: another state");
+        state = got.state;
+    }
+}
+
+#[test]
+fn p1_and_p2_event_by_event() {
+    follow("P1", P1.iter());
+    follow("P2", P1[..7].iter().chain(&P2_END));
+}
+
+#[test]
+fn p5_to_p7_p10_and_p11() {
+    // P5 and P6
+    let one = tree_of_kinds(&[3]);
+    for policy in [1, 2] {
+        let first = library::start(&one, policy).state;
+        let ran = library::event(first, &one, 0, 0);
+        assert_eq!(numbers(&ran), [0, 1, 0, 0, 0]);
+        assert_eq!(idle_numbers(ran.state), [65_535, 16, 0]);
+        assert_eq!(ran.state.place[..2], [16, 17]);
+        let again = library::event(ran.state, &one, 0, 0);
+        assert_eq!(numbers(&again), [9, 0, 0, 0, 0]);
+        assert!(again.state == ran.state);
+    }
+    // P7, P10 and P11
+    let s = tree_of_kinds(&S);
+    for policy in [1, 2] {
+        let first = library::start(&s, policy).state;
+        assert_eq!(idle_numbers(first), [65_534, 15, 1]);
+        let refused = [([1, 0], 12), ([16, 0], 8), ([0, 16], 8), ([16, 16], 8), ([255, 0], 8), ([1, 1], 9), ([0, 1], 11)];
+        for (event, number) in refused {
+            let got = library::event(first, &s, event[0], event[1]);
+            assert_eq!(numbers(&got), [number, 0, 0, 0, 0], "{event:?}");
+            assert!(got.state == first, "{event:?}");
+        }
+    }
+}
+
+/// Gives the events, all accepted.
+fn accept_all(mut state: RunState, tree: &[u8], events: &[[u8; 2]]) -> RunState {
+    for (k, event) in events.iter().enumerate() {
+        let got = library::event(state, tree, event[0], event[1]);
+        assert_eq!(got.number, 0, "event {k}");
+        state = got.state;
+    }
+    state
+}
+
+#[test]
+fn nobody_idle_and_then_all() {
+    let bytes = flat_tree(15);
+    for policy in [1, 2] {
+        let mut state = library::start(&bytes, policy).state;
+        for thief in 1..16 {
+            // Work-first, the latest thief opens the next child; help-first, always worker 0.
+            let victim = if policy == 1 { thief - 1 } else { 0 };
+            state = accept_all(state, &bytes, &[[victim, victim], [thief, victim]]);
+        }
+        assert_eq!(idle_numbers(state), [0, 0, 16], "policy {policy}");
+        for thief in 0..16 {
+            for victim in (0..16).filter(|&victim| victim != thief) {
+                let got = library::event(state, &bytes, thief, victim);
+                assert_eq!(numbers(&got), [11, 0, 0, 0, 0], "policy {policy}, {thief} {victim}");
+                assert!(got.state == state, "policy {policy}, {thief} {victim}");
+            }
+        }
+        // Every worker holds an end.
+        for worker in (0..16).rev() {
+            state = accept_all(state, &bytes, &[[worker, worker]]);
+            let set = 65_535 - ((1 << worker) - 1);
+            assert_eq!(idle_numbers(state), [set, 16 - usize::from(worker), worker.into()], "policy {policy}");
+        }
+        assert_eq!(idle_numbers(state), [65_535, 16, 0], "policy {policy}");
+        assert!(state.place[..31].iter().all(|&place| place == RUN), "policy {policy}");
+        for worker in 0..16 {
+            assert_eq!(library::event(state, &bytes, worker, worker).number, 9, "policy {policy}");
+            assert_eq!(library::event(state, &bytes, worker, (worker + 1) % 16).number, 12, "policy {policy}");
+        }
+    }
+}
+
+/// The root's finish child opens an async child, and what follows the finish child waits for both.
+#[test]
+fn a_waiting_worker() {
+    let bytes = tree_of_kinds(&[2, 1, 3, 3, 3]);
+    for policy in [1, 2] {
+        // Worker 1 takes step 4, and worker 2 what worker 0 pushed inside.
+        let first = library::start(&bytes, policy).state;
+        let mut state = accept_all(first, &bytes, &[[0, 0], [0, 0], [1, 0], [2, 0]]);
+        let inside = if policy == 1 { [2, 3] } else { [3, 2] };
+        assert_eq!(state.held[..3], [inside[0], 4, inside[1]], "policy {policy}");
+        for (worker, idle) in [(0, [65_528, 13, 3]), (2, [65_529, 14, 0])] {
+            // It waits: it is not idle, may not run, and may not steal.
+            assert_eq!(idle_numbers(state), idle, "policy {policy}");
+            for (event, number) in [([1, 1], 10), ([1, 0], 11), ([1, 3], 11)] {
+                let got = library::event(state, &bytes, event[0], event[1]);
+                assert_eq!(numbers(&got), [number, 0, 0, 0, 0], "policy {policy}, {event:?}");
+                assert!(got.state == state, "policy {policy}, {event:?}");
+            }
+            state = accept_all(state, &bytes, &[[worker, worker]]);
+        }
+        assert_eq!(idle_numbers(state), [65_533, 15, 0], "policy {policy}");
+        let got = library::event(state, &bytes, 1, 1);
+        assert_eq!(numbers(&got), [0, 1, 1, 4, 0], "policy {policy}");
+        assert_eq!(idle_numbers(got.state), [65_535, 16, 0], "policy {policy}");
+    }
+}
+
+// ---- Any state and any bytes ----
+
+/// The contract of crates/state/specs/Answers.antt. What the tree's bytes say is asked of the library, which is tested on
+/// any bytes elsewhere.
+struct Contract<'a> {
+    tree: &'a [u8],
+    state: RunState,
+}
+
+impl Contract<'_> {
+    fn steps(&self) -> usize {
+        self.tree.len() / 8
+    }
+
+    fn pushes_child(&self, step: usize) -> bool {
+        self.state.policy == 2 && library::kind(self.tree, step) == 1
+    }
+
+    fn holds(&self, step: usize) -> usize {
+        if self.pushes_child(step) {
+            library::cont(self.tree, step)
+        } else {
+            step + 1
+        }
+    }
+
+    fn pushes(&self, step: usize) -> usize {
+        if self.pushes_child(step) {
+            step + 1
+        } else {
+            library::cont(self.tree, step)
+        }
+    }
+
+    /// The steps from the worker's low to before `end` that are marked with it, ascending.
+    fn marked(&self, worker: usize, end: usize) -> Vec<usize> {
+        let low = usize::from(self.state.low[worker]);
+        (low..end).filter(|&step| usize::from(self.state.place[step]) == worker).collect()
+    }
+
+    fn waits(&self, step: usize) -> bool {
+        let first = library::finish_before(self.tree, step);
+        first != 0 && self.state.place[first..step].contains(&NOT_RUN)
+    }
+
+    fn refused(&self, number: usize) -> FrameEvent {
+        FrameEvent { number, what: 0, phase: 0, step: 0, trace: 0, state: self.state }
+    }
+
+    fn run(&self, worker: usize) -> FrameEvent {
+        if worker >= WORKERS {
+            return self.refused(8);
+        }
+        if self.steps() > MOST_STEPS {
+            return self.refused(2);
+        }
+        let step = usize::from(self.state.held[worker]);
+        if step >= self.steps() {
+            return self.refused(9);
+        }
+        if self.waits(step) {
+            return self.refused(10);
+        }
+        let mut next = self.state;
+        if library::kind(self.tree, step) == 3 {
+            next.place[step] = RUN;
+            match self.marked(worker, step).last() {
+                Some(&newest) => {
+                    next.place[newest] = RUN;
+                    next.held[worker] = self.pushes(newest) as u16;
+                }
+                None => next.held[worker] = NO_STEP,
+            }
+        } else {
+            next.place[step] = worker as u8;
+            next.held[worker] = self.holds(step) as u16;
+        }
+        FrameEvent { number: 0, what: 1, phase: self.state.phase[worker].into(), step, trace: 0, state: next }
+    }
+
+    fn steal(&self, thief: usize, victim: usize) -> FrameEvent {
+        if thief >= WORKERS || victim >= WORKERS {
+            return self.refused(8);
+        }
+        if self.steps() > MOST_STEPS {
+            return self.refused(2);
+        }
+        if usize::from(self.state.held[thief]) < self.steps() {
+            return self.refused(11);
+        }
+        let Some(&oldest) = self.marked(victim, self.steps()).first() else {
+            return self.refused(12);
+        };
+        let taken = self.pushes(oldest);
+        let phase = self.state.steals % 2_048 + 1;
+        let mut next = self.state;
+        next.place[oldest] = RUN;
+        next.held[thief] = taken as u16;
+        next.phase[thief] = phase;
+        next.low[victim] = oldest as u16 + 1;
+        next.low[thief] = taken as u16;
+        next.steals = phase;
+        let trace = if self.state.policy == 1 { library::task(self.tree, taken).ordinal } else { taken };
+        FrameEvent { number: 0, what: 2, phase: 0, step: 0, trace, state: next }
+    }
+
+    fn event(&self, first: u8, second: u8) -> FrameEvent {
+        if first == second {
+            self.run(first.into())
+        } else {
+            self.steal(first.into(), second.into())
+        }
+    }
+
+    fn idle(&self) -> FrameIdle {
+        let idle: Vec<usize> = (0..WORKERS).filter(|&w| usize::from(self.state.held[w]) >= MOST_STEPS).collect();
+        FrameIdle {
+            set: idle.iter().map(|&w| 1 << w).sum(),
+            count: idle.len(),
+            lowest: idle.first().copied().unwrap_or(16),
+        }
+    }
+}
+
+/// The bytes of a state's places, and of all that follows them.
+const PLACE_BYTES: usize = 4_095;
+const OTHER_BYTES: usize = 3 * 32 + 2 + 1;
+
+fn state_bytes(state: &RunState) -> Vec<u8> {
+    let mut bytes = state.place.to_vec();
+    for numbers in [&state.held[..], &state.phase, &state.low, &[state.steals]] {
+        bytes.extend(numbers.iter().flat_map(|number| number.to_le_bytes()));
+    }
+    bytes.push(state.policy);
+    bytes
+}
+
+fn state_of_bytes(bytes: &[u8]) -> RunState {
+    assert_eq!(bytes.len(), PLACE_BYTES + OTHER_BYTES);
+    let number = |k: usize| u16::from_le_bytes([bytes[PLACE_BYTES + 2 * k], bytes[PLACE_BYTES + 2 * k + 1]]);
+    RunState {
+        place: std::array::from_fn(|k| bytes[k]),
+        held: std::array::from_fn(number),
+        phase: std::array::from_fn(|w| number(16 + w)),
+        low: std::array::from_fn(|w| number(32 + w)),
+        steals: number(48),
+        policy: bytes[PLACE_BYTES + 98],
+    }
+}
+
+/// A state that a run of the tree leads to.
+fn reached(rng: &mut Rng, tree: &[u8], most: usize) -> RunState {
+    let policy = rng.between(1, 2) as u8;
+    let run = Run::start(policy, tree).expect("the tree is accepted");
+    let most = rng.below(most);
+    let list = event_list(rng, run, most);
+    let mut state = library::start(tree, policy).state;
+    for [first, second] in list {
+        state = library::event(state, tree, first, second).state;
+    }
+    state
+}
+
+/// A reached state with so many bytes flipped, most of them where it says something of the tree.
+fn damaged_state(rng: &mut Rng, state: &RunState, steps: usize, flips: usize) -> RunState {
+    let mut bytes = state_bytes(state);
+    for _ in 0..flips {
+        let at = match rng.below(10) {
+            0..=4 => rng.below(steps.clamp(1, PLACE_BYTES)),
+            5 => rng.below(PLACE_BYTES),
+            _ => PLACE_BYTES + rng.below(OTHER_BYTES),
+        };
+        bytes[at] ^= if rng.percent(50) { 1 << rng.below(8) } else { rng.between(1, 255) as u8 };
+    }
+    state_of_bytes(&bytes)
+}
+
+/// Wholly random bytes.
+fn random_state(rng: &mut Rng) -> RunState {
+    let bytes: Vec<u8> = (0..PLACE_BYTES + OTHER_BYTES).map(|_| rng.next() as u8).collect();
+    state_of_bytes(&bytes)
+}
+
+/// A step after the end of a finish child, if a few tries find one.
+fn after_a_finish_child(rng: &mut Rng, tree: &[u8]) -> usize {
+    let any = |rng: &mut Rng| rng.between(0, tree.len() / 8);
+    let found = (0..10).map(|_| any(rng)).find(|&step| library::finish_before(tree, step) != 0);
+    found.unwrap_or_else(|| any(rng))
+}
+
+/// Random numbers about as large as those of a run on these bytes.
+fn likely_state(rng: &mut Rng, tree: &[u8]) -> RunState {
+    let steps = tree.len() / 8;
+    let (least, most) = rng.pick(&[(0, 1), (0, 15), (0, 16), (0, 17), (15, 17), (16, 16)]);
+    let mut state = zeros();
+    for place in &mut state.place {
+        *place = rng.between(least, most) as u8;
+    }
+    for w in 0..WORKERS {
+        state.held[w] = match rng.below(12) {
+            0 => rng.next() as u16,
+            1 => rng.between(4_090, 4_100) as u16,
+            2..=4 => NO_STEP,
+            5..=7 => after_a_finish_child(rng, tree) as u16,
+            _ => rng.between(0, steps + 1) as u16,
+        };
+        state.phase[w] = rng.next() as u16;
+        state.low[w] = match rng.below(8) {
+            0 => rng.next() as u16,
+            1 | 2 => 0,
+            _ => rng.between(0, steps + 1) as u16,
+        };
+    }
+    state.steals = rng.pick(&[0, 1, 2_046, 2_047, 2_048, 2_049, 65_535, 77]);
+    state.policy = rng.pick(&[0, 1, 1, 1, 2, 2, 2, 3, 255]);
+    state
+}
+
+/// Bytes that are often no tree, of this length.
+fn any_bytes(rng: &mut Rng, len: usize) -> Vec<u8> {
+    let mut bytes: Vec<u8> = (0..len).map(|_| rng.next() as u8).collect();
+    if rng.percent(85) {
+        let ends = rng.between(10, 90);
+        for record in bytes.chunks_mut(8) {
+            record[0] = if rng.percent(ends) { 3 } else { rng.pick(&[1, 2, 1, 2, 1, 2, 0, 7]) };
+        }
+    }
+    bytes
+}
+
+/// An event that has a good chance to be accepted, or any.
+fn likely_pair(rng: &mut Rng, tree: &[u8], state: &RunState) -> [u8; 2] {
+    let steps = tree.len() / 8;
+    let pick = |rng: &mut Rng, holds: bool| {
+        let workers: Vec<u8> = (0..16).filter(|&w| (usize::from(state.held[usize::from(w)]) < steps) == holds).collect();
+        if workers.is_empty() {
+            rng.below(16) as u8
+        } else {
+            rng.pick(&workers)
+        }
+    };
+    match rng.below(10) {
+        0..=3 => {
+            let worker = pick(rng, true);
+            [worker, worker]
+        }
+        4..=6 => {
+            // From a worker that a step is marked with, if a few tries find one.
+            let marks: Vec<u8> = (0..40).map(|_| state.place[rng.below(steps.clamp(1, MOST_STEPS))]).collect();
+            let victim = marks.into_iter().find(|&mark| mark < RUN).unwrap_or(0);
+            [pick(rng, false), victim]
+        }
+        _ => any_pair(rng),
+    }
+}
+
+/// Gives events to the state, each to the one that the last handed back, with the tree's bytes before and behind a guard
+/// page. Every answer is the contract's.
+fn as_the_contract_says(
+    rng: &mut Rng,
+    guarded: &mut [Guarded; 2],
+    tree: &[u8],
+    mut state: RunState,
+    seed: u64,
+    seen: &mut Seen,
+) {
+    let [before, behind] = guarded;
+    let trees: [&[u8]; 2] = [before.at_end(tree), behind.at_start(tree)];
+    for k in 0..rng.between(1, 12) {
+        let at = At { seed, event: Some(k) };
+        let [first, second] = likely_pair(rng, tree, &state);
+        let contract = Contract { tree, state };
+        assert_eq!(library::idle(state), contract.idle(), "{at}");
+        let want = contract.event(first, second);
+        for given in trees {
+            let got = library::event(state, given, first, second);
+            assert_eq!(numbers(&got), numbers(&want), "{at}: {first} {second}");
+            if got.number != 0 {
+                assert!(got.state == state, "{at}: {first} {second}: a refused event changed the state");
+            }
+            assert!(got.state == want.state, "{at}: {first} {second}: another state");
+            assert!(given == tree, "{at}: {first} {second}: the tree was changed");
+        }
+        match want.what {
+            1 => seen.runs += 1,
+            2 => seen.steals += 1,
+            _ => seen.refused[want.number] += 1,
+        }
+        seen.nobody_idle += usize::from(contract.idle().set == 0);
+        state = want.state;
+    }
+}
+
+fn room() -> [Guarded; 2] {
+    [Guarded::new(45_000), Guarded::new(45_000)]
+}
+
+#[test]
+fn any_state_with_small_trees() {
+    let mut seen = Seen::default();
+    let mut guarded = room();
+    for seed in 0..90_000 {
+        let mut rng = Rng::new(seed);
+        let tasks = rng.below(30);
+        let right = tree(&mut rng, tasks);
+        let given = match rng.below(10) {
+            0..=4 => right.clone(),
+            5 => tree(&mut rng, tasks),
+            6 => damaged_tree(&mut rng, tasks),
+            7 => {
+                // The right tree with a kind changed, or cut.
+                let mut bytes = right.clone();
+                let at = 8 * rng.below(bytes.len() / 8);
+                bytes[at] = rng.pick(&[0, 1, 2, 3, 9]);
+                bytes.truncate(rng.between(at, right.len()));
+                bytes
+            }
+            _ => {
+                let len = rng.below(400);
+                any_bytes(&mut rng, len)
+            }
+        };
+        let state = match rng.below(20) {
+            0 => random_state(&mut rng),
+            1..=3 => likely_state(&mut rng, &given),
+            _ => {
+                let state = reached(&mut rng, &right, 4 * (tasks + 1));
+                let flips = if rng.percent(10) { 0 } else { rng.between(1, 40) };
+                damaged_state(&mut rng, &state, right.len() / 8, flips)
+            }
+        };
+        as_the_contract_says(&mut rng, &mut guarded, &given, state, seed, &mut seen);
+    }
+    assert!(seen.runs > 50_000 && seen.steals > 20_000, "{seen:?}");
+    assert!([2, 8, 9, 10, 11, 12].iter().all(|&number| seen.refused[number] > 1_000), "{seen:?}");
+}
+
+#[test]
+fn any_state_with_bytes_of_any_length() {
+    let mut seen = Seen::default();
+    let mut guarded = room();
+    for seed in 0..12_000 {
+        let mut rng = Rng::new(seed);
+        let tasks = if rng.percent(40) { rng.below(2_048) } else { rng.below(100) };
+        let right = tree(&mut rng, tasks);
+        let given = match rng.below(10) {
+            0 | 1 => right.clone(),
+            2 => damaged_tree(&mut rng, tasks),
+            // Around the longest tree.
+            3 => {
+                let len = rng.between(32_750, 32_780);
+                any_bytes(&mut rng, len)
+            }
+            _ => {
+                let len = rng.between(0, 40_000);
+                any_bytes(&mut rng, len)
+            }
+        };
+        let state = match rng.below(10) {
+            0 => random_state(&mut rng),
+            1..=4 => likely_state(&mut rng, &given),
+            _ => {
+                let state = reached(&mut rng, &right, 400);
+                let flips = rng.between(1, 40);
+                damaged_state(&mut rng, &state, right.len() / 8, flips)
+            }
+        };
+        as_the_contract_says(&mut rng, &mut guarded, &given, state, seed, &mut seen);
+    }
+    assert!(seen.runs > 5_000 && seen.steals > 2_000, "{seen:?}");
+    assert!([2, 8, 9, 10, 11, 12].iter().all(|&number| seen.refused[number] > 500), "{seen:?}");
+}
+
+/// Too many records: 2, but 8 comes first. One record less, or a few stray bytes, and it is not 2.
+#[test]
+fn too_many_records() {
+    let mut guarded = room();
+    let state = first_state(1);
+    for (len, number) in [(32_760, 0), (32_767, 0), (32_768, 2), (32_775, 2), (40_000, 2)] {
+        let plain = [1, 0, 0, 0, 0, 0, 0, 0].repeat(5_000)[..len].to_vec();
+        let [before, behind] = &mut guarded;
+        for tree in [before.at_end(&plain), behind.at_start(&plain)] {
+            for (event, small) in [([0, 0], 0), ([1, 1], 9), ([0, 1], 11), ([1, 0], 12)] {
+                let want = if number == 2 { 2 } else { small };
+                let got = library::event(state, tree, event[0], event[1]);
+                assert_eq!(got.number, want, "{len} bytes, {event:?}");
+                assert!(want == 0 || got.state == state, "{len} bytes, {event:?}");
+            }
+            for event in [[16, 16], [16, 0], [0, 16], [255, 0]] {
+                let got = library::event(state, tree, event[0], event[1]);
+                assert_eq!(numbers(&got), [8, 0, 0, 0, 0], "{len} bytes, {event:?}");
+                assert!(got.state == state, "{len} bytes, {event:?}");
+            }
+        }
+    }
+}
