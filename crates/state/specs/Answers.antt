@@ -11,13 +11,22 @@ use Rattle.rules.specs.Tree.{kinds, kindAt, isEnd, ordinal, mostSteps}
 use Rattle.rules.specs.Scheduling.{workFirst, mostWorkers, holds, pushes}
 use Rattle.rules.specs.Calls.{startVerdict}
 use Rattle.moves.specs.Answers.{newestMark, oldestMark, waitsFor, popped, robbed}
+use Rattle.state.specs.declared.Workers.{Workers}
 use Rattle.state.specs.declared.RunState.{RunState}
 use Rattle.state.specs.declared.TraceNumber.{TraceNumber}
 use Rattle.state.specs.declared.TraceNumber.the-variants.{ByOrdinal, BySerial}
 use Rattle.state.specs.declared.Outcome.the-variants.{Ran, Stole, Refused}
+use Rattle.state.specs.declared.Moved.{Moved}
 use Rattle.state.specs.declared.Answer.{Answer}
 use Rattle.state.specs.declared.Started.{Started}
 use Rattle.state.specs.declared.Idle.{Idle}
+
+-- A state by its two parts, and what an answer says beside the places: the calls on arrays lend these.
+abbrev pub stateOf : List ℕ → Workers → RunState
+stateOf place workers = record { place = place; workers = workers }
+
+abbrev pub moved : Answer → Moved
+moved a = record { outcome = a .outcome; workers = a .state .workers }
 
 -- ---- the start
 
@@ -26,11 +35,7 @@ unfoldable pub zeros : RunState
 zeros =
     record {
       place = replicate 4095 0;
-      held = replicate 16 0;
-      phase = replicate 16 0;
-      low = replicate 16 0;
-      steals = 0;
-      policy = 0;
+      workers = record { held = replicate 16 0; phase = replicate 16 0; low = replicate 16 0; steals = 0; policy = 0 };
     }
 
 -- "Worker 0 holds step 0 and that begins phase 0. The other 15 workers are idle." No step has run.
@@ -38,11 +43,13 @@ unfoldable pub fresh : ℕ → RunState
 fresh p =
     record {
       place = replicate 4095 17;
-      held = set (replicate 16 65535) 0 0;
-      phase = replicate 16 0;
-      low = replicate 16 0;
-      steals = 0;
-      policy = p;
+      workers = record {
+        held = set (replicate 16 65535) 0 0;
+        phase = replicate 16 0;
+        low = replicate 16 0;
+        steals = 0;
+        policy = p;
+      };
     }
 
 unfoldable pub startAnswer : ℕ → List ℕ → Started
@@ -66,26 +73,28 @@ numberOf p ks step = cond (eqb p workFirst) (ByOrdinal (record { 0 = ordinal ks 
 -- The step that worker w holds once it has run step i.
 unfoldable pub heldNext : RunState → List ℕ → ℕ → ℕ → ℕ
 heldNext s ks w i =
-    let newest = newestMark (s .place) w (getD (s .low) w 0) i in
-    cond (isEnd (kindAt ks i)) (elim newest [ none ↦ 65535 | some q ↦ pushes (s .policy) ks q ]) (holds (s .policy) ks i)
+    let newest = newestMark (s .place) w (getD (s .workers .low) w 0) i in
+    cond (isEnd (kindAt ks i)) (elim newest [ none ↦ 65535 | some q ↦ pushes (s .workers .policy) ks q ]) (holds (s .workers .policy) ks i)
 
 -- Worker w has run step i.
 unfoldable pub ranState : RunState → List ℕ → ℕ → ℕ → RunState
 ranState s ks w i =
     record {
-      place = cond (isEnd (kindAt ks i)) (popped (s .place) w (getD (s .low) w 0) i) (set (s .place) i w);
-      held = set (s .held) w (heldNext s ks w i);
-      phase = s .phase;
-      low = s .low;
-      steals = s .steals;
-      policy = s .policy;
+      place = cond (isEnd (kindAt ks i)) (popped (s .place) w (getD (s .workers .low) w 0) i) (set (s .place) i w);
+      workers = record {
+        held = set (s .workers .held) w (heldNext s ks w i);
+        phase = s .workers .phase;
+        low = s .workers .low;
+        steals = s .workers .steals;
+        policy = s .workers .policy;
+      };
     }
 
 unfoldable pub runAnswer : RunState → List ℕ → ℕ → Answer
 runAnswer s tree w =
     let ks = kinds tree in
-    let i = getD (s .held) w 0 in
-    let ran = Ran (record { 0 = getD (s .phase) w 0 }) (record { 0 = i }) in
+    let i = getD (s .workers .held) w 0 in
+    let ran = Ran (record { 0 = getD (s .workers .phase) w 0 }) (record { 0 = i }) in
     cond (leb mostWorkers w) (refused 8 s)
     (cond (ltb mostSteps (length ks)) (refused 2 s)
     (cond (leb (length ks) i) (refused 9 s)
@@ -93,19 +102,21 @@ runAnswer s tree w =
 
 -- The number of the phase that begins at the next steal. A run has at most 2,048 phases.
 unfoldable pub nextPhase : RunState → ℕ
-nextPhase s = s .steals % 2048 + 1
+nextPhase s = s .workers .steals % 2048 + 1
 
 -- The thief t has taken from v the step that step q pushed.
 unfoldable pub robbedState : RunState → List ℕ → ℕ → ℕ → ℕ → RunState
 robbedState s ks t v q =
-    let taken = pushes (s .policy) ks q in
+    let taken = pushes (s .workers .policy) ks q in
     record {
-      place = robbed (s .place) v (getD (s .low) v 0) (length ks);
-      held = set (s .held) t taken;
-      phase = set (s .phase) t (nextPhase s);
-      low = set (set (s .low) v (suc q)) t taken;
-      steals = nextPhase s;
-      policy = s .policy;
+      place = robbed (s .place) v (getD (s .workers .low) v 0) (length ks);
+      workers = record {
+        held = set (s .workers .held) t taken;
+        phase = set (s .workers .phase) t (nextPhase s);
+        low = set (set (s .workers .low) v (suc q)) t taken;
+        steals = nextPhase s;
+        policy = s .workers .policy;
+      };
     }
 
 unfoldable pub stealAnswer : RunState → List ℕ → ℕ → ℕ → Answer
@@ -113,10 +124,10 @@ stealAnswer s tree t v =
     let ks = kinds tree in
     cond (leb mostWorkers t || leb mostWorkers v) (refused 8 s)
     (cond (ltb mostSteps (length ks)) (refused 2 s)
-    (cond (ltb (getD (s .held) t 0) (length ks)) (refused 11 s)
-    (elim (oldestMark (s .place) v (getD (s .low) v 0) (length ks)) [
+    (cond (ltb (getD (s .workers .held) t 0) (length ks)) (refused 11 s)
+    (elim (oldestMark (s .place) v (getD (s .workers .low) v 0) (length ks)) [
       | none ↦ refused 12 s
-      | some q ↦ record { outcome = Stole (numberOf (s .policy) ks (pushes (s .policy) ks q)); state = robbedState s ks t v q }
+      | some q ↦ record { outcome = Stole (numberOf (s .workers .policy) ks (pushes (s .workers .policy) ks q)); state = robbedState s ks t v q }
     ])))
 
 -- "Equal bytes: that worker runs its step. Different bytes: the first steals from the second."
@@ -145,8 +156,8 @@ idleFirst held i (suc m) = cond (isIdle (getD held i 0)) i (idleFirst held (suc 
 unfoldable pub idleAnswer : RunState → Idle
 idleAnswer s =
     record {
-      set = idleBits (s .held) 0 mostWorkers;
-      count = idleNumber (s .held) 0 mostWorkers;
-      lowest = idleFirst (s .held) 0 mostWorkers;
+      set = idleBits (s .workers .held) 0 mostWorkers;
+      count = idleNumber (s .workers .held) 0 mostWorkers;
+      lowest = idleFirst (s .workers .held) 0 mostWorkers;
       state = s;
     }

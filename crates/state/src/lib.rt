@@ -3,7 +3,7 @@
 // a tree with more records than a tree may have is refused with 2.
 ghost use mathlib.Core.Path.{_≡_};
 ghost use Rattle.rules.specs.Tree.{kinds};
-ghost use Rattle.state.specs.Answers.{zeros, fresh, startAnswer, runAnswer, stealAnswer, eventAnswer, idleBits, idleAnswer, numberOf};
+ghost use Rattle.state.specs.Answers.{stateOf, moved, zeros, fresh, startAnswer, runAnswer, stealAnswer, eventAnswer, idleBits, idleAnswer, numberOf};
 use moves::NOT_RUN;
 use moves::Pusher;
 use moves::RUN;
@@ -24,11 +24,9 @@ pub const MOST_PHASES: u16 = 2048;
 // What a worker that holds no step has for one.
 pub const NO_STEP: u16 = 65535;
 
-// The state of a run.
+// The workers' tables, the count of steals and the policy.
 #[repr(C)]
-pub struct RunState {
-    // for each step NOT_RUN, RUN, or the worker in whose deque the step is that it pushed
-    pub place: [u8; 4095],
+pub struct Workers {
     // for each worker the step that it holds, or NO_STEP
     pub held: [u16; 16],
     // its latest phase
@@ -38,6 +36,14 @@ pub struct RunState {
     // how many steals there were
     pub steals: u16,
     pub policy: u8,
+}
+
+// The state of a run.
+#[repr(C)]
+pub struct RunState {
+    // for each step NOT_RUN, RUN, or the worker in whose deque the step is that it pushed
+    pub place: [u8; 4095],
+    pub workers: Workers,
 }
 
 // The number of a trace record: under work-first an ordinal, under help-first a serial number.
@@ -51,6 +57,12 @@ pub enum Outcome {
     Ran { phase: Phase, step: Step },
     Stole(TraceNumber),
     Refused(u8),
+}
+
+// An event's outcome with the workers' next tables.
+pub struct Moved {
+    pub outcome: Outcome,
+    pub workers: Workers,
 }
 
 // An event's outcome with the next state.
@@ -96,11 +108,13 @@ fn no_state() -> RunState
 {
     RunState {
         place: [0; 4095],
-        held: [0; 16],
-        phase: [0; 16],
-        low: [0; 16],
-        steals: 0,
-        policy: 0,
+        workers: Workers {
+            held: [0; 16],
+            phase: [0; 16],
+            low: [0; 16],
+            steals: 0,
+            policy: 0,
+        },
     }
 }
 
@@ -112,11 +126,13 @@ fn first_state(policy: u8) -> RunState
     held[0] = 0;
     RunState {
         place: [NOT_RUN; 4095],
-        held,
-        phase: [0; 16],
-        low: [0; 16],
-        steals: 0,
-        policy,
+        workers: Workers {
+            held,
+            phase: [0; 16],
+            low: [0; 16],
+            steals: 0,
+            policy,
+        },
     }
 }
 
@@ -153,6 +169,159 @@ pub fn start(tree: &[u8], policy: u8) -> Started
     }
 }
 
+// A worker runs its step, on the arrays themselves: refusals 8 to 10 leave them as they are.
+pub fn run_on(tree: &[u8], place: &mut [u8; 4095], workers: Workers, worker: u8) -> Moved
+    ensures tells { λ r. ⌜ r ≡ moved (runAnswer (stateOf (now (place .entry)) workers) (now (tree .entry)) worker) ⌝ }
+    ensures leaves { λ r. ⌜ now (place .exit) ≡ runAnswer (stateOf (now (place .entry)) workers) (now (tree .entry)) worker .state .place ⌝ }
+{
+    let w = worker as usize;
+    if MOST_WORKERS <= w {
+        return Moved {
+            outcome: Outcome::Refused(8),
+            workers,
+        };
+    }
+    let n = tree::steps(tree);
+    if MOST_STEPS < n {
+        return Moved {
+            outcome: Outcome::Refused(2),
+            workers,
+        };
+    }
+    let i = wide(workers.held[w]);
+    if n <= i {
+        return Moved {
+            outcome: Outcome::Refused(9),
+            workers,
+        };
+    }
+    if moves::waits(tree, place, Step(i)) {
+        return Moved {
+            outcome: Outcome::Refused(10),
+            workers,
+        };
+    }
+    let phase = Phase(wide(workers.phase[w]));
+    let low = wide(workers.low[w]);
+    let policy = workers.policy;
+    let mut next = workers;
+    if tree::kind(tree, Step(i)) != END {
+        let held = moves::held_after(tree, policy, Step(i));
+        place[i] = worker;
+        next.held[w] = held.0 as u16;
+        return Moved {
+            outcome: Outcome::Ran {
+                phase,
+                step: Step(i),
+            },
+            workers: next,
+        };
+    }
+    match moves::pop(place, worker, low, Step(i)) {
+        Pusher::At(q) => {
+            let held = moves::pushed_by(tree, policy, q);
+            next.held[w] = held.0 as u16;
+            Moved {
+                outcome: Outcome::Ran {
+                    phase,
+                    step: Step(i),
+                },
+                workers: next,
+            }
+        }
+        Pusher::Nothing => {
+            next.held[w] = NO_STEP;
+            Moved {
+                outcome: Outcome::Ran {
+                    phase,
+                    step: Step(i),
+                },
+                workers: next,
+            }
+        }
+    }
+}
+
+// The thief takes the oldest step of the victim's deque, on the arrays themselves: refusals 8, 11 and 12 leave them as they are.
+pub fn steal_on(
+    tree: &[u8],
+    place: &mut [u8; 4095],
+    workers: Workers,
+    thief: u8,
+    victim: u8,
+) -> Moved
+    ensures tells { λ r. ⌜ r ≡ moved (stealAnswer (stateOf (now (place .entry)) workers) (now (tree .entry)) thief victim) ⌝ }
+    ensures leaves { λ r. ⌜ now (place .exit) ≡ stealAnswer (stateOf (now (place .entry)) workers) (now (tree .entry)) thief victim .state .place ⌝ }
+{
+    let t = thief as usize;
+    let v = victim as usize;
+    if MOST_WORKERS <= t {
+        return Moved {
+            outcome: Outcome::Refused(8),
+            workers,
+        };
+    }
+    if MOST_WORKERS <= v {
+        return Moved {
+            outcome: Outcome::Refused(8),
+            workers,
+        };
+    }
+    let n = tree::steps(tree);
+    if MOST_STEPS < n {
+        return Moved {
+            outcome: Outcome::Refused(2),
+            workers,
+        };
+    }
+    if wide(workers.held[t]) < n {
+        return Moved {
+            outcome: Outcome::Refused(11),
+            workers,
+        };
+    }
+    let low = wide(workers.low[v]);
+    let policy = workers.policy;
+    let phase = workers.steals % MOST_PHASES + 1;
+    let mut next = workers;
+    match moves::take(place, victim, low, n) {
+        Pusher::At(q) => {
+            let step = moves::pushed_by(tree, policy, q);
+            let taken = step.0 as u16;
+            next.low[v] = (q.0 + 1) as u16;
+            next.low[t] = taken;
+            next.held[t] = taken;
+            next.phase[t] = phase;
+            next.steals = phase;
+            Moved {
+                outcome: Outcome::Stole(trace_number(tree, policy, step)),
+                workers: next,
+            }
+        }
+        Pusher::Nothing => Moved {
+            outcome: Outcome::Refused(12),
+            workers,
+        },
+    }
+}
+
+// An event of two bytes: equal, that worker runs its step; different, the first steals from the second.
+pub fn event_on(
+    tree: &[u8],
+    place: &mut [u8; 4095],
+    workers: Workers,
+    first: u8,
+    second: u8,
+) -> Moved
+    ensures tells { λ r. ⌜ r ≡ moved (eventAnswer (stateOf (now (place .entry)) workers) (now (tree .entry)) first second) ⌝ }
+    ensures leaves { λ r. ⌜ now (place .exit) ≡ eventAnswer (stateOf (now (place .entry)) workers) (now (tree .entry)) first second .state .place ⌝ }
+{
+    if first == second {
+        return run_on(tree, place, workers, first);
+    }
+    steal_on(tree, place, workers, first, second)
+}
+
 // The set of idle workers: worker w is bit w.
 fn idle_set(held: &[u16; 16]) -> u16
     ensures { λ r. ⌜ r ≡ idleBits (now (held .entry)) 0 16 ⌝ }
@@ -170,150 +339,62 @@ fn idle_set(held: &[u16; 16]) -> u16
     set
 }
 
+// By value: each takes the state and hands back the next with its answer.
 impl RunState {
-    // A worker runs its step: refusals 8 to 10.
+    // A worker runs its step.
     pub fn run(self, tree: &[u8], worker: u8) -> Answer
         ensures { λ r. ⌜ r ≡ runAnswer self (now (tree .entry)) worker ⌝ }
     {
-        let w = worker as usize;
-        if MOST_WORKERS <= w {
-            return Answer {
-                outcome: Outcome::Refused(8),
-                state: self,
-            };
-        }
-        let n = tree::steps(tree);
-        if MOST_STEPS < n {
-            return Answer {
-                outcome: Outcome::Refused(2),
-                state: self,
-            };
-        }
-        let i = wide(self.held[w]);
-        if n <= i {
-            return Answer {
-                outcome: Outcome::Refused(9),
-                state: self,
-            };
-        }
-        if moves::waits(tree, &self.place, Step(i)) {
-            return Answer {
-                outcome: Outcome::Refused(10),
-                state: self,
-            };
-        }
-        let phase = Phase(wide(self.phase[w]));
-        let low = wide(self.low[w]);
-        let policy = self.policy;
         let mut next = self;
-        if tree::kind(tree, Step(i)) != END {
-            let held = moves::held_after(tree, policy, Step(i));
-            next.place[i] = worker;
-            next.held[w] = held.0 as u16;
-            return Answer {
-                outcome: Outcome::Ran {
-                    phase,
-                    step: Step(i),
-                },
-                state: next,
-            };
-        }
-        match moves::pop(&mut next.place, worker, low, Step(i)) {
-            Pusher::At(q) => {
-                let held = moves::pushed_by(tree, policy, q);
-                next.held[w] = held.0 as u16;
-                Answer {
-                    outcome: Outcome::Ran {
-                        phase,
-                        step: Step(i),
-                    },
-                    state: next,
-                }
-            }
-            Pusher::Nothing => {
-                next.held[w] = NO_STEP;
-                Answer {
-                    outcome: Outcome::Ran {
-                        phase,
-                        step: Step(i),
-                    },
-                    state: next,
-                }
-            }
+        let workers = next.workers;
+        let moved = run_on(tree, &mut next.place, workers, worker);
+        let after = moved.workers;
+        let outcome = moved.outcome;
+        next.workers = after;
+        Answer {
+            outcome,
+            state: next,
         }
     }
 
-    // The thief takes the oldest step of the victim's deque: refusals 8, 11 and 12.
+    // The thief takes the oldest step of the victim's deque.
     pub fn steal(self, tree: &[u8], thief: u8, victim: u8) -> Answer
         ensures { λ r. ⌜ r ≡ stealAnswer self (now (tree .entry)) thief victim ⌝ }
     {
-        let t = thief as usize;
-        let v = victim as usize;
-        if MOST_WORKERS <= t {
-            return Answer {
-                outcome: Outcome::Refused(8),
-                state: self,
-            };
-        }
-        if MOST_WORKERS <= v {
-            return Answer {
-                outcome: Outcome::Refused(8),
-                state: self,
-            };
-        }
-        let n = tree::steps(tree);
-        if MOST_STEPS < n {
-            return Answer {
-                outcome: Outcome::Refused(2),
-                state: self,
-            };
-        }
-        if wide(self.held[t]) < n {
-            return Answer {
-                outcome: Outcome::Refused(11),
-                state: self,
-            };
-        }
-        let low = wide(self.low[v]);
-        let policy = self.policy;
-        let phase = self.steals % MOST_PHASES + 1;
         let mut next = self;
-        match moves::take(&mut next.place, victim, low, n) {
-            Pusher::At(q) => {
-                let step = moves::pushed_by(tree, policy, q);
-                let taken = step.0 as u16;
-                next.low[v] = (q.0 + 1) as u16;
-                next.low[t] = taken;
-                next.held[t] = taken;
-                next.phase[t] = phase;
-                next.steals = phase;
-                Answer {
-                    outcome: Outcome::Stole(trace_number(tree, policy, step)),
-                    state: next,
-                }
-            }
-            Pusher::Nothing => Answer {
-                outcome: Outcome::Refused(12),
-                state: self,
-            },
+        let workers = next.workers;
+        let moved = steal_on(tree, &mut next.place, workers, thief, victim);
+        let after = moved.workers;
+        let outcome = moved.outcome;
+        next.workers = after;
+        Answer {
+            outcome,
+            state: next,
         }
     }
 
-    // An event of two bytes: equal, that worker runs its step; different, the first steals from the second.
+    // An event of two bytes.
     pub fn event(self, tree: &[u8], first: u8, second: u8) -> Answer
         ensures { λ r. ⌜ r ≡ eventAnswer self (now (tree .entry)) first second ⌝ }
     {
-        if first == second {
-            return self.run(tree, first);
+        let mut next = self;
+        let workers = next.workers;
+        let moved = event_on(tree, &mut next.place, workers, first, second);
+        let after = moved.workers;
+        let outcome = moved.outcome;
+        next.workers = after;
+        Answer {
+            outcome,
+            state: next,
         }
-        self.steal(tree, first, second)
     }
 
     // The idle workers.
     pub fn idle(self) -> Idle
         ensures { λ r. ⌜ r ≡ idleAnswer self ⌝ }
     {
-        let set = idle_set(&self.held);
+        let held = self.workers.held;
+        let set = idle_set(&held);
         Idle {
             set,
             count: u16::count_ones(set),

@@ -42,7 +42,7 @@ pub record Known (p : ℕ) (ks : List ℕ) (s : RunState) (r : Run) : Type 0 whe
 
 -- A steal by t from v: step q pushed what is stolen, and the next state shows the next run.
 pub record Stolen (p : ℕ) (ks : List ℕ) (s : RunState) (r : Run) (t v q : ℕ) : Type 0 where
-  pub found : oldestMark (s .place) v (getD (s .low) v 0) (length ks) ≡ some q
+  pub found : oldestMark (s .place) v (getD (s .workers .low) v 0) (length ks) ≡ some q
   pub taken : oldest (workerAt r v .hand .deque) ≡ pushes p ks q
   pub next : Shows p ks (robbedState s ks t v q) (steal r t v)
 
@@ -51,7 +51,7 @@ module _ {p : ℕ} {ks : List ℕ} {s : RunState} {r : Run} (known : Known p ks 
 
   -- ---- what a worker holds
 
-  pub held-none : (w : ℕ) → w < mostWorkers → workerAt r w .hand .held ≡ none → getD (s .held) w 0 ≡ 65535
+  pub held-none : (w : ℕ) → w < mostWorkers → workerAt r w .hand .held ≡ none → getD (s .workers .held) w 0 ≡ 65535
   held-none w few e = rw e at (shows .hands w few .holding) .0
 
   module _ (w i : ℕ) (few : w < mostWorkers) (holding : workerAt r w .hand .held ≡ some i) where
@@ -72,7 +72,7 @@ module _ {p : ℕ} {ks : List ℕ} {s : RunState} {r : Run} (known : Known p ks 
     within : i < length ks
     within = held-within p ks sh i (workerAt r w .hand .deque) chained
 
-    pub held-some : (getD (s .held) w 0 ≡ i) × (i < length ks)
+    pub held-some : (getD (s .workers .held) w 0 ≡ i) × (i < length ks)
     held-some = (rw holding at (shows .hands w few .holding) .0, within)
 
     unrun : getD (s .place) i 0 ≡ 17
@@ -87,7 +87,7 @@ module _ {p : ℕ} {ks : List ℕ} {s : RunState} {r : Run} (known : Known p ks 
     -- The two ways to store.
     pushed : Stored ks (s .place) (set (s .place) i w) w i
     pushed =
-        let low = getD (s .low) w 0 in
+        let low = getD (s .workers .low) w 0 in
         record {
           places = length-set (s .place) i w ∙ shows .places;
           spared = λ u. push-other p ks sh most (s .place) (shows .places) w low few i u within unrun;
@@ -95,9 +95,9 @@ module _ {p : ℕ} {ks : List ℕ} {s : RunState} {r : Run} (known : Known p ks 
           rest = push-unrun p ks sh most (s .place) (shows .places) w low few i within;
         }
 
-    emptied : Stored ks (s .place) (popped (s .place) w (getD (s .low) w 0) i) w i
+    emptied : Stored ks (s .place) (popped (s .place) w (getD (s .workers .low) w 0) i) w i
     emptied =
-        let low = getD (s .low) w 0 in
+        let low = getD (s .workers .low) w 0 in
         record {
           places = popped-length p ks sh most _ (shows .places) w low few i;
           spared = λ u. pop-other p ks sh most _ (shows .places) w low few i u within unrun;
@@ -109,14 +109,23 @@ module _ {p : ℕ} {ks : List ℕ} {s : RunState} {r : Run} (known : Known p ks 
     next = record { hand = afterRun (λ x. false) p ks i (workerAt r w .hand .deque); phase = workerAt r w .phase }
 
     stored-shows : (after : List ℕ) (h : ℕ) → Stored ks (s .place) after w i
-        → HandShown p ks after w h (getD (s .low) w 0) (getD (s .phase) w 0) next
+        → HandShown p ks after w h (getD (s .workers .low) w 0) (getD (s .workers .phase) w 0) next
         → Shows p ks
-        (record { place = after; held = set (s .held) w h; phase = s .phase; low = s .low; steals = s .steals; policy = s .policy })
+        (record {
+          place = after;
+          workers = record {
+            held = set (s .workers .held) w h;
+            phase = s .workers .phase;
+            low = s .workers .low;
+            steals = s .workers .steals;
+            policy = s .workers .policy;
+          };
+        })
         (runStep p ks r w)
     unfolding runStep next marked
     stored-shows after h stored shown =
-        let table = rw (set-getD (s .low) w 0, set-getD (s .phase) w 0) at
-        (table-set p ks sh most _ _ _ _ _ (tables-of p ks s r shows) after w h (getD (s .low) w 0) (getD (s .phase) w 0) next
+        let table = rw (set-getD (s .workers .low) w 0, set-getD (s .workers .phase) w 0) at
+        (table-set p ks sh most _ _ _ _ _ (tables-of p ks s r shows) after w h (getD (s .workers .low) w 0) (getD (s .workers .phase) w 0) next
         (stored .places) few shown (stored .spared)) in
         rw (holding, runStep)
         (shows-by p ks _ _ table (shows .policy)
@@ -131,17 +140,17 @@ module _ {p : ℕ} {ks : List ℕ} {s : RunState} {r : Run} (known : Known p ks 
     unfolding heldNext
     next-opened e = rw (e, shows .policy) refl
 
-    next-idle : isEnd (kindAt ks i) ≡ true → newestMark (s .place) w (getD (s .low) w 0) i ≡ none → heldNext s ks w i ≡ 65535
+    next-idle : isEnd (kindAt ks i) ≡ true → newestMark (s .place) w (getD (s .workers .low) w 0) i ≡ none → heldNext s ks w i ≡ 65535
     unfolding heldNext
     next-idle e found = rw (e, found) refl
 
-    next-newest : isEnd (kindAt ks i) ≡ true → (q : ℕ) → newestMark (s .place) w (getD (s .low) w 0) i ≡ some q
+    next-newest : isEnd (kindAt ks i) ≡ true → (q : ℕ) → newestMark (s .place) w (getD (s .workers .low) w 0) i ≡ some q
         → heldNext s ks w i ≡ pushes p ks q
     unfolding heldNext
     next-newest e q found = rw (e, found, shows .policy) refl
 
     hand-after : isEnd (kindAt ks i) ≡ true → (deque : List ℕ) → workerAt r w .hand .deque ≡ deque
-        → HandShown p ks (popped (s .place) w (getD (s .low) w 0) i) w (heldNext s ks w i) (getD (s .low) w 0) (getD (s .phase) w 0)
+        → HandShown p ks (popped (s .place) w (getD (s .workers .low) w 0) i) w (heldNext s ks w i) (getD (s .workers .low) w 0) (getD (s .workers .phase) w 0)
         next
     unfolding next
     hand-after e [] d =
@@ -158,7 +167,7 @@ module _ {p : ℕ} {ks : List ℕ} {s : RunState} {r : Run} (known : Known p ks 
     unfolding ranState next
     shows-next true e =
         rw e
-        (stored-shows (popped (s .place) w (getD (s .low) w 0) i) (heldNext s ks w i) emptied
+        (stored-shows (popped (s .place) w (getD (s .workers .low) w 0) i) (heldNext s ks w i) emptied
         (hand-after e (workerAt r w .hand .deque) refl))
     shows-next false e =
         rw (e, next-opened e)
@@ -172,10 +181,10 @@ module _ {p : ℕ} {ks : List ℕ} {s : RunState} {r : Run} (known : Known p ks 
 
   -- From an empty deque there is nothing to steal.
   pub nothing-found : (v : ℕ) → v < mostWorkers → workerAt r v .hand .deque ≡ []
-      → oldestMark (s .place) v (getD (s .low) v 0) (length ks) ≡ none
+      → oldestMark (s .place) v (getD (s .workers .low) v 0) (length ks) ≡ none
   nothing-found v few d = by (workerAt r v .hand .held) refl
     where
-      by : (o : Option ℕ) → workerAt r v .hand .held ≡ o → oldestMark (s .place) v (getD (s .low) v 0) (length ks) ≡ none
+      by : (o : Option ℕ) → workerAt r v .hand .held ≡ o → oldestMark (s .place) v (getD (s .workers .low) v 0) (length ks) ≡ none
       by none e = idle-none p ks sh most _ (shows .places) v _ _ _ _ (shows .hands v few) e
       by (some i) e = oldest-none p ks sh most _ (shows .places) v _ _ _ _ few (shows .hands v few) i e (unrun v i few e) d
 
@@ -200,24 +209,24 @@ module _ {p : ℕ} {ks : List ℕ} {s : RunState} {r : Run} (known : Known p ks 
     thief = record { hand = record { held = some step; deque = [] }; phase = length (r .phases) }
 
     after : List ℕ
-    after = robbed (s .place) v (getD (s .low) v 0) (length ks)
+    after = robbed (s .place) v (getD (s .workers .low) v 0) (length ks)
 
     places : length after ≡ 4095
     unfolding after
-    places = robbed-length p ks sh most _ (shows .places) v (getD (s .low) v 0) few
+    places = robbed-length p ks sh most _ (shows .places) v (getD (s .workers .low) v 0) few
 
     spared : Spared ks (s .place) after v
     unfolding after
-    spared = rob-other p ks sh most _ (shows .places) v (getD (s .low) v 0) few
+    spared = rob-other p ks sh most _ (shows .places) v (getD (s .workers .low) v 0) few
 
     -- The victim holds step i, and step q pushed what is stolen.
     module _ (i : ℕ) (holding : workerAt r v .hand .held ≡ some i) (q : ℕ)
-        (found : oldestMark (s .place) v (getD (s .low) v 0) (length ks) ≡ some q) where
-      victim-table : Table p ks after (s .held) (set (s .low) v (suc q)) (s .phase) (set (r .workers) v victim)
+        (found : oldestMark (s .place) v (getD (s .workers .low) v 0) (length ks) ≡ some q) where
+      victim-table : Table p ks after (s .workers .held) (set (s .workers .low) v (suc q)) (s .workers .phase) (set (r .workers) v victim)
       unfolding victim after
       victim-table =
-          rw (set-getD (s .held) v 0, set-getD (s .phase) v 0) at
-          (table-set p ks sh most _ _ _ _ _ (tables-of p ks s r shows) after v (getD (s .held) v 0) (suc q) (getD (s .phase) v 0)
+          rw (set-getD (s .workers .held) v 0, set-getD (s .workers .phase) v 0) at
+          (table-set p ks sh most _ _ _ _ _ (tables-of p ks s r shows) after v (getD (s .workers .held) v 0) (suc q) (getD (s .workers .phase) v 0)
           victim places few
           (robbed-shown p ks sh most _ (shows .places) v _ _ _ _ few (shows .hands v few) i holding (unrun v i few holding) q found)
           spared)
@@ -229,8 +238,8 @@ module _ {p : ℕ} {ks : List ℕ} {s : RunState} {r : Run} (known : Known p ks 
           (other-shown p ks sh most _ (shows .places) after t _ _ _ _ (shows .hands t small) (spared t small other))
           idle step (length (r .phases)) (oldest-within p ks sh i (workerAt r v .hand .deque) full (chained v i few holding))
 
-      both-table : Table p ks after (set (s .held) t step) (set (set (s .low) v (suc q)) t step)
-          (set (s .phase) t (length (r .phases))) (set (set (r .workers) v victim) t thief)
+      both-table : Table p ks after (set (s .workers .held) t step) (set (set (s .workers .low) v (suc q)) t step)
+          (set (s .workers .phase) t (length (r .phases))) (set (set (r .workers) v victim) t thief)
       both-table =
           table-set p ks sh most _ _ _ _ _ victim-table after t step step (length (r .phases)) thief places small thief-hand
           (λ u l n j b. refl)
@@ -238,11 +247,11 @@ module _ {p : ℕ} {ks : List ℕ} {s : RunState} {r : Run} (known : Known p ks 
       shows-stolen : step ≡ pushes p ks q → Shows p ks (robbedState s ks t v q) (steal r t v)
       unfolding robbedState steal victim thief step after marked
       shows-stolen e =
-          let taken : pushes (s .policy) ks q ≡ step = ap (λ (x : ℕ). pushes x ks q) (shows .policy) ∙ sym e in
+          let taken : pushes (s .workers .policy) ks q ≡ step = ap (λ (x : ℕ). pushes x ks q) (shows .policy) ∙ sym e in
           let stolen : Steal = record { thief = t; victim = v; step = step } in
           rw (taken, thief-phase)
           (shows-by p ks _ _ both-table (shows .policy)
-          (λ j l. rob-unrun p ks sh most _ (shows .places) v (getD (s .low) v 0) few j l ∙ shows .unrun j l)
+          (λ j l. rob-unrun p ks sh most _ (shows .places) v (getD (s .workers .low) v 0) few j l ∙ shows .unrun j l)
           (omega (arith, phases-count p ks some-step sh r inv, length-append (r .steals) (stolen ∷ []))))
 
     -- A worker with steps in its deque holds one.

@@ -24,9 +24,10 @@ use Rattle.state.specs.declared.RunState.{RunState}
 use Rattle.state.specs.declared.TraceNumber.{TraceNumber}
 use Rattle.state.specs.declared.TraceNumber.the-variants.{ByOrdinal, BySerial}
 use Rattle.state.specs.declared.Outcome.the-variants.{Ran, Stole, Refused}
+use Rattle.state.specs.declared.Moved.{Moved}
 use Rattle.state.specs.declared.Answer.{Answer}
 use Rattle.state.specs.declared.Started.{Started}
-use Rattle.state.specs.Answers.{zeros, fresh, startAnswer, refused, numberOf, heldNext, ranState, runAnswer, nextPhase, robbedState, stealAnswer, eventAnswer}
+use Rattle.state.specs.Answers.{moved, zeros, fresh, startAnswer, refused, numberOf, heldNext, ranState, runAnswer, nextPhase, robbedState, stealAnswer, eventAnswer}
 
 -- ---- sizes
 
@@ -47,6 +48,16 @@ pub pushes-most : (p : ℕ) (ks : List ℕ) (i : ℕ) → i < length ks → push
 unfolding pushes
 pushes-most p ks i h = part-most (pushesChild p (kindAt ks i)) (suc i) (cont ks i) (length ks) h (cont-most ks i)
 
+-- ---- the two parts of an answer
+
+-- An answer is its outcome with the workers' tables, beside the places.
+pub both : {x y : Answer} → x ≡ y → (moved x ≡ moved y) × (x .state .place ≡ y .state .place)
+both e = (ap {B = Moved} moved e, ap (λ (a : Answer). a .state .place) e)
+
+pub joined : {x : Moved} {place : List ℕ} {y : Answer} → x ≡ moved y → place ≡ y .state .place
+    → _≡_ {A = Answer} (record { outcome = x .outcome; state = record { place = place; workers = x .workers } }) y
+joined {x} {place} {y} e f = λ k. record { outcome = e k .outcome; state = record { place = f k; workers = e k .workers } }
+
 -- ---- trace numbers
 
 pub number-ordinal : (p : ℕ) (ks : List ℕ) (i : ℕ) (o : Ordinal) → p ≡ 1 → o .0 ≡ ordinal ks i → ByOrdinal o ≡ numberOf p ks i
@@ -66,11 +77,13 @@ ran s w phase i next place =
       outcome = Ran (record { 0 = phase }) (record { 0 = i });
       state = record {
         place = place;
-        held = set (s .held) w next;
-        phase = s .phase;
-        low = s .low;
-        steals = s .steals;
-        policy = s .policy;
+        workers = record {
+          held = set (s .workers .held) w next;
+          phase = s .workers .phase;
+          low = s .workers .low;
+          steals = s .workers .steals;
+          policy = s .workers .policy;
+        };
       };
     }
 
@@ -84,7 +97,7 @@ module _ (s : RunState) (tree : List ℕ) (w : ℕ) where
     unfolding runAnswer refused
     run-long h = rw (lt-leb 16 w few, lt-ltb 4095 (length (kinds tree)) h) refl
 
-    module _ (most : length (kinds tree) ≤ 4095) (i : ℕ) (held : i ≡ getD (s .held) w 0) where
+    module _ (most : length (kinds tree) ≤ 4095) (i : ℕ) (held : i ≡ getD (s .workers .held) w 0) where
       pub run-idle : length (kinds tree) ≤ i → _≡_ {A = Answer} (record { outcome = Refused 9; state = s }) (runAnswer s tree w)
       unfolding runAnswer refused
       run-idle h = rw (lt-leb 16 w few, le-ltb 4095 (length (kinds tree)) most, ← held, le-leb (length (kinds tree)) i h) refl
@@ -95,7 +108,7 @@ module _ (s : RunState) (tree : List ℕ) (w : ℕ) where
         unfolding runAnswer refused
         run-waits h = rw (lt-leb 16 w few, le-ltb 4095 (length (kinds tree)) most, ← held, lt-leb (length (kinds tree)) i within, h) refl
 
-        pub run-runs : waitsFor (kinds tree) (s .place) i ≡ false → (phase : ℕ) → phase ≡ getD (s .phase) w 0
+        pub run-runs : waitsFor (kinds tree) (s .place) i ≡ false → (phase : ℕ) → phase ≡ getD (s .workers .phase) w 0
             → _≡_ {A = Answer} (record { outcome = Ran (record { 0 = phase }) (record { 0 = i }); state = ranState s (kinds tree) w i })
             (runAnswer s tree w)
         unfolding runAnswer refused
@@ -103,22 +116,22 @@ module _ (s : RunState) (tree : List ℕ) (w : ℕ) where
             rw (lt-leb 16 w few, le-ltb 4095 (length (kinds tree)) most, ← held, lt-leb (length (kinds tree)) i within, h, e) refl
 
         -- A step that does not wait. The worker's phase, and what it holds next.
-        module _ (free : waitsFor (kinds tree) (s .place) i ≡ false) (phase : ℕ) (in-phase : phase ≡ getD (s .phase) w 0) (next : ℕ) where
+        module _ (free : waitsFor (kinds tree) (s .place) i ≡ false) (phase : ℕ) (in-phase : phase ≡ getD (s .workers .phase) w 0) (next : ℕ) where
           ran-state : (place : List ℕ) → next ≡ heldNext s (kinds tree) w i
-              → place ≡ cond (isEnd (kindAt (kinds tree) i)) (popped (s .place) w (getD (s .low) w 0) i) (set (s .place) i w)
+              → place ≡ cond (isEnd (kindAt (kinds tree) i)) (popped (s .place) w (getD (s .workers .low) w 0) i) (set (s .place) i w)
               → ran s w phase i next place ≡ runAnswer s tree w
           unfolding ranState
           ran-state place e f = rw (e, f) (run-runs free phase in-phase)
 
-          pub run-opens : (kindAt (kinds tree) i ≡ 3 → ⊥) → next ≡ holds (s .policy) (kinds tree) i
+          pub run-opens : (kindAt (kinds tree) i ≡ 3 → ⊥) → next ≡ holds (s .workers .policy) (kinds tree) i
               → ran s w phase i next (set (s .place) i w) ≡ runAnswer s tree w
           unfolding isEnd heldNext
           run-opens n e =
               ran-state (set (s .place) i w) (rw (ne-eqb (kindAt (kinds tree) i) 3 n) e) (rw (ne-eqb (kindAt (kinds tree) i) 3 n) refl)
 
-          module _ (end : kindAt (kinds tree) i ≡ 3) (low : ℕ) (from : low ≡ getD (s .low) w 0) (place : List ℕ)
+          module _ (end : kindAt (kinds tree) i ≡ 3) (low : ℕ) (from : low ≡ getD (s .workers .low) w 0) (place : List ℕ)
               (stored : place ≡ popped (s .place) w low i) where
-            pub run-pops : (q : ℕ) → newestMark (s .place) w low i ≡ some q → next ≡ pushes (s .policy) (kinds tree) q
+            pub run-pops : (q : ℕ) → newestMark (s .place) w low i ≡ some q → next ≡ pushes (s .workers .policy) (kinds tree) q
                 → ran s w phase i next place ≡ runAnswer s tree w
             unfolding isEnd heldNext
             run-pops q found e =
@@ -137,11 +150,13 @@ stolen s t v number taken phase low place =
       outcome = Stole number;
       state = record {
         place = place;
-        held = set (s .held) t taken;
-        phase = set (s .phase) t phase;
-        low = set (set (s .low) v low) t taken;
-        steals = phase;
-        policy = s .policy;
+        workers = record {
+          held = set (s .workers .held) t taken;
+          phase = set (s .workers .phase) t phase;
+          low = set (set (s .workers .low) v low) t taken;
+          steals = phase;
+          policy = s .workers .policy;
+        };
       };
     }
 
@@ -160,7 +175,7 @@ module _ (s : RunState) (tree : List ℕ) (t v : ℕ) where
     unfolding stealAnswer refused
     steal-long h = rw (lt-leb 16 t few, lt-leb 16 v fewer, lt-ltb 4095 (length (kinds tree)) h) refl
 
-    module _ (most : length (kinds tree) ≤ 4095) (held : ℕ) (holding : held ≡ getD (s .held) t 0) where
+    module _ (most : length (kinds tree) ≤ 4095) (held : ℕ) (holding : held ≡ getD (s .workers .held) t 0) where
       pub steal-busy : held < length (kinds tree)
           → _≡_ {A = Answer} (record { outcome = Refused 11; state = s }) (stealAnswer s tree t v)
       unfolding stealAnswer refused
@@ -168,7 +183,7 @@ module _ (s : RunState) (tree : List ℕ) (t v : ℕ) where
           rw (lt-leb 16 t few, lt-leb 16 v fewer, le-ltb 4095 (length (kinds tree)) most, ← holding, lt-ltb held (length (kinds tree)) h) refl
 
       -- The thief is idle.
-      module _ (none-held : length (kinds tree) ≤ held) (low : ℕ) (from : low ≡ getD (s .low) v 0) where
+      module _ (none-held : length (kinds tree) ≤ held) (low : ℕ) (from : low ≡ getD (s .workers .low) v 0) where
         pub steal-empty : oldestMark (s .place) v low (length (kinds tree)) ≡ none
             → _≡_ {A = Answer} (record { outcome = Refused 12; state = s }) (stealAnswer s tree t v)
         unfolding stealAnswer refused
@@ -177,9 +192,9 @@ module _ (s : RunState) (tree : List ℕ) (t v : ℕ) where
 
         pub steal-takes : (q : ℕ) → oldestMark (s .place) v low (length (kinds tree)) ≡ some q
             → (place : List ℕ) → place ≡ robbed (s .place) v low (length (kinds tree))
-            → (taken : ℕ) → taken ≡ pushes (s .policy) (kinds tree) q
-            → (number : TraceNumber) → number ≡ numberOf (s .policy) (kinds tree) taken
-            → stolen s t v number taken (s .steals % 2048 + 1) (q + 1) place ≡ stealAnswer s tree t v
+            → (taken : ℕ) → taken ≡ pushes (s .workers .policy) (kinds tree) q
+            → (number : TraceNumber) → number ≡ numberOf (s .workers .policy) (kinds tree) taken
+            → stolen s t v number taken (s .workers .steals % 2048 + 1) (q + 1) place ≡ stealAnswer s tree t v
         unfolding stealAnswer refused robbedState nextPhase
         steal-takes q found place stored taken e number f =
             rw (stored, f, e, add-one q, lt-leb 16 t few, lt-leb 16 v fewer, le-ltb 4095 (length (kinds tree)) most, ← holding, le-ltb held (length (kinds tree)) none-held, from, stealAnswer, rw from at found) refl

@@ -8,7 +8,7 @@ idle-set-requires : tie.Need-idle-set-requires
 idle-set-requires c κs = search needs
 
 returns : tie.Need-returns
-returns c = idle-answers (c .before .before .before .args .t1) (c .idle-set .result) (c .idle-set .ensures)
+returns c = idle-answers (c .before .before .before .args .self) (c .idle-set .result) (c .idle-set .ensures)
 
 pub idle-spec : {M : Type 1} → statement M
 idle-spec = tie.close (tie.spec idle-set-requires returns)
