@@ -1,4 +1,4 @@
-//! Links the proved library's archive, which `rt staticlib host` makes, into the integration tests.
+//! Links the proved library's archive, which `rt staticlib host` makes, into the integration tests and the benchmarks.
 
 use std::path::Path;
 
@@ -7,4 +7,5 @@ fn main() {
     let archive = Path::new(&here).join("../target/staticlib/libhost.a");
     println!("cargo:rerun-if-changed={}", archive.display());
     println!("cargo:rustc-link-arg-tests={}", archive.display());
+    println!("cargo:rustc-link-arg-benches={}", archive.display());
 }

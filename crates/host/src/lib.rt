@@ -124,11 +124,11 @@ pub struct FrameStart {
 pub extern "C" fn frame_start(tree: &[u8], policy: u8) -> FrameStart
     ensures { λ r. ⌜ r ≡ flatStart (startAnswer policy (now (tree .entry))) ⌝ }
 {
-    let a = state::start(tree, policy);
-    let state = a.state;
+    let started = state::start(tree, policy);
+    let state = started.state;
     FrameStart {
-        number: a.number as usize,
-        position: a.position,
+        number: started.number as usize,
+        position: started.position,
         state,
     }
 }
