@@ -9,7 +9,7 @@ use std::fmt;
 
 use frame_tests::cover::WORKERS;
 use frame_tests::random::{damaged_tree, drive, tree, tree_of_kinds, tree_with, Plan, Rng, Weights, SHAPES};
-use frame_tests::run::Run;
+use frame_tests::run::{Policy, Run};
 use guarded::Guarded;
 use library::{FrameEvent, FrameIdle, RunState, NOT_RUN, NO_STEP, RUN};
 
@@ -34,14 +34,14 @@ impl fmt::Display for At {
 
 /// The state beside a refused start.
 fn zeros() -> RunState {
-    RunState { place: [0; 4095], held: [0; 16], phase: [0; 16], low: [0; 16], steals: 0, policy: 0 }
+    RunState { place: [0; 4095], held: [0; 16], phase: [0; 16], low: [0; 16], base: [0; 16], steals: 0, policy: 0 }
 }
 
 /// Worker 0 holds step 0 in phase 0, the others are idle, and no step has run.
 fn first_state(policy: u8) -> RunState {
     let mut held = [NO_STEP; 16];
     held[0] = 0;
-    RunState { place: [NOT_RUN; 4095], held, phase: [0; 16], low: [0; 16], steals: 0, policy }
+    RunState { place: [NOT_RUN; 4095], held, phase: [0; 16], low: [0; 16], base: [0; 16], steals: 0, policy }
 }
 
 /// All of an event's answer but the state: number, what, phase, step, trace.
@@ -58,6 +58,10 @@ fn same_workers(state: &RunState, run: &Run, at: At) {
         assert_eq!(state.held[w], held, "{at}, held by worker {w}");
         if let Some(phase) = worker.phase {
             assert_eq!(usize::from(state.phase[w]), phase, "{at}, phase of worker {w}");
+        }
+        if worker.held.is_some() && run.policy == Policy::WorkFirst {
+            let ordinal = run.tree.ordinal(usize::from(state.low[w]));
+            assert_eq!(usize::from(state.base[w]), ordinal, "{at}, ordinal of worker {w}'s low");
         }
     }
     assert_eq!(usize::from(state.steals), run.trace.len(), "{at}, steals");
@@ -333,7 +337,7 @@ fn as_many_steals_as_a_run_can_have() {
 // ---- Document 01's cases ----
 
 /// An event of tree S, what it answers, who is idle then, and the state: the seven steps' places, and the first three
-/// workers' held step, phase and low.
+/// workers' held step, phase, low and base.
 struct Row {
     event: [u8; 2],
     answer: [usize; 5],
@@ -342,6 +346,7 @@ struct Row {
     held: [u16; 3],
     phase: [u16; 3],
     low: [u16; 3],
+    base: [u16; 3],
     steals: u16,
 }
 
@@ -357,6 +362,7 @@ const P1: [Row; 10] = [
         held: [1, NO, NO],
         phase: [0, 0, 0],
         low: [0, 0, 0],
+        base: [0, 0, 0],
         steals: 0,
     },
     Row {
@@ -367,6 +373,7 @@ const P1: [Row; 10] = [
         held: [1, 2, NO],
         phase: [0, 1, 0],
         low: [1, 2, 0],
+        base: [0, 1, 0],
         steals: 1,
     },
     Row {
@@ -377,6 +384,7 @@ const P1: [Row; 10] = [
         held: [1, 3, NO],
         phase: [0, 1, 0],
         low: [1, 2, 0],
+        base: [0, 1, 0],
         steals: 1,
     },
     Row {
@@ -387,6 +395,7 @@ const P1: [Row; 10] = [
         held: [1, 3, 6],
         phase: [0, 1, 2],
         low: [1, 3, 6],
+        base: [0, 0, 2],
         steals: 2,
     },
     Row {
@@ -397,6 +406,7 @@ const P1: [Row; 10] = [
         held: [1, 4, 6],
         phase: [0, 1, 2],
         low: [1, 3, 6],
+        base: [0, 0, 2],
         steals: 2,
     },
     Row {
@@ -407,6 +417,7 @@ const P1: [Row; 10] = [
         held: [NO, 4, 6],
         phase: [0, 1, 2],
         low: [1, 3, 6],
+        base: [0, 0, 2],
         steals: 2,
     },
     Row {
@@ -417,6 +428,7 @@ const P1: [Row; 10] = [
         held: [5, 4, 6],
         phase: [3, 1, 2],
         low: [5, 4, 6],
+        base: [1, 0, 2],
         steals: 3,
     },
     Row {
@@ -427,6 +439,7 @@ const P1: [Row; 10] = [
         held: [NO, 4, 6],
         phase: [3, 1, 2],
         low: [5, 4, 6],
+        base: [1, 0, 2],
         steals: 3,
     },
     Row {
@@ -437,6 +450,7 @@ const P1: [Row; 10] = [
         held: [NO, NO, 6],
         phase: [3, 1, 2],
         low: [5, 4, 6],
+        base: [1, 0, 2],
         steals: 3,
     },
     Row {
@@ -447,6 +461,7 @@ const P1: [Row; 10] = [
         held: [NO, NO, NO],
         phase: [3, 1, 2],
         low: [5, 4, 6],
+        base: [1, 0, 2],
         steals: 3,
     },
 ];
@@ -461,6 +476,7 @@ const P2_END: [Row; 2] = [
         held: [5, NO, 6],
         phase: [3, 1, 2],
         low: [5, 4, 6],
+        base: [1, 0, 2],
         steals: 3,
     },
     Row {
@@ -471,6 +487,7 @@ const P2_END: [Row; 2] = [
         held: [5, NO, 6],
         phase: [3, 1, 2],
         low: [5, 4, 6],
+        base: [1, 0, 2],
         steals: 3,
     },
 ];
@@ -482,6 +499,7 @@ fn state_of(row: &Row) -> RunState {
     state.held[..3].copy_from_slice(&row.held);
     state.phase[..3].copy_from_slice(&row.phase);
     state.low[..3].copy_from_slice(&row.low);
+    state.base[..3].copy_from_slice(&row.base);
     state.steals = row.steals;
     state
 }
@@ -650,6 +668,20 @@ impl Contract<'_> {
         (low..end).filter(|&step| usize::from(self.state.place[step]) == worker).collect()
     }
 
+    /// The children opened directly from one step to before another.
+    fn children(&self, from: usize, to: usize) -> usize {
+        let (mut depth, mut children) = (0_usize, 0);
+        for step in from..to {
+            if library::kind(self.tree, step) == 3 {
+                depth = depth.saturating_sub(1);
+            } else {
+                children += usize::from(depth == 0);
+                depth += 1;
+            }
+        }
+        children
+    }
+
     fn waits(&self, step: usize) -> bool {
         let first = library::finish_before(self.tree, step);
         first != 0 && self.state.place[first..step].contains(&NOT_RUN)
@@ -711,8 +743,15 @@ impl Contract<'_> {
         next.phase[thief] = phase;
         next.low[victim] = oldest as u16 + 1;
         next.low[thief] = taken as u16;
+        next.base[victim] = 0;
+        next.base[thief] = 0;
         next.steals = phase;
-        let trace = if self.state.policy == 1 { library::task(self.tree, taken).ordinal } else { taken };
+        let mut trace = taken;
+        if self.state.policy == 1 {
+            let low = usize::from(self.state.low[victim]);
+            trace = usize::from(self.state.base[victim] % 4_096) + self.children(low, oldest) + 1;
+            next.base[thief] = trace as u16;
+        }
         FrameEvent { number: 0, what: 2, phase: 0, step: 0, trace, state: next }
     }
 
@@ -736,11 +775,11 @@ impl Contract<'_> {
 
 /// The bytes of a state's places, and of all that follows them.
 const PLACE_BYTES: usize = 4_095;
-const OTHER_BYTES: usize = 3 * 32 + 2 + 1;
+const OTHER_BYTES: usize = 4 * 32 + 2 + 1;
 
 fn state_bytes(state: &RunState) -> Vec<u8> {
     let mut bytes = state.place.to_vec();
-    for numbers in [&state.held[..], &state.phase, &state.low, &[state.steals]] {
+    for numbers in [&state.held[..], &state.phase, &state.low, &state.base, &[state.steals]] {
         bytes.extend(numbers.iter().flat_map(|number| number.to_le_bytes()));
     }
     bytes.push(state.policy);
@@ -755,8 +794,9 @@ fn state_of_bytes(bytes: &[u8]) -> RunState {
         held: std::array::from_fn(number),
         phase: std::array::from_fn(|w| number(16 + w)),
         low: std::array::from_fn(|w| number(32 + w)),
-        steals: number(48),
-        policy: bytes[PLACE_BYTES + 98],
+        base: std::array::from_fn(|w| number(48 + w)),
+        steals: number(64),
+        policy: bytes[PLACE_BYTES + 130],
     }
 }
 
@@ -822,6 +862,7 @@ fn likely_state(rng: &mut Rng, tree: &[u8]) -> RunState {
             1 | 2 => 0,
             _ => rng.between(0, steps + 1) as u16,
         };
+        state.base[w] = if rng.percent(20) { rng.next() as u16 } else { rng.below(4_100) as u16 };
     }
     state.steals = rng.pick(&[0, 1, 2_046, 2_047, 2_048, 2_049, 65_535, 77]);
     state.policy = rng.pick(&[0, 1, 1, 1, 2, 2, 2, 3, 255]);

@@ -1,11 +1,13 @@
 -- What need not be believed: everything here is proved from the rules and the calls' answers.
 --     Scans    what a scan of the places finds, from what is marked
+--     Hops     from step to step over a task's children: ordinals, and the children between
 --     Hands    one worker's marks and held step: the newest and the oldest pusher; a push, a pop, a theft, another worker's move
 --     Tables   all workers beside each other: the start, and one worker's change
 --     Moves    an accepted run or steal: the next state shows the next run
 --     Answers  a run's and a steal's answer beside the rules' verdict, case by case; a refusal keeps the state
 --     Events   each call on a state that shows a run: the start, an event, the idle workers
 pub mod Scans
+pub mod Hops
 pub mod Hands
 pub mod Tables
 pub mod Moves

@@ -1,5 +1,5 @@
 -- How a state by value shows a run of the rules, and what its calls answer then. `p` is the policy, `ks` the tree's kinds.
-use Prim.Native.Nat.{ℕ, _≤_, _<_}
+use Prim.Native.Nat.{ℕ, zero, suc, _≤_, _<_}
 use mathlib.Core.Path.{_≡_}
 use mathlib.Core.Bool.{false, cond, not}
 use mathlib.Core.List.{List, [], _∷_, map}
@@ -7,14 +7,14 @@ use mathlib.Core.Option.{Option, none, some}
 use lib.ListN.{length, getD}
 use lib.Dec.{eqb}
 use Rattle.rules.specs.Bytes.{any}
-use Rattle.rules.specs.Tree.{kinds, kindAt, isEnd, taskEnd}
-use Rattle.rules.specs.Scheduling.{mostWorkers, pushes, Worker, Run, workerAt, hasRun, isRun, oldest, judgeEvent}
+use Rattle.rules.specs.Tree.{kindAt, isEnd, ordinal, taskEnd, cont}
+use Rattle.rules.specs.Scheduling.{workFirst, mostWorkers, pushes, Worker, Run, workerAt, hasRun, isRun, oldest, judgeEvent}
 use Rattle.rules.specs.Calls.{eventCall}
 use Rattle.moves.specs.Answers.{marked}
 use Rattle.state.specs.declared.RunState.{RunState}
 use Rattle.state.specs.declared.Outcome.{Outcome}
 use Rattle.state.specs.declared.Outcome.the-variants.{Ran, Stole, Refused}
-use Rattle.state.specs.Answers.{numberOf, eventAnswer}
+use Rattle.state.specs.Answers.{numberBy, eventAnswer}
 
 -- ---- a worker
 
@@ -29,12 +29,29 @@ abbrev pub HeldShown : List ℕ → Option ℕ → ℕ → ℕ → List ℕ → 
 HeldShown ks none held low qs = (held ≡ 65535) × (qs ≡ [])
 HeldShown ks (some h) held low qs = (held ≡ h) × Line ks low h qs
 
+-- From step a to step x over k children of the same task: each time on to the step after the end of the child that is opened.
+abbrev pub Hops : List ℕ → ℕ → ℕ → ℕ → Type 0
+Hops ks zero a x = a ≡ x
+Hops ks (suc k) a x = (a < length ks) × (isEnd (kindAt ks a) ≡ false) × Hops ks k (cont ks a) x
+
+-- Each of the held step x and the pushers is a step of the child that the next older pusher opened, and the oldest a step of
+-- the task of `low`.
+abbrev pub Linked : List ℕ → ℕ → ℕ → List ℕ → Type 0
+Linked ks low x [] = (k : ℕ) × Hops ks k low x
+Linked ks low x (q ∷ qs) = ((k : ℕ) × Hops ks k (suc q) x) × Linked ks low q qs
+
+-- Work-first: so it is, and the state's `base` is the ordinal of `low`.
+abbrev pub Numbered : List ℕ → Option ℕ → ℕ → ℕ → List ℕ → Type 0
+Numbered ks none low base qs = 0 ≤ 0
+Numbered ks (some h) low base qs = (low < length ks) × (base ≡ ordinal ks low) × Linked ks low h qs
+
 -- The steps marked with w are the pushers of its deque's steps.
-pub record HandShown (p : ℕ) (ks place : List ℕ) (w held low phase : ℕ) (worker : Worker) : Type 0 where
+pub record HandShown (p : ℕ) (ks place : List ℕ) (w held low base phase : ℕ) (worker : Worker) : Type 0 where
   pub pushers : List ℕ
   pub deque : worker .hand .deque ≡ map (pushes p ks) pushers
   pub marks : (j : ℕ) → j < length ks → marked place w j ≡ any (eqb j) pushers
   pub holding : HeldShown ks (worker .hand .held) held low pushers
+  pub numbered : p ≡ workFirst → Numbered ks (worker .hand .held) low base pushers
   pub latest : phase ≡ worker .phase
 
 -- ---- the state
@@ -45,9 +62,11 @@ pub record Shows (p : ℕ) (ks : List ℕ) (s : RunState) (r : Run) : Type 0 whe
   pub helds : length (s .workers .held) ≡ mostWorkers
   pub phases : length (s .workers .phase) ≡ mostWorkers
   pub lows : length (s .workers .low) ≡ mostWorkers
+  pub bases : length (s .workers .base) ≡ mostWorkers
   pub workers : length (r .workers) ≡ mostWorkers
   pub hands : (w : ℕ) → w < mostWorkers
-      → HandShown p ks (s .place) w (getD (s .workers .held) w 0) (getD (s .workers .low) w 0) (getD (s .workers .phase) w 0) (workerAt r w)
+      → HandShown p ks (s .place) w (getD (s .workers .held) w 0) (getD (s .workers .low) w 0) (getD (s .workers .base) w 0)
+      (getD (s .workers .phase) w 0) (workerAt r w)
   -- 17 is the mark of the steps that have not run.
   pub unrun : (j : ℕ) → j < length ks → eqb (getD (s .place) j 0) 17 ≡ not (hasRun (r .log) j)
   pub steals : s .workers .steals ≡ length (r .steals)
@@ -64,7 +83,8 @@ told p ks r e =
     let first = workerAt r (getD e 0 0) in
     let second = workerAt r (getD e 1 0) in
     let ran = Ran (record { 0 = first .phase }) (record { 0 = heldStep first }) in
-    let stole = Stole (numberOf p ks (oldest (second .hand .deque))) in
+    let stolen = oldest (second .hand .deque) in
+    let stole = Stole (numberBy p (ordinal ks stolen) stolen) in
     cond (eqb (judgeEvent ks r e) 0) (cond (isRun e) ran stole) (Refused (judgeEvent ks r e))
 
 -- ---- lists of events

@@ -1,13 +1,13 @@
 -- What the functions on the array of places answer, and what they leave in it. `place` is one byte for each step: 17 not run, 16
 -- run, w run and its pushed step is in worker w's deque.
-use Prim.Native.Nat.{ℕ, _-_}
+use Prim.Native.Nat.{ℕ, suc, pred, _+_, _-_}
 use mathlib.Core.Bool.{Bool, false, cond, not}
 use mathlib.Core.List.{List, [], _∷_, reverse}
 use mathlib.Core.Option.{Option, none, some}
-use lib.ListN.{getD, set}
+use lib.ListN.{take, drop, getD, set}
 use lib.Dec.{eqb}
 use Rattle.rules.specs.Bytes.{count, all}
-use Rattle.rules.specs.Tree.{finishBefore}
+use Rattle.rules.specs.Tree.{isEnd, finishBefore}
 use Rattle.moves.specs.declared.Pusher.{Pusher}
 use Rattle.moves.specs.declared.Pusher.the-variants.{At, Nothing}
 
@@ -42,6 +42,18 @@ allRun place first end = all (λ j. not (eqb (getD place j 0) 17)) (count first 
 -- A step after a finish child waits until all steps of the child have run, those of its descendants too: they stand between.
 unfoldable pub waitsFor : List ℕ → List ℕ → ℕ → Bool
 waitsFor ks place i = elim (finishBefore ks i) [ none ↦ false | some first ↦ not (allRun place first i) ]
+
+-- ---- children
+
+-- How many children a list of kinds opens directly, while `depth` of them are open. Others are inside these.
+unfoldable pub childrenIn : ℕ → List ℕ → ℕ
+childrenIn depth [] = 0
+childrenIn depth (k ∷ ks) =
+    cond (isEnd k) (childrenIn (pred depth) ks) (cond (eqb depth 0) 1 0 + childrenIn (suc depth) ks)
+
+-- Those opened from step `from` to before step `to`.
+unfoldable pub childrenBetween : List ℕ → ℕ → ℕ → ℕ
+childrenBetween ks from to = childrenIn 0 (take (to - from) (drop from ks))
 
 -- ---- stores
 

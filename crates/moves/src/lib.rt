@@ -7,11 +7,13 @@ ghost use Prim.Native.Nat.{_≤_, _<_};
 ghost use lib.ListN.{length};
 ghost use Rattle.rules.specs.Tree.{kinds};
 ghost use Rattle.rules.specs.Scheduling.{holds, pushes};
-ghost use Rattle.moves.specs.Answers.{newestMark, oldestMark, pusherOf, allRun, waitsFor, popped, robbed};
+ghost use Rattle.moves.specs.Answers.{newestMark, oldestMark, pusherOf, allRun, waitsFor, childrenBetween, popped, robbed};
 use tasks::FinishChild;
 use tasks::cont;
 use tasks::finish_before;
 use tasks::pushes_child;
+use tree::END;
+use tree::RECORD;
 use tree::Step;
 use tree::kind;
 
@@ -105,6 +107,35 @@ pub fn pushed_by(tree: &[u8], policy: u8, step: Step) -> Step
         return Step(i + 1);
     }
     cont(tree, step)
+}
+
+// How many children are opened directly from step `from` to before step `to`: not those inside other children.
+pub fn children_between(tree: &[u8], from: usize, to: usize) -> usize
+    requires { ⌜ to ≤ length (kinds (now tree)) ⌝ }
+    ensures { λ r. ⌜ r ≡ childrenBetween (kinds (now (tree .entry))) from to ⌝ }
+    ensures few { λ r. ⌜ r ≤ to ⌝ }
+{
+    let mut j = from;
+    let mut depth: usize = 0;
+    let mut children: usize = 0;
+    while j < to {
+        let k = tree[RECORD * j];
+        j += 1;
+        if k == END {
+            if depth == 0 {
+                continue;
+            }
+            depth -= 1;
+            continue;
+        }
+        if depth == 0 {
+            depth = 1;
+            children += 1;
+            continue;
+        }
+        depth += 1;
+    }
+    children
 }
 
 // A worker runs an end: the step has run, and the newest step of the worker's deque leaves it. Gives that step's pusher.

@@ -7,10 +7,10 @@ use mathlib.Core.List.{List}
 use mathlib.Core.Option.{none, some}
 use lib.ListN.{length, getD, set, replicate}
 use lib.Dec.{eqb, leb, ltb}
-use Rattle.rules.specs.Tree.{kinds, kindAt, isEnd, ordinal, mostSteps}
+use Rattle.rules.specs.Tree.{kinds, kindAt, isEnd, mostSteps}
 use Rattle.rules.specs.Scheduling.{workFirst, mostWorkers, holds, pushes}
 use Rattle.rules.specs.Calls.{startVerdict}
-use Rattle.moves.specs.Answers.{newestMark, oldestMark, waitsFor, popped, robbed}
+use Rattle.moves.specs.Answers.{newestMark, oldestMark, waitsFor, childrenBetween, popped, robbed}
 use Rattle.state.specs.declared.Workers.{Workers}
 use Rattle.state.specs.declared.RunState.{RunState}
 use Rattle.state.specs.declared.TraceNumber.{TraceNumber}
@@ -35,7 +35,7 @@ unfoldable pub zeros : RunState
 zeros =
     record {
       place = replicate 4095 0;
-      workers = record { held = replicate 16 0; phase = replicate 16 0; low = replicate 16 0; steals = 0; policy = 0 };
+      workers = record { held = replicate 16 0; phase = replicate 16 0; low = replicate 16 0; base = replicate 16 0; steals = 0; policy = 0 };
     }
 
 -- "Worker 0 holds step 0 and that begins phase 0. The other 15 workers are idle." No step has run.
@@ -47,6 +47,7 @@ fresh p =
         held = set (replicate 16 65535) 0 0;
         phase = replicate 16 0;
         low = replicate 16 0;
+        base = replicate 16 0;
         steals = 0;
         policy = p;
       };
@@ -67,8 +68,13 @@ unfoldable pub refused : ℕ → RunState → Answer
 refused number s = record { outcome = Refused number; state = s }
 
 -- The trace number of a stolen step: its ordinal or its serial number, and never the one for the other.
-unfoldable pub numberOf : ℕ → List ℕ → ℕ → TraceNumber
-numberOf p ks step = cond (eqb p workFirst) (ByOrdinal (record { 0 = ordinal ks step })) (BySerial (record { 0 = step }))
+unfoldable pub numberBy : ℕ → ℕ → ℕ → TraceNumber
+numberBy p ordinal step = cond (eqb p workFirst) (ByOrdinal (record { 0 = ordinal })) (BySerial (record { 0 = step }))
+
+-- The ordinal of the step that step q pushes, from the ordinal `base` of a step of the same task, `from`: one more for each child
+-- opened between, and one for q's. Under help-first it is not asked for, and 0.
+unfoldable pub ordinalFrom : ℕ → List ℕ → ℕ → ℕ → ℕ → ℕ
+ordinalFrom p ks base from q = cond (eqb p workFirst) (base % 4096 + childrenBetween ks from q + 1) 0
 
 -- The step that worker w holds once it has run step i.
 unfoldable pub heldNext : RunState → List ℕ → ℕ → ℕ → ℕ
@@ -85,6 +91,7 @@ ranState s ks w i =
         held = set (s .workers .held) w (heldNext s ks w i);
         phase = s .workers .phase;
         low = s .workers .low;
+        base = s .workers .base;
         steals = s .workers .steals;
         policy = s .workers .policy;
       };
@@ -104,6 +111,10 @@ runAnswer s tree w =
 unfoldable pub nextPhase : RunState → ℕ
 nextPhase s = s .workers .steals % 2048 + 1
 
+-- The ordinal of the step that is stolen from v, which step q pushed.
+unfoldable pub takenOrdinal : RunState → List ℕ → ℕ → ℕ → ℕ
+takenOrdinal s ks v q = ordinalFrom (s .workers .policy) ks (getD (s .workers .base) v 0) (getD (s .workers .low) v 0) q
+
 -- The thief t has taken from v the step that step q pushed.
 unfoldable pub robbedState : RunState → List ℕ → ℕ → ℕ → ℕ → RunState
 robbedState s ks t v q =
@@ -114,6 +125,7 @@ robbedState s ks t v q =
         held = set (s .workers .held) t taken;
         phase = set (s .workers .phase) t (nextPhase s);
         low = set (set (s .workers .low) v (suc q)) t taken;
+        base = set (set (s .workers .base) v 0) t (takenOrdinal s ks v q);
         steals = nextPhase s;
         policy = s .workers .policy;
       };
@@ -127,7 +139,7 @@ stealAnswer s tree t v =
     (cond (ltb (getD (s .workers .held) t 0) (length ks)) (refused 11 s)
     (elim (oldestMark (s .place) v (getD (s .workers .low) v 0) (length ks)) [
       | none ↦ refused 12 s
-      | some q ↦ record { outcome = Stole (numberOf (s .workers .policy) ks (pushes (s .workers .policy) ks q)); state = robbedState s ks t v q }
+      | some q ↦ record { outcome = Stole (numberBy (s .workers .policy) (takenOrdinal s ks v q) (pushes (s .workers .policy) ks q)); state = robbedState s ks t v q }
     ])))
 
 -- "Equal bytes: that worker runs its step. Different bytes: the first steals from the second."

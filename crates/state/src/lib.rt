@@ -2,8 +2,10 @@
 // and hands back the next with its answer. Any state and any bytes are safe: a step that the tree has not is no held step, and
 // a tree with more records than a tree may have is refused with 2.
 ghost use mathlib.Core.Path.{_≡_};
+ghost use Prim.Native.Nat.{_≤_, _<_};
+ghost use lib.ListN.{length};
 ghost use Rattle.rules.specs.Tree.{kinds};
-ghost use Rattle.state.specs.Answers.{stateOf, moved, zeros, fresh, startAnswer, runAnswer, stealAnswer, eventAnswer, idleBits, idleAnswer, numberOf};
+ghost use Rattle.state.specs.Answers.{stateOf, moved, zeros, fresh, startAnswer, runAnswer, stealAnswer, eventAnswer, idleBits, idleAnswer, numberBy, ordinalFrom};
 use moves::NOT_RUN;
 use moves::Pusher;
 use moves::RUN;
@@ -21,6 +23,9 @@ pub const MOST_WORKERS: usize = 16;
 // Phases of a run: one for the start, and at most one for each spawned task.
 pub const MOST_PHASES: u16 = 2048;
 
+// More than any ordinal of a tree.
+pub const MOST_ORDINALS: usize = 4096;
+
 // What a worker that holds no step has for one.
 pub const NO_STEP: u16 = 65535;
 
@@ -31,8 +36,10 @@ pub struct Workers {
     pub held: [u16; 16],
     // its latest phase
     pub phase: [u16; 16],
-    // and a step below which no step is marked with it
+    // a step below which no step is marked with it
     pub low: [u16; 16],
+    // and, work-first, that step's ordinal
+    pub base: [u16; 16],
     // how many steals there were
     pub steals: u16,
     pub policy: u8,
@@ -92,14 +99,29 @@ fn wide(x: u16) -> usize
     x as usize
 }
 
-// The trace number of a stolen step.
-pub fn trace_number(tree: &[u8], policy: u8, step: Step) -> TraceNumber
-    ensures { λ r. ⌜ r ≡ numberOf policy (kinds (now (tree .entry))) (step .0) ⌝ }
+// The trace number of a stolen step, by its ordinal or its serial number.
+fn trace_number(policy: u8, ordinal: Ordinal, step: Step) -> TraceNumber
+    ensures { λ r. ⌜ r ≡ numberBy policy (ordinal .0) (step .0) ⌝ }
 {
     if policy == WORK_FIRST {
-        return TraceNumber::ByOrdinal(tasks::ordinal_of(tree, step));
+        return TraceNumber::ByOrdinal(ordinal);
     }
     TraceNumber::BySerial(step)
+}
+
+// The ordinal of the step that step `pusher` pushes, from the ordinal of an earlier step of its task; 0 under help-first,
+// which counts none. No ordinal is above 4,095.
+fn ordinal_from(tree: &[u8], policy: u8, base: u16, from: usize, pusher: usize) -> Ordinal
+    requires { ⌜ (pusher ≤ length (kinds (now tree))) × (length (kinds (now tree)) ≤ 4095) ⌝ }
+    ensures { λ r. ⌜ r .0 ≡ ordinalFrom policy (kinds (now (tree .entry))) base from pusher ⌝ }
+    ensures small { λ r. ⌜ r .0 < 65536 ⌝ }
+{
+    if policy == WORK_FIRST {
+        return Ordinal(
+            wide(base) % MOST_ORDINALS + moves::children_between(tree, from, pusher) + 1,
+        );
+    }
+    Ordinal(0)
 }
 
 // The state beside a refusal.
@@ -112,6 +134,7 @@ fn no_state() -> RunState
             held: [0; 16],
             phase: [0; 16],
             low: [0; 16],
+            base: [0; 16],
             steals: 0,
             policy: 0,
         },
@@ -130,6 +153,7 @@ fn first_state(policy: u8) -> RunState
             held,
             phase: [0; 16],
             low: [0; 16],
+            base: [0; 16],
             steals: 0,
             policy,
         },
@@ -281,6 +305,7 @@ pub fn steal_on(
         };
     }
     let low = wide(workers.low[v]);
+    let base = workers.base[v];
     let policy = workers.policy;
     let phase = workers.steals % MOST_PHASES + 1;
     let mut next = workers;
@@ -288,13 +313,16 @@ pub fn steal_on(
         Pusher::At(q) => {
             let step = moves::pushed_by(tree, policy, q);
             let taken = step.0 as u16;
+            let ordinal = ordinal_from(tree, policy, base, low, q.0);
             next.low[v] = (q.0 + 1) as u16;
             next.low[t] = taken;
+            next.base[v] = 0;
+            next.base[t] = ordinal.0 as u16;
             next.held[t] = taken;
             next.phase[t] = phase;
             next.steals = phase;
             Moved {
-                outcome: Outcome::Stole(trace_number(tree, policy, step)),
+                outcome: Outcome::Stole(trace_number(policy, ordinal, step)),
                 workers: next,
             }
         }

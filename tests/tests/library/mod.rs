@@ -41,6 +41,7 @@ pub struct RunState {
     pub held: [u16; 16],
     pub phase: [u16; 16],
     pub low: [u16; 16],
+    pub base: [u16; 16],
     pub steals: u16,
     pub policy: u8,
 }

@@ -1,22 +1,23 @@
 -- A run's and a steal's answer, case by case: on any state a refusal keeps it; on a state that shows a run the rules' verdict.
 use Prim.Native.Nat.{ℕ, _<_}
-use mathlib.Core.Path.{_≡_, refl}
+use mathlib.Core.Path.{_≡_, refl, ap, _∙_}
 use mathlib.Core.Bool.{Bool, true, false, cond, _||_}
 use mathlib.Core.List.{List, [], _∷_}
 use mathlib.Core.Option.{Option, none, some}
+use native.Mathlib.Decide.{ℕ-discrete}
 use native.Mathlib.Omega.{arith}
 use lib.ListN.{length, getD}
 use lib.Dec.{leb, ltb}
 use borrow.Author.Tests.{lt-ltb, le-ltb, le-leb, lt-leb, ne-eqb}
-use Rattle.rules.specs.Tree.{kinds}
-use Rattle.rules.specs.Scheduling.{mostWorkers, pushes, Run, workerAt, waits, judgeRun, runStep, holdsStep, judgeSteal, oldest, steal}
+use Rattle.rules.specs.Tree.{kinds, ordinal}
+use Rattle.rules.specs.Scheduling.{workFirst, mostWorkers, pushes, Run, workerAt, waits, judgeRun, runStep, holdsStep, judgeSteal, oldest, steal}
 use Rattle.moves.specs.Answers.{oldestMark, waitsFor}
 use Rattle.state.specs.declared.RunState.{RunState}
 use Rattle.state.specs.declared.TraceNumber.{TraceNumber}
 use Rattle.state.specs.declared.Outcome.{Outcome}
 use Rattle.state.specs.declared.Outcome.the-variants.{Ran, Stole, Refused}
 use Rattle.state.specs.declared.Answer.{Answer}
-use Rattle.state.specs.Answers.{refused, numberOf, ranState, runAnswer, robbedState, stealAnswer}
+use Rattle.state.specs.Answers.{refused, numberBy, ranState, runAnswer, takenOrdinal, robbedState, stealAnswer}
 use Rattle.live.specs.Tie.{Shows, heldStep}
 use Rattle.live.specs.Laws.Scans.{waits-shown}
 use Rattle.live.specs.Laws.Moves.{Known, Stolen, held-none, held-some, run-shows, nothing-found, steal-shows}
@@ -60,9 +61,15 @@ module _ (s : RunState) where
       (keeps-if (ltb 4095 n) (keeps-refused 2)
       (keeps-if (ltb (getD (s .workers .held) t 0) n) (keeps-refused 11)
       (keeps-found (oldestMark (s .place) v (getD (s .workers .low) v 0) n)
-      (λ q. numberOf (s .workers .policy) (kinds tree) (pushes (s .workers .policy) (kinds tree) q)) (robbedState s (kinds tree) t v))))
+      (λ q. numberBy (s .workers .policy) (takenOrdinal s (kinds tree) v q) (pushes (s .workers .policy) (kinds tree) q))
+      (robbedState s (kinds tree) t v))))
 
 -- ---- a state that shows a run
+
+-- Only work-first asks for the ordinal.
+number-alike : (p a b x : ℕ) → (p ≡ workFirst → a ≡ b) → numberBy p a x ≡ numberBy p b x
+unfolding numberBy
+number-alike p a b x same = elim (ℕ-discrete p 1) [ yes e ↦ rw (same e) refl | no n ↦ rw (ne-eqb p 1 n) refl ]
 
 -- An answer on the state s, and the rules' number, word and next run: both refuse with that number, or both accept.
 pub data Agrees (p : ℕ) (ks : List ℕ) (s : RunState) (answer : Answer) (number : ℕ) (word : Outcome) (next : Run) : Type 0 where
@@ -122,7 +129,8 @@ module _ {p : ℕ} (tree : List ℕ) {s : RunState} {r : Run} (known : Known p (
         (elim found [
           | none ↦ refused 12 s
           | some q ↦ record {
-            outcome = Stole (numberOf (s .workers .policy) (kinds tree) (pushes (s .workers .policy) (kinds tree) q));
+            outcome = Stole (numberBy (s .workers .policy) (takenOrdinal s (kinds tree) v q)
+                (pushes (s .workers .policy) (kinds tree) q));
             state = robbedState s (kinds tree) t v q;
           }
         ])
@@ -132,7 +140,8 @@ module _ {p : ℕ} (tree : List ℕ) {s : RunState} {r : Run} (known : Known p (
     abbrev pub StealAgrees : Type 0
     StealAgrees =
         Agrees p (kinds tree) s (stealAnswer s tree t v) (judgeSteal r t v)
-        (Stole (numberOf p (kinds tree) (oldest (workerAt r v .hand .deque)))) (steal r t v)
+        (Stole (numberBy p (ordinal (kinds tree) (oldest (workerAt r v .hand .deque))) (oldest (workerAt r v .hand .deque))))
+        (steal r t v)
 
     steal-busy : (j : ℕ) → workerAt r t .hand .held ≡ some j → StealAgrees
     unfolding judgeSteal holdsStep
@@ -149,7 +158,10 @@ module _ {p : ℕ} (tree : List ℕ) {s : RunState} {r : Run} (known : Known p (
     steal-taken e full q stolen =
         rw (steal-answer (some q) (stolen .found), not-busy e)
         (accepts (rw (e, holdsStep, ne-eqb (length (workerAt r v .hand .deque)) 0 full) refl)
-        (rw (known .shows .policy, stolen .taken) refl) (stolen .next))
+        (rw (stolen .taken)
+        (ap (λ (x : ℕ). Stole (numberBy x (takenOrdinal s (kinds tree) v q) (pushes x (kinds tree) q))) (known .shows .policy)
+        ∙ ap Stole (number-alike p (takenOrdinal s (kinds tree) v q) _ (pushes p (kinds tree) q) (stolen .numbered))))
+        (stolen .next))
 
     steal-by : workerAt r t .hand .held ≡ none → (deque : List ℕ) → workerAt r v .hand .deque ≡ deque → StealAgrees
     unfolding judgeSteal holdsStep

@@ -11,13 +11,13 @@ use lib.Dec.{eqb, leb}
 use borrow.Author.Tests.{le-leb, lt-leb, eq-eqb, ne-eqb}
 use Rattle.rules.specs.Bytes.{any}
 use Rattle.rules.specs.Scheduling.{mostWorkers, Worker, Run, idleWorker, workerAt, start, hasRun, isRun, holdsStep, oldest, judgeEvent, nextRun, idleSet, idleCount, idleLowest}
-use Rattle.rules.specs.Tree.{kinds}
+use Rattle.rules.specs.Tree.{kinds, ordinal}
 use Rattle.rules.specs.Calls.{eventCall}
 use Rattle.tasks.specs.Laws.Frames.{Frame}
 use Rattle.runs.specs.Invariant.{Invariant}
 use Rattle.state.specs.declared.RunState.{RunState}
 use Rattle.state.specs.declared.Outcome.the-variants.{Ran, Stole, Refused}
-use Rattle.state.specs.Answers.{fresh, refused, numberOf, runAnswer, stealAnswer, eventAnswer, isIdle, idleBits, idleNumber, idleFirst}
+use Rattle.state.specs.Answers.{fresh, refused, numberBy, runAnswer, stealAnswer, eventAnswer, isIdle, idleBits, idleNumber, idleFirst}
 use Rattle.live.specs.Tie.{Shows, heldStep, told}
 use Rattle.live.specs.Laws.Tables.{shows-by, start-table}
 use Rattle.live.specs.Laws.Moves.{Known, held-none, held-some}
@@ -102,7 +102,8 @@ module _ (p : ℕ) (tree : List ℕ) (frame : Frame tree) (s : RunState) (r : Ru
   EventAgrees e =
       Agrees p (kinds tree) s (eventAnswer s tree (getD e 0 0) (getD e 1 0)) (judgeEvent (kinds tree) r e)
       (cond (isRun e) (Ran (record { 0 = workerAt r (getD e 0 0) .phase }) (record { 0 = heldStep (workerAt r (getD e 0 0)) }))
-      (Stole (numberOf p (kinds tree) (oldest (workerAt r (getD e 1 0) .hand .deque)))))
+      (Stole (numberBy p (ordinal (kinds tree) (oldest (workerAt r (getD e 1 0) .hand .deque)))
+      (oldest (workerAt r (getD e 1 0) .hand .deque)))))
       (nextRun p (kinds tree) r e)
 
   far-agrees : (e : List ℕ) → leb 16 (getD e 0 0) || leb 16 (getD e 1 0) ≡ true → EventAgrees e

@@ -1,6 +1,6 @@
 -- One worker's marks and held step. A run or a steal is one or two stores to the places: what they do to the worker that moves,
 -- and that they leave every other.
-use Prim.Native.Nat.{ℕ, suc, _≤_, _<_}
+use Prim.Native.Nat.{ℕ, suc, _+_, _%_, _≤_, _<_}
 use mathlib.Core.Path.{_≡_, refl, sym, ap, _∙_}
 use mathlib.Core.Bool.{Bool, true, false, cond, _||_, or-assoc, or-true, or-false}
 use mathlib.Core.List.{List, [], _∷_, map, dropLast, head?, cons-ne-nil}
@@ -12,15 +12,19 @@ use lib.Seq.{lt-length-set, getD-set-same, getD-set-other}
 use lib.Dec.{eqb}
 use borrow.Author.Tests.{eq-eqb, ne-eqb, eqb-true}
 use Rattle.rules.specs.Bytes.{any}
-use Rattle.rules.specs.Tree.{kindAt, isEnd, taskEnd}
-use Rattle.rules.specs.Scheduling.{holds, pushes, pop, afterRun, Worker, oldest}
+use Rattle.rules.specs.Tree.{kindAt, isEnd, ordinal, taskEnd, cont}
+use Rattle.rules.specs.Scheduling.{workFirst, holds, pushes, pop, afterRun, Worker, oldest}
 use Rattle.tasks.specs.Laws.Shape.{Shape}
 use Rattle.tasks.specs.Laws.Frames.{endAt, sizeAt}
+use Rattle.tasks.specs.Laws.Places.{ordinal-child, ordinal-cont}
 use Rattle.runs.specs.Laws.Counts.{has-head}
+use Rattle.runs.specs.Laws.Phase.{first-holds, first-pushes}
 use Rattle.runs.specs.Laws.Weights.{end-within, nested-end, holds-inside, pushes-inside}
-use Rattle.moves.specs.Answers.{find, marked, newestMark, oldestMark, popped, robbed}
-use Rattle.live.specs.Tie.{Line, HandShown}
+use Rattle.moves.specs.Answers.{find, marked, newestMark, oldestMark, childrenBetween, popped, robbed}
+use Rattle.state.specs.Answers.{ordinalFrom}
+use Rattle.live.specs.Tie.{Line, Hops, Linked, HandShown}
 use Rattle.live.specs.Laws.Scans.{newest-found, newest-nothing, oldest-found, oldest-nothing}
+use Rattle.live.specs.Laws.Hops.{hops-more, hops-ordinal, hops-children, ordinal-most}
 
 -- ---- the oldest of a list
 
@@ -83,6 +87,45 @@ module _ (ks : List ℕ) (sh : Shape (length ks) (endAt ks) (sizeAt ks)) (low : 
   line-rest q (r ∷ rs) x l =
       let rest = line-rest r rs q (l .3) in
       (rest .0, omega arith, (l .0, l .1, l .2, rest .2))
+
+  -- The oldest opens a task.
+  line-opens : (q : ℕ) (qs : List ℕ) (x : ℕ) → Line ks low x (q ∷ qs) → isEnd (kindAt ks (oldest (q ∷ qs))) ≡ false
+  unfolding oldest
+  line-opens q [] x l = l .0
+  line-opens q (r ∷ rs) x l = line-opens r rs q (l .3)
+
+-- ---- links
+
+module _ (ks : List ℕ) (sh : Shape (length ks) (endAt ks) (sizeAt ks)) (low : ℕ) where
+  -- The held step may be one child on.
+  linked-cont : (qs : List ℕ) (q : ℕ) → Linked ks low q qs → q < length ks → isEnd (kindAt ks q) ≡ false
+      → Linked ks low (cont ks q) qs
+  linked-cont [] q l h e = (suc (l .0), hops-more ks sh (l .0) low q (l .1) h e)
+  linked-cont (r ∷ rs) q l h e = ((suc (l .0 .0), hops-more ks sh (l .0 .0) (suc r) q (l .0 .1) h e), l .1)
+
+  -- The oldest is a step of the task of `low`, and without it `low` may go past it.
+  linked-rest : (q : ℕ) (qs : List ℕ) (x : ℕ) → Linked ks low x (q ∷ qs)
+      → Linked ks (suc (oldest (q ∷ qs))) x (dropLast (q ∷ qs)) × ((k : ℕ) × Hops ks k low (oldest (q ∷ qs)))
+  unfolding oldest
+  linked-rest q [] x l = (l .0, l .1)
+  linked-rest q (r ∷ rs) x l =
+      let rest = linked-rest r rs q (l .1) in
+      ((l .0, rest .0), rest .1)
+
+  -- From the ordinal of `low` to that of the step that one of its task pushes.
+  hops-pushed : (p base k q : ℕ) → p ≡ workFirst → length ks ≤ 4095 → low < length ks → base ≡ ordinal ks low → Hops ks k low q
+      → q < length ks → isEnd (kindAt ks q) ≡ false → ordinalFrom p ks base low q ≡ ordinal ks (pushes p ks q)
+  unfolding ordinalFrom endAt
+  hops-pushed p base k q first most l b hops h e =
+      let sum : base % 4096 + childrenBetween ks low q + 1 ≡ ordinal ks (cont ks q) =
+      omega (
+        arith,
+        hops-children ks sh k low q hops,
+        hops-ordinal ks sh k low q hops,
+        ordinal-most ks sh low l,
+        ordinal-cont ks sh q h e,
+      ) in
+      rw (eq-eqb p 1 first, first-pushes p ks q first) sum
 
 -- ---- marks
 
@@ -184,10 +227,17 @@ module _ (p : ℕ) (ks : List ℕ) (i : ℕ) (xs : List ℕ) where
 module _ (p : ℕ) (ks : List ℕ) (sh : Shape (length ks) (endAt ks) (sizeAt ks)) (most : length ks ≤ 4095)
     (place : List ℕ) (places : length place ≡ 4095) where
   -- The worker that moves. It holds step i, which has not run.
-  module _ (w held low phase : ℕ) (worker : Worker) (few : w < 16) (shown : HandShown p ks place w held low phase worker) (i : ℕ)
-      (holding : worker .hand .held ≡ some i) (unrun : getD place i 0 ≡ 17) where
+  module _ (w held low base phase : ℕ) (worker : Worker) (few : w < 16)
+      (shown : HandShown p ks place w held low base phase worker) (i : ℕ) (holding : worker .hand .held ≡ some i) (unrun : getD place i 0 ≡ 17) where
     shows : (held ≡ i) × Line ks low i (shown .pushers)
     shows = rw holding at (shown .holding)
+
+    -- What work-first has besides.
+    abbrev NumberedBy : List ℕ → Type 0
+    NumberedBy qs = p ≡ workFirst → (low < length ks) × (base ≡ ordinal ks low) × Linked ks low i qs
+
+    numbers : NumberedBy (shown .pushers)
+    numbers first = rw holding at (shown .numbered first)
 
     pub held-is : held ≡ i
     held-is = shows .0
@@ -211,7 +261,7 @@ module _ (p : ℕ) (ks : List ℕ) (sh : Shape (length ks) (endAt ks) (sizeAt ks
 
     -- It runs an opening step.
     pub opened-shown : isEnd (kindAt ks i) ≡ false
-        → HandShown p ks (set place i w) w (holds p ks i) low phase
+        → HandShown p ks (set place i w) w (holds p ks i) low base phase
         (record { hand = afterRun (λ x. false) p ks i (worker .hand .deque); phase = worker .phase })
     unfolding any
     opened-shown e =
@@ -223,6 +273,9 @@ module _ (p : ℕ) (ks : List ℕ) (sh : Shape (length ks) (endAt ks) (sizeAt ks
           holding =
               let inside = holds-inside ks sh p i held-step e in
               (refl, (e, inside .0, inside .1, shows .1));
+          numbered = λ first.
+              let before = numbers first in
+              rw (first-holds p ks i first) (before .0, before .1, ((0, refl), before .2));
           latest = shown .latest;
         })
 
@@ -240,7 +293,7 @@ module _ (p : ℕ) (ks : List ℕ) (sh : Shape (length ks) (endAt ks) (sizeAt ks
         by (q ∷ qs) c l f = (q, f, cc, l .1)
 
     pub ended-idle-shown : isEnd (kindAt ks i) ≡ true → worker .hand .deque ≡ []
-        → HandShown p ks (popped place w low i) w 65535 low phase
+        → HandShown p ks (popped place w low i) w 65535 low base phase
         (record { hand = afterRun (λ x. false) p ks i (worker .hand .deque); phase = worker .phase })
     unfolding pop any
     ended-idle-shown e d =
@@ -250,20 +303,21 @@ module _ (p : ℕ) (ks : List ℕ) (sh : Shape (length ks) (endAt ks) (sizeAt ks
           marks = λ j h. pop-mark place w low i w j false (omega arith) (λ s. no-worker) (λ t. no-worker)
               (λ n. shown .marks j h ∙ ap (any (eqb j)) (empty d));
           holding = (refl, refl);
+          numbered = λ first. omega arith;
           latest = shown .latest;
         })
 
     pub ended-shown : isEnd (kindAt ks i) ≡ true → (q : ℕ) → newestMark place w low i ≡ some q
-        → HandShown p ks (popped place w low i) w (pushes p ks q) low phase
+        → HandShown p ks (popped place w low i) w (pushes p ks q) low base phase
         (record { hand = afterRun (λ x. false) p ks i (worker .hand .deque); phase = worker .phase })
     unfolding pop any popped
-    ended-shown e q found = by (shown .pushers) (sym found ∙ newest) (shown .deque) (shown .marks) (shows .1)
+    ended-shown e q found = by (shown .pushers) (sym found ∙ newest) (shown .deque) (shown .marks) (shows .1) numbers
       where
         by : (qs : List ℕ) → some q ≡ head? qs → worker .hand .deque ≡ map (pushes p ks) qs → Marks ks place w qs → Line ks low i qs
-            → HandShown p ks (popped place w low i) w (pushes p ks q) low phase
+            → NumberedBy qs → HandShown p ks (popped place w low i) w (pushes p ks q) low base phase
             (record { hand = afterRun (λ x. false) p ks i (worker .hand .deque); phase = worker .phase })
-        by [] f d marks l = absurd (Option·none-ne-some q (sym f))
-        by (r ∷ qs) f d marks l =
+        by [] f d marks l n = absurd (Option·none-ne-some q (sym f))
+        by (r ∷ qs) f d marks l before =
             let s : r ≡ q = cc in
             let h = line-step ks sh low qs r (l .3) in
             let inside = pushes-inside ks sh p r h (l .0) in
@@ -276,6 +330,9 @@ module _ (p : ℕ) (ks : List ℕ) (sh : Shape (length ks) (endAt ks) (sizeAt ks
                   (λ n. mark-set place i 16 w j (any (eqb j) qs) (omega arith) (λ t. no-worker ∙ sym (others j (omega arith)))
                   (λ m. marks j b ∙ rw (ne-eqb j r n) refl));
               holding = (refl, line-inner ks sh low qs r (pushes p ks r) (l .3) (omega arith) (inside .1));
+              numbered = λ first.
+                  let linked = before first in
+                  rw (first-pushes p ks r first) (linked .0, linked .1, linked-cont ks sh low qs r (linked .2 .1) h (l .0));
               latest = shown .latest;
             })
 
@@ -294,17 +351,34 @@ module _ (p : ℕ) (ks : List ℕ) (sh : Shape (length ks) (endAt ks) (sizeAt ks
         by (q ∷ qs) c l f =
             (oldest (q ∷ qs), f, ap oldest c ∙ oldest-map (pushes p ks) q qs, line-rest ks sh low q qs i l .1)
 
+    -- Counted from `base`, the stolen step's ordinal is the rules'.
+    pub oldest-ordinal : p ≡ workFirst → (q : ℕ) → oldestMark place w low (length ks) ≡ some q
+        → ordinalFrom p ks base low q ≡ ordinal ks (pushes p ks q)
+    oldest-ordinal first q found = by (shown .pushers) (sym found ∙ eldest) (shows .1) numbers
+      where
+        by : (qs : List ℕ) → some q ≡ last qs → Line ks low i qs → NumberedBy qs
+            → ordinalFrom p ks base low q ≡ ordinal ks (pushes p ks q)
+        by [] f l n = absurd (Option·none-ne-some q (sym f))
+        by (r ∷ qs) f l before =
+            let o = oldest (r ∷ qs) in
+            let s : oldest (r ∷ qs) ≡ q = cc in
+            let rest = line-rest ks sh low r qs i l in
+            let linked = before first in
+            let hops = linked-rest ks sh low r qs i (linked .2) .1 in
+            rw (← s) (hops-pushed ks sh low p base (hops .0) o first most (linked .0) (linked .1) (hops .1)
+            (omega (arith, held-step)) (line-opens ks sh low r qs i l))
+
     pub robbed-shown : (q : ℕ) → oldestMark place w low (length ks) ≡ some q
-        → HandShown p ks (robbed place w low (length ks)) w held (suc q) phase
+        → HandShown p ks (robbed place w low (length ks)) w held (suc q) 0 phase
         (record { hand = record { held = worker .hand .held; deque = dropLast (worker .hand .deque) }; phase = worker .phase })
-    unfolding robbed
-    robbed-shown q found = by (shown .pushers) (sym found ∙ eldest) (shown .deque) (shown .marks) (shows .1)
+    unfolding robbed endAt
+    robbed-shown q found = by (shown .pushers) (sym found ∙ eldest) (shown .deque) (shown .marks) (shows .1) numbers
       where
         by : (qs : List ℕ) → some q ≡ last qs → worker .hand .deque ≡ map (pushes p ks) qs → Marks ks place w qs → Line ks low i qs
-            → HandShown p ks (robbed place w low (length ks)) w held (suc q) phase
+            → NumberedBy qs → HandShown p ks (robbed place w low (length ks)) w held (suc q) 0 phase
             (record { hand = record { held = worker .hand .held; deque = dropLast (worker .hand .deque) }; phase = worker .phase })
-        by [] f d marks l = absurd (Option·none-ne-some q (sym f))
-        by (r ∷ qs) f d marks l =
+        by [] f d marks l n = absurd (Option·none-ne-some q (sym f))
+        by (r ∷ qs) f d marks l before =
             let o = oldest (r ∷ qs) in
             let s : oldest (r ∷ qs) ≡ q = cc in
             let rest = line-rest ks sh low r qs i l in
@@ -315,40 +389,48 @@ module _ (p : ℕ) (ks : List ℕ) (sh : Shape (length ks) (endAt ks) (sizeAt ks
                   (λ t. no-worker ∙ sym (line-under ks (suc o) (dropLast (r ∷ qs)) i (rest .2) j (omega arith)))
                   (λ n. marks j b ∙ any-oldest j r qs ∙ rw (ne-eqb j o n) (or-false (any (eqb j) (dropLast (r ∷ qs)))));
               holding = rw holding (held-is, rest .2);
+              numbered = λ first. rw holding (
+                omega (arith, held-step),
+                sym (ordinal-child ks sh o (omega (arith, held-step)) (line-opens ks sh low r qs i l)),
+                linked-rest ks sh low r qs i (before first .2) .0,
+              );
               latest = shown .latest;
             })
 
   -- A worker that holds nothing has no marks: nothing is found to steal. Once it holds a step of the tree it is shown, with
   -- its `low` there.
-  pub idle-none : (w held low phase : ℕ) (worker : Worker) → HandShown p ks place w held low phase worker → worker .hand .held ≡ none
-      → oldestMark place w low (length ks) ≡ none
+  pub idle-none : (w held low base phase : ℕ) (worker : Worker) → HandShown p ks place w held low base phase worker
+      → worker .hand .held ≡ none → oldestMark place w low (length ks) ≡ none
   unfolding any
-  idle-none w held low phase worker shown e =
+  idle-none w held low base phase worker shown e =
       let idle : (held ≡ 65535) × (shown .pushers ≡ []) = rw e at (shown .holding) in
       oldest-nothing place w low (length ks) (λ j l u. shown .marks j u ∙ ap (any (eqb j)) (idle .1))
 
-  pub thief-shown : (w held low phase : ℕ) (worker : Worker) → HandShown p ks place w held low phase worker → worker .hand .held ≡ none
-      → (taken k : ℕ) → taken < length ks
-      → HandShown p ks place w taken taken k (record { hand = record { held = some taken; deque = [] }; phase = k })
-  thief-shown w held low phase worker shown e taken k h =
+  pub thief-shown : (w held low base phase : ℕ) (worker : Worker) → HandShown p ks place w held low base phase worker
+      → worker .hand .held ≡ none → (taken k o : ℕ) → taken < length ks → (p ≡ workFirst → o ≡ ordinal ks taken)
+      → HandShown p ks place w taken taken o k (record { hand = record { held = some taken; deque = [] }; phase = k })
+  thief-shown w held low base phase worker shown e taken k o h numbered =
       let idle : (held ≡ 65535) × (shown .pushers ≡ []) = rw e at (shown .holding) in
       record {
         pushers = [];
         deque = refl;
         marks = λ j b. shown .marks j b ∙ ap (any (eqb j)) (idle .1);
         holding = (refl, (omega arith, h));
+        numbered = λ first. (h, numbered first, (0, refl));
         latest = refl;
       }
 
   -- Another worker, or one whose marks a store does not touch: the same marks, the same hand.
-  pub other-shown : (after : List ℕ) (w held low phase : ℕ) (worker : Worker) → HandShown p ks place w held low phase worker
-      → ((j : ℕ) → j < length ks → marked after w j ≡ marked place w j) → HandShown p ks after w held low phase worker
-  other-shown after w held low phase worker shown same =
+  pub other-shown : (after : List ℕ) (w held low base phase : ℕ) (worker : Worker)
+      → HandShown p ks place w held low base phase worker
+      → ((j : ℕ) → j < length ks → marked after w j ≡ marked place w j) → HandShown p ks after w held low base phase worker
+  other-shown after w held low base phase worker shown same =
       record {
         pushers = shown .pushers;
         deque = shown .deque;
         marks = λ j h. same j h ∙ shown .marks j h;
         holding = shown .holding;
+        numbered = shown .numbered;
         latest = shown .latest;
       }
 

@@ -9,8 +9,8 @@ use native.Mathlib.Omega.{arith}
 use lib.ListN.{length, getD, set, length-set, length-append}
 use lib.Seq.{set-getD}
 use borrow.Author.Tests.{eq-eqb, ne-eqb, eqb-true}
-use Rattle.rules.specs.Tree.{kindAt, isEnd}
-use Rattle.rules.specs.Scheduling.{mostWorkers, holds, pushes, afterRun, Worker, Steal, Run, workerAt, runStep, holdsStep, oldest, steal}
+use Rattle.rules.specs.Tree.{kindAt, isEnd, ordinal}
+use Rattle.rules.specs.Scheduling.{workFirst, mostWorkers, holds, pushes, afterRun, Worker, Steal, Run, workerAt, runStep, holdsStep, oldest, steal}
 use Rattle.tasks.specs.Laws.Shape.{Shape}
 use Rattle.tasks.specs.Laws.Frames.{endAt, sizeAt}
 use Rattle.runs.specs.Invariant.{stack, pending, Chained, Invariant}
@@ -20,9 +20,9 @@ use Rattle.runs.specs.Laws.Waiting.{run-more}
 use Rattle.runs.specs.Laws.Consequences.{steals-most, phases-count, pending-unrun}
 use Rattle.moves.specs.Answers.{marked, newestMark, oldestMark, popped, robbed}
 use Rattle.state.specs.declared.RunState.{RunState}
-use Rattle.state.specs.Answers.{heldNext, ranState, nextPhase, robbedState}
+use Rattle.state.specs.Answers.{heldNext, ranState, nextPhase, takenOrdinal, robbedState}
 use Rattle.live.specs.Tie.{HandShown, Shows}
-use Rattle.live.specs.Laws.Hands.{opened-shown, ended-nothing, ended-newest, ended-idle-shown, ended-shown, oldest-none, oldest-pusher, robbed-shown, idle-none, thief-shown, other-shown, push-other, pop-other, rob-other, push-unrun, push-run, pop-unrun, pop-run, rob-unrun, popped-length, robbed-length}
+use Rattle.live.specs.Laws.Hands.{opened-shown, ended-nothing, ended-newest, ended-idle-shown, ended-shown, oldest-none, oldest-pusher, oldest-ordinal, robbed-shown, idle-none, thief-shown, other-shown, push-other, pop-other, rob-other, push-unrun, push-run, pop-unrun, pop-run, rob-unrun, popped-length, robbed-length}
 use Rattle.live.specs.Laws.Tables.{Table, Spared, tables-of, shows-by, table-set}
 
 -- What a run of step i by worker w does to the places.
@@ -44,6 +44,7 @@ pub record Known (p : ℕ) (ks : List ℕ) (s : RunState) (r : Run) : Type 0 whe
 pub record Stolen (p : ℕ) (ks : List ℕ) (s : RunState) (r : Run) (t v q : ℕ) : Type 0 where
   pub found : oldestMark (s .place) v (getD (s .workers .low) v 0) (length ks) ≡ some q
   pub taken : oldest (workerAt r v .hand .deque) ≡ pushes p ks q
+  pub numbered : p ≡ workFirst → takenOrdinal s ks v q ≡ ordinal ks (pushes p ks q)
   pub next : Shows p ks (robbedState s ks t v q) (steal r t v)
 
 module _ {p : ℕ} {ks : List ℕ} {s : RunState} {r : Run} (known : Known p ks s r) where
@@ -109,7 +110,8 @@ module _ {p : ℕ} {ks : List ℕ} {s : RunState} {r : Run} (known : Known p ks 
     next = record { hand = afterRun (λ x. false) p ks i (workerAt r w .hand .deque); phase = workerAt r w .phase }
 
     stored-shows : (after : List ℕ) (h : ℕ) → Stored ks (s .place) after w i
-        → HandShown p ks after w h (getD (s .workers .low) w 0) (getD (s .workers .phase) w 0) next
+        → HandShown p ks after w h (getD (s .workers .low) w 0) (getD (s .workers .base) w 0)
+        (getD (s .workers .phase) w 0) next
         → Shows p ks
         (record {
           place = after;
@@ -117,6 +119,7 @@ module _ {p : ℕ} {ks : List ℕ} {s : RunState} {r : Run} (known : Known p ks 
             held = set (s .workers .held) w h;
             phase = s .workers .phase;
             low = s .workers .low;
+            base = s .workers .base;
             steals = s .workers .steals;
             policy = s .workers .policy;
           };
@@ -124,9 +127,9 @@ module _ {p : ℕ} {ks : List ℕ} {s : RunState} {r : Run} (known : Known p ks 
         (runStep p ks r w)
     unfolding runStep next marked
     stored-shows after h stored shown =
-        let table = rw (set-getD (s .workers .low) w 0, set-getD (s .workers .phase) w 0) at
-        (table-set p ks sh most _ _ _ _ _ (tables-of p ks s r shows) after w h (getD (s .workers .low) w 0) (getD (s .workers .phase) w 0) next
-        (stored .places) few shown (stored .spared)) in
+        let table = rw (set-getD (s .workers .low) w 0, set-getD (s .workers .base) w 0, set-getD (s .workers .phase) w 0) at
+        (table-set p ks sh most _ _ _ _ _ _ (tables-of p ks s r shows) after w h (getD (s .workers .low) w 0)
+        (getD (s .workers .base) w 0) (getD (s .workers .phase) w 0) next (stored .places) few shown (stored .spared)) in
         rw (holding, runStep)
         (shows-by p ks _ _ table (shows .policy)
         (λ j l. rw run-more (elim (ℕ-discrete j i) [
@@ -150,18 +153,18 @@ module _ {p : ℕ} {ks : List ℕ} {s : RunState} {r : Run} (known : Known p ks 
     next-newest e q found = rw (e, found, shows .policy) refl
 
     hand-after : isEnd (kindAt ks i) ≡ true → (deque : List ℕ) → workerAt r w .hand .deque ≡ deque
-        → HandShown p ks (popped (s .place) w (getD (s .workers .low) w 0) i) w (heldNext s ks w i) (getD (s .workers .low) w 0) (getD (s .workers .phase) w 0)
-        next
+        → HandShown p ks (popped (s .place) w (getD (s .workers .low) w 0) i) w (heldNext s ks w i) (getD (s .workers .low) w 0)
+        (getD (s .workers .base) w 0) (getD (s .workers .phase) w 0) next
     unfolding next
     hand-after e [] d =
         let hand = shows .hands w few in
-        rw (next-idle e (ended-nothing p ks sh most _ (shows .places) w _ _ _ _ few hand i holding unrun e d))
-        (ended-idle-shown p ks sh most _ (shows .places) w _ _ _ _ few hand i holding unrun e d)
+        rw (next-idle e (ended-nothing p ks sh most _ (shows .places) w _ _ _ _ _ few hand i holding unrun e d))
+        (ended-idle-shown p ks sh most _ (shows .places) w _ _ _ _ _ few hand i holding unrun e d)
     hand-after e (x ∷ xs) d =
         let hand = shows .hands w few in
-        let found = ended-newest p ks sh most _ (shows .places) w _ _ _ _ few hand i holding unrun e x xs d in
+        let found = ended-newest p ks sh most _ (shows .places) w _ _ _ _ _ few hand i holding unrun e x xs d in
         rw (next-newest e (found .0) (found .1))
-        (ended-shown p ks sh most _ (shows .places) w _ _ _ _ few hand i holding unrun e (found .0) (found .1))
+        (ended-shown p ks sh most _ (shows .places) w _ _ _ _ _ few hand i holding unrun e (found .0) (found .1))
 
     shows-next : (b : Bool) → isEnd (kindAt ks i) ≡ b → Shows p ks (ranState s ks w i) (runStep p ks r w)
     unfolding ranState next
@@ -172,7 +175,7 @@ module _ {p : ℕ} {ks : List ℕ} {s : RunState} {r : Run} (known : Known p ks 
     shows-next false e =
         rw (e, next-opened e)
         (stored-shows (set (s .place) i w) (holds p ks i) pushed
-        (opened-shown p ks sh most _ (shows .places) w _ _ _ _ few (shows .hands w few) i holding unrun e))
+        (opened-shown p ks sh most _ (shows .places) w _ _ _ _ _ few (shows .hands w few) i holding unrun e))
 
     pub run-shows : Shows p ks (ranState s ks w i) (runStep p ks r w)
     run-shows = shows-next (isEnd (kindAt ks i)) refl
@@ -185,8 +188,8 @@ module _ {p : ℕ} {ks : List ℕ} {s : RunState} {r : Run} (known : Known p ks 
   nothing-found v few d = by (workerAt r v .hand .held) refl
     where
       by : (o : Option ℕ) → workerAt r v .hand .held ≡ o → oldestMark (s .place) v (getD (s .workers .low) v 0) (length ks) ≡ none
-      by none e = idle-none p ks sh most _ (shows .places) v _ _ _ _ (shows .hands v few) e
-      by (some i) e = oldest-none p ks sh most _ (shows .places) v _ _ _ _ few (shows .hands v few) i e (unrun v i few e) d
+      by none e = idle-none p ks sh most _ (shows .places) v _ _ _ _ _ (shows .hands v few) e
+      by (some i) e = oldest-none p ks sh most _ (shows .places) v _ _ _ _ _ few (shows .hands v few) i e (unrun v i few e) d
 
   thief-phase : nextPhase s ≡ length (r .phases)
   unfolding nextPhase
@@ -221,33 +224,46 @@ module _ {p : ℕ} {ks : List ℕ} {s : RunState} {r : Run} (known : Known p ks 
 
     -- The victim holds step i, and step q pushed what is stolen.
     module _ (i : ℕ) (holding : workerAt r v .hand .held ≡ some i) (q : ℕ)
-        (found : oldestMark (s .place) v (getD (s .workers .low) v 0) (length ks) ≡ some q) where
-      victim-table : Table p ks after (s .workers .held) (set (s .workers .low) v (suc q)) (s .workers .phase) (set (r .workers) v victim)
+        (found : oldestMark (s .place) v (getD (s .workers .low) v 0) (length ks) ≡ some q)
+        (pushed-by : step ≡ pushes p ks q) where
+      taken-ordinal : p ≡ workFirst → takenOrdinal s ks v q ≡ ordinal ks (pushes p ks q)
+      unfolding takenOrdinal
+      taken-ordinal first =
+          rw (shows .policy)
+          (oldest-ordinal p ks sh most _ (shows .places) v _ _ _ _ _ few (shows .hands v few) i holding (unrun v i few holding)
+          first q found)
+
+      victim-table : Table p ks after (s .workers .held) (set (s .workers .low) v (suc q)) (set (s .workers .base) v 0)
+          (s .workers .phase) (set (r .workers) v victim)
       unfolding victim after
       victim-table =
           rw (set-getD (s .workers .held) v 0, set-getD (s .workers .phase) v 0) at
-          (table-set p ks sh most _ _ _ _ _ (tables-of p ks s r shows) after v (getD (s .workers .held) v 0) (suc q) (getD (s .workers .phase) v 0)
-          victim places few
-          (robbed-shown p ks sh most _ (shows .places) v _ _ _ _ few (shows .hands v few) i holding (unrun v i few holding) q found)
+          (table-set p ks sh most _ _ _ _ _ _ (tables-of p ks s r shows) after v (getD (s .workers .held) v 0) (suc q) 0
+          (getD (s .workers .phase) v 0) victim places few
+          (robbed-shown p ks sh most _ (shows .places) v _ _ _ _ _ few (shows .hands v few) i holding (unrun v i few holding)
+          q found)
           spared)
 
-      thief-hand : HandShown p ks after t step step (length (r .phases)) thief
+      thief-hand : HandShown p ks after t step step (takenOrdinal s ks v q) (length (r .phases)) thief
       unfolding thief step
       thief-hand =
-          thief-shown p ks sh most after places t _ _ _ _
-          (other-shown p ks sh most _ (shows .places) after t _ _ _ _ (shows .hands t small) (spared t small other))
-          idle step (length (r .phases)) (oldest-within p ks sh i (workerAt r v .hand .deque) full (chained v i few holding))
+          thief-shown p ks sh most after places t _ _ _ _ _
+          (other-shown p ks sh most _ (shows .places) after t _ _ _ _ _ (shows .hands t small) (spared t small other))
+          idle step (length (r .phases)) (takenOrdinal s ks v q)
+          (oldest-within p ks sh i (workerAt r v .hand .deque) full (chained v i few holding))
+          (λ first. taken-ordinal first ∙ ap (ordinal ks) (sym pushed-by))
 
       both-table : Table p ks after (set (s .workers .held) t step) (set (set (s .workers .low) v (suc q)) t step)
-          (set (s .workers .phase) t (length (r .phases))) (set (set (r .workers) v victim) t thief)
+          (set (set (s .workers .base) v 0) t (takenOrdinal s ks v q)) (set (s .workers .phase) t (length (r .phases)))
+          (set (set (r .workers) v victim) t thief)
       both-table =
-          table-set p ks sh most _ _ _ _ _ victim-table after t step step (length (r .phases)) thief places small thief-hand
-          (λ u l n j b. refl)
+          table-set p ks sh most _ _ _ _ _ _ victim-table after t step step (takenOrdinal s ks v q) (length (r .phases))
+          thief places small thief-hand (λ u l n j b. refl)
 
-      shows-stolen : step ≡ pushes p ks q → Shows p ks (robbedState s ks t v q) (steal r t v)
+      shows-stolen : Shows p ks (robbedState s ks t v q) (steal r t v)
       unfolding robbedState steal victim thief step after marked
-      shows-stolen e =
-          let taken : pushes (s .workers .policy) ks q ≡ step = ap (λ (x : ℕ). pushes x ks q) (shows .policy) ∙ sym e in
+      shows-stolen =
+          let taken : pushes (s .workers .policy) ks q ≡ step = ap (λ (x : ℕ). pushes x ks q) (shows .policy) ∙ sym pushed-by in
           let stolen : Steal = record { thief = t; victim = v; step = step } in
           rw (taken, thief-phase)
           (shows-by p ks _ _ both-table (shows .policy)
@@ -262,5 +278,13 @@ module _ {p : ℕ} {ks : List ℕ} {s : RunState} {r : Run} (known : Known p ks 
         by : (o : Option ℕ) → workerAt r v .hand .held ≡ o → (q : ℕ) × Stolen p ks s r t v q
         by none e = absurd (full (rw (inv .workers v .idle (rw (e, holdsStep) refl)) refl))
         by (some i) e =
-            let found = oldest-pusher p ks sh most _ (shows .places) v _ _ _ _ few (shows .hands v few) i e (unrun v i few e) full in
-            (found .0, record { found = found .1; taken = found .2; next = shows-stolen i e (found .0) (found .1) (found .2) })
+            let found = oldest-pusher p ks sh most _ (shows .places) v _ _ _ _ _ few (shows .hands v few) i e (unrun v i few e)
+            full in (
+              found .0,
+              record {
+                found = found .1;
+                taken = found .2;
+                numbered = taken-ordinal i e (found .0) (found .1) (found .2);
+                next = shows-stolen i e (found .0) (found .1) (found .2);
+              },
+            )

@@ -1,6 +1,6 @@
 -- All workers of a state beside those of a run: the state's tables, worker by worker. A move changes them at one worker.
 use Prim.Native.Nat.{ℕ, zero, suc, _≤_, _<_}
-use mathlib.Core.Path.{_≡_, refl}
+use mathlib.Core.Path.{_≡_, refl, sym}
 use mathlib.Core.Bool.{not}
 use mathlib.Core.List.{List, []}
 use native.Mathlib.Decide.{ℕ-discrete}
@@ -10,6 +10,7 @@ use lib.Seq.{getD-set-same, getD-set-other}
 use lib.Dec.{eqb}
 use borrow.Author.Tests.{ne-eqb}
 use Rattle.rules.specs.Bytes.{any}
+use Rattle.rules.specs.Tree.{root, innermost, openTasks, taskAt, ordinal}
 use Rattle.rules.specs.Scheduling.{mostWorkers, Worker, Run, idleWorker, workerAt, start, hasRun}
 use Rattle.tasks.specs.Laws.Shape.{Shape}
 use Rattle.tasks.specs.Laws.Frames.{endAt, sizeAt}
@@ -18,24 +19,25 @@ use Rattle.state.specs.declared.RunState.{RunState}
 use Rattle.live.specs.Tie.{HandShown, Shows}
 use Rattle.live.specs.Laws.Hands.{other-shown}
 
-pub record Table (p : ℕ) (ks place helds lows phases : List ℕ) (workers : List Worker) : Type 0 where
+pub record Table (p : ℕ) (ks place helds lows bases phases : List ℕ) (workers : List Worker) : Type 0 where
   pub places : length place ≡ 4095
   pub sized :
-      (length helds ≡ mostWorkers) × (length lows ≡ mostWorkers) × (length phases ≡ mostWorkers) × (length workers ≡ mostWorkers)
+      (length helds ≡ mostWorkers) × (length lows ≡ mostWorkers) × (length bases ≡ mostWorkers) × (length phases ≡ mostWorkers)
+      × (length workers ≡ mostWorkers)
   pub hands : (u : ℕ) → u < mostWorkers
-      → HandShown p ks place u (getD helds u 0) (getD lows u 0) (getD phases u 0) (getD workers u idleWorker)
+      → HandShown p ks place u (getD helds u 0) (getD lows u 0) (getD bases u 0) (getD phases u 0) (getD workers u idleWorker)
 
 -- What a state shows of a run is the tables and three facts more.
 module _ (p : ℕ) (ks : List ℕ) (s : RunState) (r : Run) where
   abbrev pub Tables : Type 0
-  Tables = Table p ks (s .place) (s .workers .held) (s .workers .low) (s .workers .phase) (r .workers)
+  Tables = Table p ks (s .place) (s .workers .held) (s .workers .low) (s .workers .base) (s .workers .phase) (r .workers)
 
   pub tables-of : Shows p ks s r → Tables
   unfolding workerAt
   tables-of shows =
       record {
         places = shows .places;
-        sized = (shows .helds, shows .lows, shows .phases, shows .workers);
+        sized = (shows .helds, shows .lows, shows .bases, shows .phases, shows .workers);
         hands = shows .hands;
       }
 
@@ -48,14 +50,19 @@ module _ (p : ℕ) (ks : List ℕ) (s : RunState) (r : Run) where
         places = table .places;
         helds = table .sized .0;
         lows = table .sized .1;
-        phases = table .sized .2;
-        workers = table .sized .3;
+        bases = table .sized .2;
+        phases = table .sized .3;
+        workers = table .sized .4;
         hands = table .hands;
         unrun = unrun;
         steals = steals;
       }
 
 -- ---- the start
+
+first-ordinal : (ks : List ℕ) → ordinal ks 0 ≡ 0
+unfolding ordinal taskAt openTasks innermost root
+first-ordinal ks = refl
 
 module _ (p : ℕ) (ks place : List ℕ) (places : length place ≡ 4095) (some-step : 1 ≤ length ks)
     (unrun : (j : ℕ) → j < length ks → getD place j 0 ≡ 17) where
@@ -65,18 +72,33 @@ module _ (p : ℕ) (ks place : List ℕ) (places : length place ≡ 4095) (some-
 
   start-hands : (u : ℕ) → u < 16
       → HandShown p ks place u (getD (set (replicate 16 65535) 0 0) u 0) (getD (replicate 16 0) u 0) (getD (replicate 16 0) u 0)
-      (getD (start 16 .workers) u idleWorker)
+      (getD (replicate 16 0) u 0) (getD (start 16 .workers) u idleWorker)
   unfolding start idleWorker
   start-hands zero few =
-      record { pushers = []; deque = refl; marks = unmarked 0 few; holding = (refl, (omega arith, some-step)); latest = refl }
+      record {
+        pushers = [];
+        deque = refl;
+        marks = unmarked 0 few;
+        holding = (refl, (omega arith, some-step));
+        numbered = λ first. (some-step, sym (first-ordinal ks), (0, refl));
+        latest = refl;
+      }
   start-hands (suc u) few =
       let less : u < 15 = omega arith in
       rw (getD-replicate {A = ℕ} 15 u 65535 0, getD-replicate {A = ℕ} 15 u 0 0, getD-replicate 15 u idleWorker idleWorker)
-      (record { pushers = []; deque = refl; marks = unmarked (suc u) few; holding = (refl, refl); latest = refl })
+      (record {
+        pushers = [];
+        deque = refl;
+        marks = unmarked (suc u) few;
+        holding = (refl, refl);
+        numbered = λ first. omega arith;
+        latest = refl;
+      })
 
-  pub start-table : Table p ks place (set (replicate 16 65535) 0 0) (replicate 16 0) (replicate 16 0) (start 16 .workers)
+  pub start-table : Table p ks place (set (replicate 16 65535) 0 0) (replicate 16 0) (replicate 16 0) (replicate 16 0)
+      (start 16 .workers)
   unfolding start
-  start-table = record { places = places; sized = (refl, refl, refl, refl); hands = start-hands }
+  start-table = record { places = places; sized = (refl, refl, refl, refl, refl); hands = start-hands }
 
 -- ---- a move
 
@@ -85,11 +107,12 @@ abbrev pub Spared : List ℕ → List ℕ → List ℕ → ℕ → Type 0
 Spared ks before after w = (u : ℕ) → u < 16 → (u ≡ w → ⊥) → (j : ℕ) → j < length ks → marked after u j ≡ marked before u j
 
 module _ (p : ℕ) (ks : List ℕ) (sh : Shape (length ks) (endAt ks) (sizeAt ks)) (most : length ks ≤ 4095)
-    (place helds lows phases : List ℕ) (workers : List Worker) (before : Table p ks place helds lows phases workers) where
-  pub table-set : (after : List ℕ) (w h l k : ℕ) (worker : Worker) → length after ≡ 4095 → w < 16
-      → HandShown p ks after w h l k worker → Spared ks place after w
-      → Table p ks after (set helds w h) (set lows w l) (set phases w k) (set workers w worker)
-  table-set after w h l k worker places few shown spared =
+    (place helds lows bases phases : List ℕ) (workers : List Worker)
+    (before : Table p ks place helds lows bases phases workers) where
+  pub table-set : (after : List ℕ) (w h l b k : ℕ) (worker : Worker) → length after ≡ 4095 → w < 16
+      → HandShown p ks after w h l b k worker → Spared ks place after w
+      → Table p ks after (set helds w h) (set lows w l) (set bases w b) (set phases w k) (set workers w worker)
+  table-set after w h l b k worker places few shown spared =
       record {
         places = places;
         sized = simp length-set (before .sized);
@@ -98,15 +121,17 @@ module _ (p : ℕ) (ks : List ℕ) (sh : Shape (length ks) (endAt ks) (sizeAt ks
             e,
             getD-set-same helds w h 0 (omega arith),
             getD-set-same lows w l 0 (omega arith),
+            getD-set-same bases w b 0 (omega arith),
             getD-set-same phases w k 0 (omega arith),
             getD-set-same workers w worker idleWorker (omega arith),
           ) shown
           | no n ↦ rw (
             getD-set-other helds w u h 0 n,
             getD-set-other lows w u l 0 n,
+            getD-set-other bases w u b 0 n,
             getD-set-other phases w u k 0 n,
             getD-set-other workers w u worker idleWorker n,
-          ) (other-shown p ks sh most place (before .places) after u (getD helds u 0) (getD lows u 0) (getD phases u 0)
-              (getD workers u idleWorker) (before .hands u small) (spared u small n))
+          ) (other-shown p ks sh most place (before .places) after u (getD helds u 0) (getD lows u 0) (getD bases u 0)
+              (getD phases u 0) (getD workers u idleWorker) (before .hands u small) (spared u small n))
         ];
       }

@@ -96,11 +96,11 @@ module _ (p : ℕ) (ks : List ℕ) where
   alone-step gone m i deque g = rw g
 
   -- Work-first holds the child and pushes the continuation.
-  first-holds : (i : ℕ) → p ≡ workFirst → holds p ks i ≡ suc i
+  pub first-holds : (i : ℕ) → p ≡ workFirst → holds p ks i ≡ suc i
   unfolding holds pushesChild
   first-holds i w = rw w
 
-  first-pushes : (i : ℕ) → p ≡ workFirst → pushes p ks i ≡ cont ks i
+  pub first-pushes : (i : ℕ) → p ≡ workFirst → pushes p ks i ≡ cont ks i
   unfolding pushes pushesChild
   first-pushes i w = rw w
 

@@ -51,6 +51,12 @@ element-copy-out-wide-2 c = search needs
 wide-requires-2 : tie.Need-wide-requires-2
 wide-requires-2 c κs = search needs
 
+mul-base : tie.Need-mul-base
+mul-base c = search needs
+
+element-copy-out-base : tie.Need-element-copy-out-base
+element-copy-out-base c = search needs
+
 add-phase : tie.Need-add-phase
 add-phase c = search needs
 
@@ -62,23 +68,28 @@ enum-known-q c = search needs
 
 pushed-by-requires : tie.Need-pushed-by-requires
 pushed-by-requires c κs =
-    let a = c .before .before .before .before .before .before .before .before .before .before .before .before .before .before .before .args in
-    omega (arith, c .before .before .before .before .before .before .before .before .before .before .before .steps .ensures, oldest-before (a .place .now) (a .victim) (c .before .before .before .before .before .wide2 .result) (c .before .before .before .before .before .before .before .before .before .before .before .steps .result) (c .before .q .given .0 .0 .0) (pusher-at (oldestMark (a .place .now) (a .victim) (c .before .before .before .before .before .wide2 .result) (c .before .before .before .before .before .before .before .before .before .before .before .steps .result)) (c .before .q .given .0 .0) (sym (c .before .before .before .take .ensures .0) ∙ c .before .q .given .1)))
+    let a = c .before .before .before .before .before .before .before .before .before .before .before .before .before .before .before .before .args in
+    omega (arith, c .before .before .before .before .before .before .before .before .before .before .before .before .steps .ensures, oldest-before (a .place .now) (a .victim) (c .before .before .before .before .before .before .wide2 .result) (c .before .before .before .before .before .before .before .before .before .before .before .before .steps .result) (c .before .q .given .0 .0 .0) (pusher-at (oldestMark (a .place .now) (a .victim) (c .before .before .before .before .before .before .wide2 .result) (c .before .before .before .before .before .before .before .before .before .before .before .before .steps .result)) (c .before .q .given .0 .0) (sym (c .before .before .before .take .ensures .0) ∙ c .before .q .given .1)))
 
 cast-taken : tie.Need-cast-taken
 cast-taken c =
-    let a = c .before .before .before .before .before .before .before .before .before .before .before .before .before .before .before .before .before .args in
-    omega (arith, c .before .pushed-by .ensures, c .before .before .before .before .before .before .before .before .before .before .before .before .before .steps .ensures, pushes-most (a .t3 .policy) (kinds (a .tree .now)) (c .before .before .before .q .given .0 .0 .0) (omega (arith, c .before .before .before .before .before .before .before .before .before .before .before .before .before .steps .ensures, oldest-before (a .place .now) (a .victim) (c .before .before .before .before .before .before .before .wide2 .result) (c .before .before .before .before .before .before .before .before .before .before .before .before .before .steps .result) (c .before .before .before .q .given .0 .0 .0) (pusher-at (oldestMark (a .place .now) (a .victim) (c .before .before .before .before .before .before .before .wide2 .result) (c .before .before .before .before .before .before .before .before .before .before .before .before .before .steps .result)) (c .before .before .before .q .given .0 .0) (sym (c .before .before .before .before .before .take .ensures .0) ∙ c .before .before .before .q .given .1)))))
+    let a = c .before .before .before .before .before .before .before .before .before .before .before .before .before .before .before .before .before .before .args in
+    omega (arith, c .before .pushed-by .ensures, c .before .before .before .before .before .before .before .before .before .before .before .before .before .before .steps .ensures, pushes-most (a .t3 .policy) (kinds (a .tree .now)) (c .before .before .before .q .given .0 .0 .0) (omega (arith, c .before .before .before .before .before .before .before .before .before .before .before .before .before .before .steps .ensures, oldest-before (a .place .now) (a .victim) (c .before .before .before .before .before .before .before .before .wide2 .result) (c .before .before .before .before .before .before .before .before .before .before .before .before .before .before .steps .result) (c .before .before .before .q .given .0 .0 .0) (pusher-at (oldestMark (a .place .now) (a .victim) (c .before .before .before .before .before .before .before .before .wide2 .result) (c .before .before .before .before .before .before .before .before .before .before .before .before .before .before .steps .result)) (c .before .before .before .q .given .0 .0) (sym (c .before .before .before .before .before .take .ensures .0) ∙ c .before .before .before .q .given .1)))))
+
+ordinal-from-requires : tie.Need-ordinal-from-requires
+ordinal-from-requires c κs =
+    let a = c .before .before .before .before .before .before .before .before .before .before .before .before .before .before .before .before .before .before .args in
+    (omega (arith, c .before .before .before .before .before .before .before .before .before .before .before .before .before .before .steps .ensures, oldest-before (a .place .now) (a .victim) (c .before .before .before .before .before .before .before .before .wide2 .result) (c .before .before .before .before .before .before .before .before .before .before .before .before .before .before .steps .result) (c .before .before .before .q .given .0 .0 .0) (pusher-at (oldestMark (a .place .now) (a .victim) (c .before .before .before .before .before .before .before .before .wide2 .result) (c .before .before .before .before .before .before .before .before .before .before .before .before .before .before .steps .result)) (c .before .before .before .q .given .0 .0) (sym (c .before .before .before .before .before .take .ensures .0) ∙ c .before .before .before .q .given .1))), omega (arith, c .before .before .before .before .before .before .before .before .before .before .before .before .before .before .steps .ensures))
 
 add-next : tie.Need-add-next
 add-next c =
-    let a = c .before .before .before .before .before .before .before .before .before .before .before .before .before .before .before .before .before .before .args in
-    omega (arith, oldest-before (a .place .now) (a .victim) (c .before .before .before .before .before .before .before .before .wide2 .result) (c .before .before .before .before .before .before .before .before .before .before .before .before .before .before .steps .result) (c .before .before .before .before .q .given .0 .0 .0) (pusher-at (oldestMark (a .place .now) (a .victim) (c .before .before .before .before .before .before .before .before .wide2 .result) (c .before .before .before .before .before .before .before .before .before .before .before .before .before .before .steps .result)) (c .before .before .before .before .q .given .0 .0) (sym (c .before .before .before .before .before .before .take .ensures .0) ∙ c .before .before .before .before .q .given .1)))
+    let a = c .before .before .before .before .before .before .before .before .before .before .before .before .before .before .before .before .before .before .before .before .args in
+    omega (arith, oldest-before (a .place .now) (a .victim) (c .before .before .before .before .before .before .before .before .before .before .wide2 .result) (c .before .before .before .before .before .before .before .before .before .before .before .before .before .before .before .before .steps .result) (c .before .before .before .before .before .q .given .0 .0 .0) (pusher-at (oldestMark (a .place .now) (a .victim) (c .before .before .before .before .before .before .before .before .before .before .wide2 .result) (c .before .before .before .before .before .before .before .before .before .before .before .before .before .before .before .before .steps .result)) (c .before .before .before .before .before .q .given .0 .0) (sym (c .before .before .before .before .before .before .before .take .ensures .0) ∙ c .before .before .before .before .before .q .given .1)))
 
 cast-next : tie.Need-cast-next
 cast-next c =
-    let a = c .before .before .before .before .before .before .before .before .before .before .before .before .before .before .before .before .before .before .args in
-    omega (arith, oldest-before (a .place .now) (a .victim) (c .before .before .before .before .before .before .before .before .wide2 .result) (c .before .before .before .before .before .before .before .before .before .before .before .before .before .before .steps .result) (c .before .before .before .before .q .given .0 .0 .0) (pusher-at (oldestMark (a .place .now) (a .victim) (c .before .before .before .before .before .before .before .before .wide2 .result) (c .before .before .before .before .before .before .before .before .before .before .before .before .before .before .steps .result)) (c .before .before .before .before .q .given .0 .0) (sym (c .before .before .before .before .before .before .take .ensures .0) ∙ c .before .before .before .before .q .given .1)))
+    let a = c .before .before .before .before .before .before .before .before .before .before .before .before .before .before .before .before .before .before .before .before .args in
+    omega (arith, oldest-before (a .place .now) (a .victim) (c .before .before .before .before .before .before .before .before .before .before .wide2 .result) (c .before .before .before .before .before .before .before .before .before .before .before .before .before .before .before .before .steps .result) (c .before .before .before .before .before .q .given .0 .0 .0) (pusher-at (oldestMark (a .place .now) (a .victim) (c .before .before .before .before .before .before .before .before .before .before .wide2 .result) (c .before .before .before .before .before .before .before .before .before .before .before .before .before .before .before .before .steps .result)) (c .before .before .before .before .before .q .given .0 .0) (sym (c .before .before .before .before .before .before .before .take .ensures .0) ∙ c .before .before .before .before .before .q .given .1)))
 
 mul-next : tie.Need-mul-next
 mul-next c = search needs
@@ -98,11 +109,28 @@ mul-next-3 c = search needs
 element-write-next-3 : tie.Need-element-write-next-3
 element-write-next-3 c = search needs
 
+cast-next-2 : tie.Need-cast-next-2
+cast-next-2 c =
+    let a = c .before .before .before .before .before .before .before .before .before .before .before .before .before .before .before .before .before .before .before .before .before .args in
+    omega (arith, c .before .before .ordinal-from .ensures .1)
+
 mul-next-4 : tie.Need-mul-next-4
 mul-next-4 c = search needs
 
 element-write-next-4 : tie.Need-element-write-next-4
 element-write-next-4 c = search needs
+
+mul-next-5 : tie.Need-mul-next-5
+mul-next-5 c = search needs
+
+element-write-next-5 : tie.Need-element-write-next-5
+element-write-next-5 c = search needs
+
+mul-next-6 : tie.Need-mul-next-6
+mul-next-6 c = search needs
+
+element-write-next-6 : tie.Need-element-write-next-6
+element-write-next-6 c = search needs
 
 trace-number-requires : tie.Need-trace-number-requires
 trace-number-requires c κs = search needs
@@ -112,14 +140,14 @@ enum-told c = search needs
 
 returns-5 : tie.Need-returns-5
 returns-5 c =
-    let a = c .before .before .before .before .before .before .before .before .before .before .before .before .before .before .before .before .before .before .before .args in
-    both (steal-takes (stateOf (a .place .now) (a .t3)) (a .tree .now) (a .thief) (a .victim) (omega arith) (omega arith) (omega (arith, c .before .before .before .before .before .before .before .before .before .before .before .before .before .before .before .steps .ensures)) (c .before .before .before .before .before .before .before .before .before .before .before .before .wide .result) (c .before .before .before .before .before .before .before .before .before .before .before .before .wide .ensures) (omega (arith, c .before .before .before .before .before .before .before .before .before .before .before .before .before .before .before .steps .ensures)) (c .before .before .before .before .before .before .before .before .before .wide2 .result) (c .before .before .before .before .before .before .before .before .before .wide2 .ensures) (c .before .before .before .before .before .q .given .0 .0 .0) (rw (c .before .before .before .before .before .before .before .before .before .before .before .before .before .before .before .steps .ensures) at (pusher-at (oldestMark (a .place .now) (a .victim) (c .before .before .before .before .before .before .before .before .before .wide2 .result) (c .before .before .before .before .before .before .before .before .before .before .before .before .before .before .before .steps .result)) (c .before .before .before .before .before .q .given .0 .0) (sym (c .before .before .before .before .before .before .before .take .ensures .0) ∙ c .before .before .before .before .before .q .given .1))) (c .before .before .before .before .before .before .before .take .last .0) (rw (c .before .before .before .before .before .before .before .before .before .before .before .before .before .before .before .steps .ensures) at (c .before .before .before .before .before .before .before .take .ensures .1)) (c .before .before .before .pushed-by .result .0) (c .before .before .before .pushed-by .ensures) (c .trace-number .result) (c .trace-number .ensures))
+    let a = c .before .before .before .before .before .before .before .before .before .before .before .before .before .before .before .before .before .before .before .before .before .before .args in
+    both (steal-takes (stateOf (a .place .now) (a .t3)) (a .tree .now) (a .thief) (a .victim) (omega arith) (omega arith) (omega (arith, c .before .before .before .before .before .before .before .before .before .before .before .before .before .before .before .before .before .before .steps .ensures)) (c .before .before .before .before .before .before .before .before .before .before .before .before .before .before .before .wide .result) (c .before .before .before .before .before .before .before .before .before .before .before .before .before .before .before .wide .ensures) (omega (arith, c .before .before .before .before .before .before .before .before .before .before .before .before .before .before .before .before .before .before .steps .ensures)) (c .before .before .before .before .before .before .before .before .before .before .before .before .wide2 .result) (c .before .before .before .before .before .before .before .before .before .before .before .before .wide2 .ensures) (c .before .before .before .before .before .before .before .q .given .0 .0 .0) (rw (c .before .before .before .before .before .before .before .before .before .before .before .before .before .before .before .before .before .before .steps .ensures) at (pusher-at (oldestMark (a .place .now) (a .victim) (c .before .before .before .before .before .before .before .before .before .before .before .before .wide2 .result) (c .before .before .before .before .before .before .before .before .before .before .before .before .before .before .before .before .before .before .steps .result)) (c .before .before .before .before .before .before .before .q .given .0 .0) (sym (c .before .before .before .before .before .before .before .before .before .take .ensures .0) ∙ c .before .before .before .before .before .before .before .q .given .1))) (c .before .before .before .before .before .before .before .before .before .take .last .0) (rw (c .before .before .before .before .before .before .before .before .before .before .before .before .before .before .before .before .before .before .steps .ensures) at (c .before .before .before .before .before .before .before .before .before .take .ensures .1)) (c .before .before .before .before .before .pushed-by .result .0) (c .before .before .before .before .before .pushed-by .ensures) (c .before .before .before .ordinal-from .result .0) (c .before .before .before .ordinal-from .ensures .0) (c .trace-number .result) (c .trace-number .ensures))
 
 returns-6 : tie.Need-returns-6
 returns-6 c =
-    let a = c .before .before .before .before .before .before .before .before .before .before .before .before .before .before .args in
-    let law = both (steal-empty (stateOf (a .place .now) (a .t3)) (a .tree .now) (a .thief) (a .victim) (omega arith) (omega arith) (omega (arith, c .before .before .before .before .before .before .before .before .before .before .steps .ensures)) (c .before .before .before .before .before .before .before .wide .result) (c .before .before .before .before .before .before .before .wide .ensures) (omega (arith, c .before .before .before .before .before .before .before .before .before .before .steps .ensures)) (c .before .before .before .before .wide2 .result) (c .before .before .before .before .wide2 .ensures) (rw (c .before .before .before .before .before .before .before .before .before .before .steps .ensures) at (pusher-nothing (oldestMark (a .place .now) (a .victim) (c .before .before .before .before .wide2 .result) (c .before .before .before .before .before .before .before .before .before .before .steps .result)) (sym (c .before .before .take .ensures .0) ∙ c .enum-told .given .1)))) in
-    (law .0, c .before .before .take .ensures .1 ∙ (sym (robbed-nothing (a .place .now) (a .victim) (c .before .before .before .before .wide2 .result) (c .before .before .before .before .before .before .before .before .before .before .steps .result) (pusher-nothing (oldestMark (a .place .now) (a .victim) (c .before .before .before .before .wide2 .result) (c .before .before .before .before .before .before .before .before .before .before .steps .result)) (sym (c .before .before .take .ensures .0) ∙ c .enum-told .given .1))) ∙ law .1))
+    let a = c .before .before .before .before .before .before .before .before .before .before .before .before .before .before .before .args in
+    let law = both (steal-empty (stateOf (a .place .now) (a .t3)) (a .tree .now) (a .thief) (a .victim) (omega arith) (omega arith) (omega (arith, c .before .before .before .before .before .before .before .before .before .before .before .steps .ensures)) (c .before .before .before .before .before .before .before .before .wide .result) (c .before .before .before .before .before .before .before .before .wide .ensures) (omega (arith, c .before .before .before .before .before .before .before .before .before .before .before .steps .ensures)) (c .before .before .before .before .before .wide2 .result) (c .before .before .before .before .before .wide2 .ensures) (rw (c .before .before .before .before .before .before .before .before .before .before .before .steps .ensures) at (pusher-nothing (oldestMark (a .place .now) (a .victim) (c .before .before .before .before .before .wide2 .result) (c .before .before .before .before .before .before .before .before .before .before .before .steps .result)) (sym (c .before .before .take .ensures .0) ∙ c .enum-told .given .1)))) in
+    (law .0, c .before .before .take .ensures .1 ∙ (sym (robbed-nothing (a .place .now) (a .victim) (c .before .before .before .before .before .wide2 .result) (c .before .before .before .before .before .before .before .before .before .before .before .steps .result) (pusher-nothing (oldestMark (a .place .now) (a .victim) (c .before .before .before .before .before .wide2 .result) (c .before .before .before .before .before .before .before .before .before .before .before .steps .result)) (sym (c .before .before .take .ensures .0) ∙ c .enum-told .given .1))) ∙ law .1))
 
 pub steal-on-spec : {M : Type 1} → statement M
 steal-on-spec =
@@ -136,11 +164,14 @@ steal-on-spec =
     mul-wide-2
     element-copy-out-wide-2
     wide-requires-2
+    mul-base
+    element-copy-out-base
     add-phase
     take-requires
     enum-known-q
     pushed-by-requires
     cast-taken
+    ordinal-from-requires
     add-next
     cast-next
     mul-next
@@ -149,8 +180,13 @@ steal-on-spec =
     element-write-next-2
     mul-next-3
     element-write-next-3
+    cast-next-2
     mul-next-4
     element-write-next-4
+    mul-next-5
+    element-write-next-5
+    mul-next-6
+    element-write-next-6
     trace-number-requires
     enum-told
     returns-5

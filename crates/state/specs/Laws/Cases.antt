@@ -19,7 +19,7 @@ use Rattle.tree.specs.declared.Ordinal.{Ordinal}
 use Rattle.tree.specs.declared.Accepted.{Accepted}
 use Rattle.tree.specs.Answers.{acceptance}
 use Rattle.tree.specs.Laws.Bools.{or-true}
-use Rattle.moves.specs.Answers.{newestMark, oldestMark, waitsFor, popped, robbed}
+use Rattle.moves.specs.Answers.{newestMark, oldestMark, waitsFor, childrenBetween, popped, robbed}
 use Rattle.state.specs.declared.RunState.{RunState}
 use Rattle.state.specs.declared.TraceNumber.{TraceNumber}
 use Rattle.state.specs.declared.TraceNumber.the-variants.{ByOrdinal, BySerial}
@@ -27,7 +27,7 @@ use Rattle.state.specs.declared.Outcome.the-variants.{Ran, Stole, Refuse
 use Rattle.state.specs.declared.Moved.{Moved}
 use Rattle.state.specs.declared.Answer.{Answer}
 use Rattle.state.specs.declared.Started.{Started}
-use Rattle.state.specs.Answers.{moved, zeros, fresh, startAnswer, refused, numberOf, heldNext, ranState, runAnswer, nextPhase, robbedState, stealAnswer, eventAnswer}
+use Rattle.state.specs.Answers.{moved, zeros, fresh, startAnswer, refused, numberBy, ordinalFrom, takenOrdinal, heldNext, ranState, runAnswer, nextPhase, robbedState, stealAnswer, eventAnswer}
 
 -- ---- sizes
 
@@ -60,13 +60,22 @@ joined {x} {place} {y} e f = λ k. record { outcome = e k .outcome; state = reco
 
 -- ---- trace numbers
 
-pub number-ordinal : (p : ℕ) (ks : List ℕ) (i : ℕ) (o : Ordinal) → p ≡ 1 → o .0 ≡ ordinal ks i → ByOrdinal o ≡ numberOf p ks i
-unfolding numberOf
-number-ordinal p ks i o e f = rw (numberOf, eq-eqb p 1 e) (λ k. ByOrdinal (record { 0 = f k }))
+pub number-ordinal : (p : ℕ) (o : Ordinal) (i : ℕ) → p ≡ 1 → ByOrdinal o ≡ numberBy p (o .0) i
+unfolding numberBy
+number-ordinal p o i e = rw (numberBy, eq-eqb p 1 e) refl
 
-pub number-serial : (p : ℕ) (ks : List ℕ) (step : Step) → (p ≡ 1 → ⊥) → BySerial step ≡ numberOf p ks (step .0)
-unfolding numberOf
-number-serial p ks step n = rw (numberOf, ne-eqb p 1 n) refl
+pub number-serial : (p o : ℕ) (step : Step) → (p ≡ 1 → ⊥) → BySerial step ≡ numberBy p o (step .0)
+unfolding numberBy
+number-serial p o step n = rw (numberBy, ne-eqb p 1 n) refl
+
+module _ (p : ℕ) (ks : List ℕ) (base from q : ℕ) where
+  pub ordinal-counted : p ≡ 1 → (children : ℕ) → children ≡ childrenBetween ks from q → base % 4096 + children + 1 ≡ ordinalFrom p ks base from q
+  unfolding ordinalFrom
+  ordinal-counted e children f = rw (eq-eqb p 1 e, f) refl
+
+  pub ordinal-uncounted : (p ≡ 1 → ⊥) → 0 ≡ ordinalFrom p ks base from q
+  unfolding ordinalFrom
+  ordinal-uncounted n = rw (ne-eqb p 1 n) refl
 
 -- ---- running
 
@@ -81,6 +90,7 @@ ran s w phase i next place =
           held = set (s .workers .held) w next;
           phase = s .workers .phase;
           low = s .workers .low;
+          base = s .workers .base;
           steals = s .workers .steals;
           policy = s .workers .policy;
         };
@@ -144,8 +154,8 @@ module _ (s : RunState) (tree : List ℕ) (w : ℕ) where
 -- ---- stealing
 
 -- Thief t has taken a step from v: the places are new, and so are its held step, its phase and both their `low`.
-abbrev pub stolen : RunState → ℕ → ℕ → TraceNumber → ℕ → ℕ → ℕ → List ℕ → Answer
-stolen s t v number taken phase low place =
+abbrev pub stolen : RunState → ℕ → ℕ → TraceNumber → ℕ → ℕ → ℕ → ℕ → List ℕ → Answer
+stolen s t v number taken ordinal phase low place =
     record {
       outcome = Stole number;
       state = record {
@@ -154,6 +164,7 @@ stolen s t v number taken phase low place =
           held = set (s .workers .held) t taken;
           phase = set (s .workers .phase) t phase;
           low = set (set (s .workers .low) v low) t taken;
+          base = set (set (s .workers .base) v 0) t ordinal;
           steals = phase;
           policy = s .workers .policy;
         };
@@ -193,11 +204,12 @@ module _ (s : RunState) (tree : List ℕ) (t v : ℕ) where
         pub steal-takes : (q : ℕ) → oldestMark (s .place) v low (length (kinds tree)) ≡ some q
             → (place : List ℕ) → place ≡ robbed (s .place) v low (length (kinds tree))
             → (taken : ℕ) → taken ≡ pushes (s .workers .policy) (kinds tree) q
-            → (number : TraceNumber) → number ≡ numberOf (s .workers .policy) (kinds tree) taken
-            → stolen s t v number taken (s .workers .steals % 2048 + 1) (q + 1) place ≡ stealAnswer s tree t v
-        unfolding stealAnswer refused robbedState nextPhase
-        steal-takes q found place stored taken e number f =
-            rw (stored, f, e, add-one q, lt-leb 16 t few, lt-leb 16 v fewer, le-ltb 4095 (length (kinds tree)) most, ← holding, le-ltb held (length (kinds tree)) none-held, from, stealAnswer, rw from at found) refl
+            → (ordinal : ℕ) → ordinal ≡ ordinalFrom (s .workers .policy) (kinds tree) (getD (s .workers .base) v 0) low q
+            → (number : TraceNumber) → number ≡ numberBy (s .workers .policy) ordinal taken
+            → stolen s t v number taken ordinal (s .workers .steals % 2048 + 1) (q + 1) place ≡ stealAnswer s tree t v
+        unfolding stealAnswer refused robbedState nextPhase takenOrdinal
+        steal-takes q found place stored taken e ordinal g number f =
+            rw (stored, f, g, e, add-one q, lt-leb 16 t few, lt-leb 16 v fewer, le-ltb 4095 (length (kinds tree)) most, ← holding, le-ltb held (length (kinds tree)) none-held, from, stealAnswer, rw from at found) refl
 
 -- ---- an event
 
