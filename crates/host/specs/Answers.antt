@@ -6,14 +6,13 @@ use Rattle.tasks.specs.declared.FinishChild.{FinishChild}
 use Rattle.tasks.specs.declared.FinishChild.the-variants.{From, Nothing}
 use Rattle.tasks.specs.declared.Running.{Running}
 use Rattle.tasks.specs.declared.Running.the-variants.{Opens, Ends}
-use Rattle.state.specs.declared.TraceNumber.{TraceNumber}
-use Rattle.state.specs.declared.TraceNumber.the-variants.{ByOrdinal, BySerial}
 use Rattle.state.specs.declared.Outcome.{Outcome}
 use Rattle.state.specs.declared.Outcome.the-variants.{Ran, Stole, Refused}
 use Rattle.state.specs.declared.Answer.{Answer}
 use Rattle.state.specs.declared.Started.{Started}
 use Rattle.state.specs.declared.Idle.{Idle}
 use Rattle.state.specs.declared.RunState.{RunState}
+use Rattle.state.specs.Answers.{numberValue}
 use Rattle.host.specs.declared.FrameTree.{FrameTree}
 use Rattle.host.specs.declared.FrameTask.{FrameTask}
 use Rattle.host.specs.declared.FrameRunning.{FrameRunning}
@@ -39,14 +38,9 @@ flatRunning Ends = record { opens = 0; hold = 0; push = 0 }
 abbrev pub flatStart : Started → FrameStart
 flatStart a = record { number = a .number; position = a .position; state = a .state }
 
--- The number that goes into a trace record.
-abbrev pub flatNumber : TraceNumber → ℕ
-flatNumber (ByOrdinal o) = o .0
-flatNumber (BySerial s) = s .0
-
 abbrev pub flatOutcome : Outcome → RunState → FrameEvent
 flatOutcome (Ran phase step) s = record { number = 0; what = 1; phase = phase .0; step = step .0; trace = 0; state = s }
-flatOutcome (Stole number) s = record { number = 0; what = 2; phase = 0; step = 0; trace = flatNumber number; state = s }
+flatOutcome (Stole number) s = record { number = 0; what = 2; phase = 0; step = 0; trace = numberValue number; state = s }
 flatOutcome (Refused number) s = record { number = number; what = 0; phase = 0; step = 0; trace = 0; state = s }
 
 abbrev pub flatEvent : Answer → FrameEvent

@@ -4,21 +4,33 @@
 -- `idleAnswer` are what those of `start` and `idle` give.
 use Prim.Native.Nat.{ℕ}
 use mathlib.Core.Path.{_≡_, refl, ap₂}
+use mathlib.Core.Bool.{true, false, cond}
 use mathlib.Core.List.{List, [], _∷_}
 use native.Mathlib.Omega.{arith}
 use lib.ListN.{getD}
-use Rattle.rules.specs.Tree.{kinds}
-use Rattle.rules.specs.Scheduling.{mostWorkers, Run, start, idleSet, idleCount, idleLowest}
+use lib.Dec.{eqb}
+use Rattle.rules.specs.Tree.{kinds, ordinal}
+use Rattle.rules.specs.Scheduling.{workFirst, mostWorkers, Run, start, idleSet, idleCount, idleLowest}
+use Rattle.rules.specs.Traces.{traceNumber}
 use Rattle.rules.specs.Calls.{startVerdict, eventCall, afterEvents}
 use Rattle.tasks.specs.Laws.Frames.{Frame, accepted-frame}
 use Rattle.runs.specs.Invariant.{Invariant}
 use Rattle.runs.specs.Laws.Always.{start-invariant, event-keeps, always}
 use Rattle.state.specs.declared.RunState.{RunState}
 use Rattle.state.specs.declared.Outcome.{Outcome}
-use Rattle.state.specs.Answers.{fresh, startAnswer, eventAnswer, idleAnswer}
+use Rattle.state.specs.declared.TraceNumber.the-variants.{ByOrdinal, BySerial}
+use Rattle.state.specs.Answers.{numberBy, numberValue, fresh, startAnswer, eventAnswer, idleAnswer}
 use Rattle.state.specs.Laws.Cases.{start-tree-accepts}
 use Rattle.live.specs.Tie.{Shows, toldAll, outcomes, stateAfter}
 use Rattle.live.specs.Laws.Events.{start-shows, event-tells, event-shows, idle-set-shown, idle-count-shown, idle-lowest-shown}
+
+-- The number of a steal is the one that its trace record has.
+pub number-traced : (p : ℕ) (ks : List ℕ) (step : ℕ) → numberValue (numberBy p (ordinal ks step) step) ≡ traceNumber p ks step
+unfolding numberBy traceNumber
+number-traced p ks step =
+    elim (eqb p workFirst) as
+    (λ b. numberValue (cond b (ByOrdinal (record { 0 = ordinal ks step })) (BySerial (record { 0 = step }))) ≡ cond b (ordinal ks step) step)
+    [ true ↦ refl | false ↦ refl ]
 
 pub record Follows (p : ℕ) (tree : List ℕ) (es : List (List ℕ)) : Type 0 where
   pub invariant : Invariant p (kinds tree) (afterEvents p (kinds tree) (start mostWorkers) es)

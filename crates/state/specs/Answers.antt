@@ -71,6 +71,11 @@ refused number s = record { outcome = Refused number; state = s }
 unfoldable pub numberBy : ℕ → ℕ → ℕ → TraceNumber
 numberBy p ordinal step = cond (eqb p workFirst) (ByOrdinal (record { 0 = ordinal })) (BySerial (record { 0 = step }))
 
+-- The number that goes into a trace record.
+abbrev pub numberValue : TraceNumber → ℕ
+numberValue (ByOrdinal o) = o .0
+numberValue (BySerial s) = s .0
+
 -- The ordinal of the step that step q pushes, from the ordinal `base` of a step of the same task, `from`: one more for each child
 -- opened between, and one for q's. Under help-first it is not asked for, and 0.
 unfoldable pub ordinalFrom : ℕ → List ℕ → ℕ → ℕ → ℕ → ℕ
