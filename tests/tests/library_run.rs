@@ -44,8 +44,9 @@ fn first_state(policy: u8) -> RunState {
     RunState { place: [NOT_RUN; 4095], held, phase: [0; 16], low: [0; 16], base: [0; 16], steals: 0, policy }
 }
 
-/// All of an event's answer but the state: number, what, phase, step, trace.
+/// All of an event's answer but the state: number, what, phase, step, trace. The position is always 0.
 fn numbers(answer: &FrameEvent) -> [usize; 5] {
+    assert_eq!(answer.position, 0);
     [answer.number, answer.what, answer.phase, answer.step, answer.trace]
 }
 
@@ -688,7 +689,7 @@ impl Contract<'_> {
     }
 
     fn refused(&self, number: usize) -> FrameEvent {
-        FrameEvent { number, what: 0, phase: 0, step: 0, trace: 0, state: self.state }
+        FrameEvent { number, position: 0, what: 0, phase: 0, step: 0, trace: 0, state: self.state }
     }
 
     fn run(&self, worker: usize) -> FrameEvent {
@@ -719,7 +720,7 @@ impl Contract<'_> {
             next.place[step] = worker as u8;
             next.held[worker] = self.holds(step) as u16;
         }
-        FrameEvent { number: 0, what: 1, phase: self.state.phase[worker].into(), step, trace: 0, state: next }
+        FrameEvent { number: 0, position: 0, what: 1, phase: self.state.phase[worker].into(), step, trace: 0, state: next }
     }
 
     fn steal(&self, thief: usize, victim: usize) -> FrameEvent {
@@ -752,7 +753,7 @@ impl Contract<'_> {
             trace = usize::from(self.state.base[victim] % 4_096) + self.children(low, oldest) + 1;
             next.base[thief] = trace as u16;
         }
-        FrameEvent { number: 0, what: 2, phase: 0, step: 0, trace, state: next }
+        FrameEvent { number: 0, position: 0, what: 2, phase: 0, step: 0, trace, state: next }
     }
 
     fn event(&self, first: u8, second: u8) -> FrameEvent {

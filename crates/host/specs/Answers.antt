@@ -38,10 +38,11 @@ flatRunning Ends = record { opens = 0; hold = 0; push = 0 }
 abbrev pub flatStart : Started → FrameStart
 flatStart a = record { number = a .number; position = a .position; state = a .state }
 
+-- "A refused single event hands back the state it got, with position 0."
 abbrev pub flatOutcome : Outcome → RunState → FrameEvent
-flatOutcome (Ran phase step) s = record { number = 0; what = 1; phase = phase .0; step = step .0; trace = 0; state = s }
-flatOutcome (Stole number) s = record { number = 0; what = 2; phase = 0; step = 0; trace = numberValue number; state = s }
-flatOutcome (Refused number) s = record { number = number; what = 0; phase = 0; step = 0; trace = 0; state = s }
+flatOutcome (Ran phase step) s = record { number = 0; position = 0; what = 1; phase = phase .0; step = step .0; trace = 0; state = s }
+flatOutcome (Stole number) s = record { number = 0; position = 0; what = 2; phase = 0; step = 0; trace = numberValue number; state = s }
+flatOutcome (Refused number) s = record { number = number; position = 0; what = 0; phase = 0; step = 0; trace = 0; state = s }
 
 abbrev pub flatEvent : Answer → FrameEvent
 flatEvent a = flatOutcome (a .outcome) (a .state)

@@ -133,11 +133,13 @@ pub extern "C" fn frame_start(tree: &[u8], policy: u8) -> FrameStart
     }
 }
 
-// An event's refusal, or what it did: `what` is 1 for a run, of `step` in `phase`, and 2 for a steal, whose trace record has
-// `trace`. What is not answered is 0. The state is the next one, and after a refusal the very state given.
+// An event's refusal and position, which is always 0, or what it did: `what` is 1 for a run, of `step` in `phase`, and 2 for a
+// steal, whose trace record has `trace`. What is not answered is 0. The state is the next one, and after a refusal the very state
+// given.
 #[repr(C)]
 pub struct FrameEvent {
     pub number: usize,
+    pub position: usize,
     pub what: usize,
     pub phase: usize,
     pub step: usize,
@@ -156,6 +158,7 @@ pub extern "C" fn frame_event(state: RunState, tree: &[u8], first: u8, second: u
     match outcome {
         Outcome::Ran { phase, step } => FrameEvent {
             number: 0,
+            position: 0,
             what: 1,
             phase: phase.0,
             step: step.0,
@@ -165,6 +168,7 @@ pub extern "C" fn frame_event(state: RunState, tree: &[u8], first: u8, second: u
         Outcome::Stole(number) => match number {
             TraceNumber::ByOrdinal(ordinal) => FrameEvent {
                 number: 0,
+                position: 0,
                 what: 2,
                 phase: 0,
                 step: 0,
@@ -173,6 +177,7 @@ pub extern "C" fn frame_event(state: RunState, tree: &[u8], first: u8, second: u
             },
             TraceNumber::BySerial(step) => FrameEvent {
                 number: 0,
+                position: 0,
                 what: 2,
                 phase: 0,
                 step: 0,
@@ -182,6 +187,7 @@ pub extern "C" fn frame_event(state: RunState, tree: &[u8], first: u8, second: u
         },
         Outcome::Refused(number) => FrameEvent {
             number: number as usize,
+            position: 0,
             what: 0,
             phase: 0,
             step: 0,

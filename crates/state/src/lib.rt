@@ -8,7 +8,6 @@ ghost use Rattle.rules.specs.Tree.{kinds};
 ghost use Rattle.state.specs.Answers.{stateOf, moved, zeros, fresh, startAnswer, runAnswer, stealAnswer, eventAnswer, idleBits, idleAnswer, numberBy, ordinalFrom};
 use moves::NOT_RUN;
 use moves::Pusher;
-use moves::RUN;
 use tasks::HELP_FIRST;
 use tasks::WORK_FIRST;
 use tree::END;
@@ -59,7 +58,8 @@ pub enum TraceNumber {
     BySerial(Step),
 }
 
-// What an event did: the phase and the step that it ran, or the trace number of the step that it stole, or its refusal.
+// What an event did: the phase and the step that it ran, or the trace number of the step that it stole, or its refusal, whose
+// position is always 0.
 pub enum Outcome {
     Ran { phase: Phase, step: Step },
     Stole(TraceNumber),

@@ -58,6 +58,7 @@ pub struct FrameStart {
 #[derive(Clone, Copy, PartialEq, Eq)]
 pub struct FrameEvent {
     pub number: usize,
+    pub position: usize,
     pub what: usize,
     pub phase: usize,
     pub step: usize,

@@ -5,7 +5,7 @@ use mathlib.Core.Path.{sym, _∙_}
 use native.Mathlib.Omega.{arith}
 use Rattle.rules.specs.Tree.{kinds}
 use Rattle.tree.specs.Laws.Records.{length-kinds, kind-at}
-use Rattle.moves.specs.Laws.Children.{Counted, counted-start, counted-end-outside, counted-end, counted-child, counted-inner, counted-done}
+use Rattle.moves.specs.Laws.Children.{Counted, counted-start, counted-end, counted-child, counted-inner, counted-done}
 use Rattle.moves.proofs.children_between.Statement.{statement}
 use Rattle.moves.proofs.children_between.Tie as tie
 
@@ -35,8 +35,8 @@ loop-again c =
     let a = c .before .before .before .before .before .args in
     let loop = c .before .before .before .before .loop in
     let tree = a .tree .now in
-    counted-end-outside (kinds tree) (a .from) (a .to) (loop .j) (loop .depth) (loop .children) (loop .inv) (omega arith) (omega arith)
-    (kind-at tree (loop .j) (omega (arith, length-kinds tree)) ∙ c .before .if1 .taken) (c .if2 .taken)
+    counted-end (kinds tree) (a .from) (a .to) (loop .j) (loop .depth) (loop .children) (loop .inv) (omega arith) (omega arith)
+    (kind-at tree (loop .j) (omega (arith, length-kinds tree)) ∙ c .before .if1 .taken) (loop .depth) (omega arith)
 
 sub-depth : tie.Need-sub-depth Inv-loop μ-loop
 sub-depth c = omega arith
@@ -50,7 +50,7 @@ loop-again-2 c =
     let loop = c .before .before .before .before .loop in
     let tree = a .tree .now in
     counted-end (kinds tree) (a .from) (a .to) (loop .j) (loop .depth) (loop .children) (loop .inv) (omega arith) (omega arith)
-    (kind-at tree (loop .j) (omega (arith, length-kinds tree)) ∙ c .before .if1 .taken)
+    (kind-at tree (loop .j) (omega (arith, length-kinds tree)) ∙ c .before .if1 .taken) (loop .depth - 1) (omega arith)
 
 add-children : tie.Need-add-children Inv-loop μ-loop
 add-children c = omega (arith, c .before .before .before .before .loop .inv .many)

@@ -53,20 +53,8 @@ module _ (ks : List ℕ) (from to : ℕ) where
     unfolding childrenIn isEnd
     ended e = rw (window-cons ks j to h l, e) refl
 
-    pub counted-end-outside : kindAt ks j ≡ 3 → depth ≡ 0 → Counted ks from to (j + 1) depth children
-    counted-end-outside e z =
-        let same : pred depth ≡ depth = rw z refl in
-        let turn = rw same at (ended e) in
-        record {
-          deep = omega (arith, c .deep);
-          many = omega (arith, c .many);
-          few = c .few;
-          count = omega (arith, c .count, turn);
-        }
-
-    pub counted-end : kindAt ks j ≡ 3 → Counted ks from to (j + 1) (depth - 1) children
-    counted-end e =
-        let same : pred depth ≡ depth - 1 = omega arith in
+    pub counted-end : kindAt ks j ≡ 3 → (next : ℕ) → pred depth ≡ next → Counted ks from to (j + 1) next children
+    counted-end e next same =
         let turn = rw same at (ended e) in
         record {
           deep = omega (arith, c .deep);
