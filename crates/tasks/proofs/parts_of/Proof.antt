@@ -1,6 +1,6 @@
 -- `tasks::parts_of` meets its contract: it takes the branch that `pushesChild` takes. Assumes nothing.
 use mathlib.Core.Path.{refl}
-use mathlib.Core.Path.{_≡_, sym, _∙_}
+use mathlib.Core.Path.{sym, _∙_}
 use borrow.Author.Needs.{needs}
 use Rattle.tasks.proofs.parts_of.Statement.{statement}
 use Rattle.tasks.proofs.parts_of.Tie as tie

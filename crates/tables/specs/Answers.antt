@@ -1,0 +1,34 @@
+-- What the tables of a tree have. `ks` are the tree's kinds and `ws` its weights.
+use Prim.Native.Nat.{ℕ, suc, pred, _≤_, _<_}
+use mathlib.Core.Path.{_≡_}
+use mathlib.Core.Bool.{cond, _&&_}
+use mathlib.Core.List.{List}
+use mathlib.Core.Option.{none, some}
+use lib.ListN.{getD}
+use Rattle.rules.specs.Bytes.{count, sum}
+use Rattle.rules.specs.Tree.{kindAt, isEnd, isFinish, taskEnd, finishBefore}
+
+-- For each of the first m steps the step after its task's end.
+abbrev pub Ends : List ℕ → List ℕ → ℕ → Type 0
+Ends ks ends m = (i : ℕ) → i < m → getD ends i 0 ≡ taskEnd ks i
+
+-- Step q is the opener of step j: the opening step whose child or whose continuation j is. What is good to know of it:
+pub record Opener (ks : List ℕ) (q j : ℕ) : Type 0 where
+  -- it stands before j,
+  pub before : q < j
+  -- the task of every step between has ended before j,
+  pub nearest : (k : ℕ) → q < k → k < j → taskEnd ks k ≤ j
+  -- and where a finish child ends just before j, it opened that.
+  pub finish : finishBefore ks j ≡ cond (isEnd (kindAt ks (pred j)) && isFinish (kindAt ks q)) (some (suc q)) none
+
+-- For each of the first m steps but step 0 its opener.
+abbrev pub Openers : List ℕ → List ℕ → ℕ → Type 0
+Openers ks openers m = (j : ℕ) → 0 < j → j < m → Opener ks (getD openers j 0) j
+
+-- The weight of all steps before step j.
+unfoldable pub weightBefore : List ℕ → ℕ → ℕ
+weightBefore ws j = sum (λ i. getD ws i 0) (count 0 j)
+
+-- That, for each of the first m steps and for step m.
+abbrev pub Sums : List ℕ → List ℕ → ℕ → Type 0
+Sums ws sums m = (j : ℕ) → j ≤ m → getD sums j 0 ≡ weightBefore ws j

@@ -1,0 +1,15 @@
+-- The numbers of an interval, one more at its end.
+use Prim.Native.Nat.{ℕ, zero, suc, _+_}
+use mathlib.Core.Path.{_≡_, refl, ap}
+use mathlib.Core.List.{List, [], _∷_, _++_}
+use native.Mathlib.Omega.{arith}
+use Rattle.rules.specs.Bytes.{count}
+
+pub count-snoc : (m low : ℕ) → count low (suc m) ≡ count low m ++ ((low + m) ∷ [])
+unfolding count
+count-snoc zero low =
+    let e : low ≡ low + 0 = omega arith in
+    rw (← e) refl
+count-snoc (suc m) low =
+    let e : suc low + m ≡ low + suc m = omega arith in
+    ap (λ (x : List ℕ). low ∷ x) (rw (← e) (count-snoc m (suc low)))
