@@ -57,19 +57,19 @@ pub record HandShown (p : ℕ) (ks place : List ℕ) (w held low base phase : �
 -- ---- the state
 
 pub record Shows (p : ℕ) (ks : List ℕ) (s : RunState) (r : Run) : Type 0 where
-  pub policy : s .workers .policy ≡ p
+  pub policy : s .policy ≡ p
   pub places : length (s .place) ≡ 4095
-  pub helds : length (s .workers .held) ≡ mostWorkers
-  pub phases : length (s .workers .phase) ≡ mostWorkers
-  pub lows : length (s .workers .low) ≡ mostWorkers
-  pub bases : length (s .workers .base) ≡ mostWorkers
+  pub helds : length (s .held) ≡ mostWorkers
+  pub phases : length (s .phase) ≡ mostWorkers
+  pub lows : length (s .low) ≡ mostWorkers
+  pub bases : length (s .base) ≡ mostWorkers
   pub workers : length (r .workers) ≡ mostWorkers
   pub hands : (w : ℕ) → w < mostWorkers
-      → HandShown p ks (s .place) w (getD (s .workers .held) w 0) (getD (s .workers .low) w 0) (getD (s .workers .base) w 0)
-      (getD (s .workers .phase) w 0) (workerAt r w)
+      → HandShown p ks (s .place) w (getD (s .held) w 0) (getD (s .low) w 0) (getD (s .base) w 0)
+      (getD (s .phase) w 0) (workerAt r w)
   -- 17 is the mark of the steps that have not run.
   pub unrun : (j : ℕ) → j < length ks → eqb (getD (s .place) j 0) 17 ≡ not (hasRun (r .log) j)
-  pub steals : s .workers .steals ≡ length (r .steals)
+  pub steals : s .steals ≡ length (r .steals)
 
 -- ---- what an event's call tells
 

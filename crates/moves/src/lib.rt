@@ -7,10 +7,12 @@ ghost use Prim.Native.Nat.{_≤_, _<_};
 ghost use lib.ListN.{length};
 ghost use Rattle.rules.specs.Tree.{kinds};
 ghost use Rattle.rules.specs.Scheduling.{holds, pushes};
-ghost use Rattle.moves.specs.Answers.{newestMark, oldestMark, pusherOf, allRun, waitsFor, childrenBetween, popped, robbed};
+ghost use Rattle.tables.specs.Answers.{Ends, Openers};
+ghost use Rattle.moves.specs.Answers.{Climbs, newestMark, oldestMark, pusherOf, allRun, waitsFor, childrenBetween, popped, robbed};
+use tables::cont_by;
+use tables::finish_by;
+use tables::wide;
 use tasks::FinishChild;
-use tasks::cont;
-use tasks::finish_before;
 use tasks::pushes_child;
 use tree::END;
 use tree::RECORD;
@@ -29,8 +31,8 @@ pub enum Pusher {
     Nothing,
 }
 
-// The highest step marked with the worker among those from `low` to before `end`.
-pub fn newest(place: &[u8; 4095], worker: u8, low: usize, end: usize) -> Pusher
+// The highest step marked with the worker among those from `low` to before `end`, by a scan.
+fn scan(place: &[u8; 4095], worker: u8, low: usize, end: usize) -> Pusher
     requires { ⌜ end ≤ 4095 ⌝ }
     ensures { λ r. ⌜ r ≡ pusherOf (newestMark (now (place .entry)) worker low end) ⌝ }
 {
@@ -42,6 +44,35 @@ pub fn newest(place: &[u8; 4095], worker: u8, low: usize, end: usize) -> Pusher
         }
     }
     Pusher::Nothing
+}
+
+// The same from step `end` up, from opener to opener: no other step is marked with a worker that holds `end`.
+fn climb(openers: &[u16], place: &[u8; 4095], worker: u8, low: usize, end: usize) -> Pusher
+    requires { ⌜ (end < 4095) × (end < length (now openers)) × Climbs (now openers) (now place) worker low end ⌝ }
+    ensures { λ r. ⌜ r ≡ pusherOf (newestMark (now (place .entry)) worker low end) ⌝ }
+{
+    let mut j = end;
+    while low < j {
+        j = wide(openers[j]);
+        if j < low {
+            return Pusher::Nothing;
+        }
+        if place[j] == worker {
+            return Pusher::At(Step(j));
+        }
+    }
+    Pusher::Nothing
+}
+
+// The same, by the openers where their table has step `end`.
+pub fn newest(openers: &[u16], place: &[u8; 4095], worker: u8, low: usize, end: usize) -> Pusher
+    requires { ⌜ (end < 4095) × (end < length (now openers) → Climbs (now openers) (now place) worker low end) ⌝ }
+    ensures { λ r. ⌜ r ≡ pusherOf (newestMark (now (place .entry)) worker low end) ⌝ }
+{
+    if end < openers.len() {
+        return climb(openers, place, worker, low, end);
+    }
+    scan(place, worker, low, end)
 }
 
 // The lowest.
@@ -75,38 +106,38 @@ pub fn all_run(place: &[u8; 4095], first: usize, end: usize) -> bool
 }
 
 // Whether a held step waits for a finish child.
-pub fn waits(tree: &[u8], place: &[u8; 4095], step: Step) -> bool
-    requires { ⌜ step .0 ≤ 4095 ⌝ }
+pub fn waits(tree: &[u8], openers: &[u16], place: &[u8; 4095], step: Step) -> bool
+    requires { ⌜ (step .0 ≤ 4095) × Openers (kinds (now tree)) (now openers) (length (now openers)) ⌝ }
     ensures { λ r. ⌜ r ≡ waitsFor (kinds (now (tree .entry))) (now (place .entry)) (step .0) ⌝ }
 {
-    match finish_before(tree, step) {
+    match finish_by(tree, openers, step) {
         FinishChild::From(first) => !all_run(place, first.0, step.0),
         FinishChild::Nothing => false,
     }
 }
 
 // The step that running an opening step holds next.
-pub fn held_after(tree: &[u8], policy: u8, step: Step) -> Step
-    requires { ⌜ step .0 < length (kinds (now tree)) ⌝ }
+pub fn held_after(tree: &[u8], ends: &[u16], policy: u8, step: Step) -> Step
+    requires { ⌜ (step .0 < length (kinds (now tree))) × Ends (kinds (now tree)) (now ends) (length (now ends)) ⌝ }
     ensures { λ r. ⌜ r .0 ≡ holds policy (kinds (now (tree .entry))) (step .0) ⌝ }
 {
     let i = step.0;
     if pushes_child(policy, kind(tree, step)) {
-        return cont(tree, step);
+        return cont_by(tree, ends, step);
     }
     Step(i + 1)
 }
 
 // The step that running an opening step pushes.
-pub fn pushed_by(tree: &[u8], policy: u8, step: Step) -> Step
-    requires { ⌜ step .0 < length (kinds (now tree)) ⌝ }
+pub fn pushed_by(tree: &[u8], ends: &[u16], policy: u8, step: Step) -> Step
+    requires { ⌜ (step .0 < length (kinds (now tree))) × Ends (kinds (now tree)) (now ends) (length (now ends)) ⌝ }
     ensures { λ r. ⌜ r .0 ≡ pushes policy (kinds (now (tree .entry))) (step .0) ⌝ }
 {
     let i = step.0;
     if pushes_child(policy, kind(tree, step)) {
         return Step(i + 1);
     }
-    cont(tree, step)
+    cont_by(tree, ends, step)
 }
 
 // How many children are opened directly from step `from` to before step `to`: not those inside other children.
@@ -139,13 +170,13 @@ pub fn children_between(tree: &[u8], from: usize, to: usize) -> usize
 }
 
 // A worker runs an end: the step has run, and the newest step of the worker's deque leaves it. Gives that step's pusher.
-pub fn pop(place: &mut [u8; 4095], worker: u8, low: usize, step: Step) -> Pusher
-    requires { ⌜ step .0 < 4095 ⌝ }
+pub fn pop(openers: &[u16], place: &mut [u8; 4095], worker: u8, low: usize, step: Step) -> Pusher
+    requires { ⌜ (step .0 < 4095) × (step .0 < length (now openers) → Climbs (now openers) (now place) worker low (step .0)) ⌝ }
     ensures gives { λ r. ⌜ r ≡ pusherOf (newestMark (now (place .entry)) worker low (step .0)) ⌝ }
     ensures marks { λ r. ⌜ now (place .exit) ≡ popped (now (place .entry)) worker low (step .0) ⌝ }
 {
     let i = step.0;
-    match newest(place, worker, low, i) {
+    match newest(openers, place, worker, low, i) {
         Pusher::At(q) => {
             let p = q.0;
             place[i] = RUN;

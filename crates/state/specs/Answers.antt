@@ -1,32 +1,42 @@
 -- What each call answers, and every field of the state that it hands back: functions of the state, the tree's bytes and the
 -- event alone, for any of them. On the states that a run leads to these are the rules; on any other a held step that the tree
 -- has not is none, and a tree with too many records is refused with 2.
-use Prim.Native.Nat.{ℕ, zero, suc, _+_, _*_, _%_}
+use Prim.Native.Nat.{ℕ, zero, suc, _+_, _*_, _%_, _<_}
 use mathlib.Core.Bool.{Bool, cond, _||_}
 use mathlib.Core.List.{List}
-use mathlib.Core.Option.{none, some}
+use mathlib.Core.Option.{Option, none, some}
 use lib.ListN.{length, getD, set, replicate}
 use lib.Dec.{eqb, leb, ltb}
 use Rattle.rules.specs.Tree.{kinds, kindAt, isEnd, mostSteps}
 use Rattle.rules.specs.Scheduling.{workFirst, mostWorkers, holds, pushes}
 use Rattle.rules.specs.Calls.{startVerdict}
-use Rattle.moves.specs.Answers.{newestMark, oldestMark, waitsFor, childrenBetween, popped, robbed}
-use Rattle.state.specs.declared.Workers.{Workers}
+use Rattle.tables.specs.Answers.{Ends, Openers}
+use Rattle.moves.specs.Answers.{Climbs, newestMark, oldestMark, waitsFor, childrenBetween, popped, robbed}
 use Rattle.state.specs.declared.RunState.{RunState}
 use Rattle.state.specs.declared.TraceNumber.{TraceNumber}
 use Rattle.state.specs.declared.TraceNumber.the-variants.{ByOrdinal, BySerial}
+use Rattle.state.specs.declared.Taken.{Taken}
+use Rattle.state.specs.declared.Taken.the-variants.{Of, Nothing}
+use Rattle.state.specs.declared.Outcome.{Outcome}
 use Rattle.state.specs.declared.Outcome.the-variants.{Ran, Stole, Refused}
-use Rattle.state.specs.declared.Moved.{Moved}
 use Rattle.state.specs.declared.Answer.{Answer}
 use Rattle.state.specs.declared.Started.{Started}
 use Rattle.state.specs.declared.Idle.{Idle}
 
--- A state by its two parts, and what an answer says beside the places: the calls on arrays lend these.
-abbrev pub stateOf : List ℕ → Workers → RunState
-stateOf place workers = record { place = place; workers = workers }
+-- A state by its fields, and an answer by its outcome and its state: the calls on arrays lend the fields.
+abbrev pub stateOf : List ℕ → List ℕ → List ℕ → List ℕ → List ℕ → ℕ → ℕ → RunState
+stateOf place held phase low base steals policy =
+    record { place = place; held = held; phase = phase; low = low; base = base; steals = steals; policy = policy }
 
-abbrev pub moved : Answer → Moved
-moved a = record { outcome = a .outcome; workers = a .state .workers }
+abbrev pub answerOf : Outcome → RunState → Answer
+answerOf outcome s = record { outcome = outcome; state = s }
+
+-- What the calls on arrays ask of the tables that they are lent: they are the tree's, as far as they go, and lead from each held
+-- step to the steps that are marked with its worker. A single event lends empty ones, of which nothing is asked.
+pub record Hints (tree ends openers place held low : List ℕ) : Type 0 where
+  pub taskEnds : Ends (kinds tree) ends (length ends)
+  pub opened : Openers (kinds tree) openers (length openers)
+  pub climbs : (w : ℕ) → w < mostWorkers → getD held w 0 < length openers → Climbs openers place w (getD low w 0) (getD held w 0)
 
 -- ---- the start
 
@@ -35,7 +45,12 @@ unfoldable pub zeros : RunState
 zeros =
     record {
       place = replicate 4095 0;
-      workers = record { held = replicate 16 0; phase = replicate 16 0; low = replicate 16 0; base = replicate 16 0; steals = 0; policy = 0 };
+      held = replicate 16 0;
+      phase = replicate 16 0;
+      low = replicate 16 0;
+      base = replicate 16 0;
+      steals = 0;
+      policy = 0;
     }
 
 -- "Worker 0 holds step 0 and that begins phase 0. The other 15 workers are idle." No step has run.
@@ -43,14 +58,12 @@ unfoldable pub fresh : ℕ → RunState
 fresh p =
     record {
       place = replicate 4095 17;
-      workers = record {
-        held = set (replicate 16 65535) 0 0;
-        phase = replicate 16 0;
-        low = replicate 16 0;
-        base = replicate 16 0;
-        steals = 0;
-        policy = p;
-      };
+      held = set (replicate 16 65535) 0 0;
+      phase = replicate 16 0;
+      low = replicate 16 0;
+      base = replicate 16 0;
+      steals = 0;
+      policy = p;
     }
 
 unfoldable pub startAnswer : ℕ → List ℕ → Started
@@ -81,32 +94,26 @@ numberValue (BySerial s) = s .0
 unfoldable pub ordinalFrom : ℕ → List ℕ → ℕ → ℕ → ℕ → ℕ
 ordinalFrom p ks base from q = cond (eqb p workFirst) (base % 4096 + childrenBetween ks from q + 1) 0
 
--- The step that worker w holds once it has run step i.
-unfoldable pub heldNext : RunState → List ℕ → ℕ → ℕ → ℕ
-heldNext s ks w i =
-    let newest = newestMark (s .place) w (getD (s .workers .low) w 0) i in
-    cond (isEnd (kindAt ks i)) (elim newest [ none ↦ 65535 | some q ↦ pushes (s .workers .policy) ks q ]) (holds (s .workers .policy) ks i)
+-- The step that worker w holds once it has run step i, and the places then.
+unfoldable pub heldNext : ℕ → List ℕ → List ℕ → ℕ → ℕ → ℕ → ℕ
+heldNext p ks place w low i =
+    let newest = newestMark place w low i in
+    cond (isEnd (kindAt ks i)) (elim newest [ none ↦ 65535 | some q ↦ pushes p ks q ]) (holds p ks i)
+
+unfoldable pub placeNext : List ℕ → List ℕ → ℕ → ℕ → ℕ → List ℕ
+placeNext ks place w low i = cond (isEnd (kindAt ks i)) (popped place w low i) (set place i w)
 
 -- Worker w has run step i.
 unfoldable pub ranState : RunState → List ℕ → ℕ → ℕ → RunState
 ranState s ks w i =
-    record {
-      place = cond (isEnd (kindAt ks i)) (popped (s .place) w (getD (s .workers .low) w 0) i) (set (s .place) i w);
-      workers = record {
-        held = set (s .workers .held) w (heldNext s ks w i);
-        phase = s .workers .phase;
-        low = s .workers .low;
-        base = s .workers .base;
-        steals = s .workers .steals;
-        policy = s .workers .policy;
-      };
-    }
+    stateOf (placeNext ks (s .place) w (getD (s .low) w 0) i)
+    (set (s .held) w (heldNext (s .policy) ks (s .place) w (getD (s .low) w 0) i)) (s .phase) (s .low) (s .base) (s .steals) (s .policy)
 
 unfoldable pub runAnswer : RunState → List ℕ → ℕ → Answer
 runAnswer s tree w =
     let ks = kinds tree in
-    let i = getD (s .workers .held) w 0 in
-    let ran = Ran (record { 0 = getD (s .workers .phase) w 0 }) (record { 0 = i }) in
+    let i = getD (s .held) w 0 in
+    let ran = Ran (record { 0 = getD (s .phase) w 0 }) (record { 0 = i }) in
     cond (leb mostWorkers w) (refused 8 s)
     (cond (ltb mostSteps (length ks)) (refused 2 s)
     (cond (leb (length ks) i) (refused 9 s)
@@ -114,37 +121,38 @@ runAnswer s tree w =
 
 -- The number of the phase that begins at the next steal. A run has at most 2,048 phases.
 unfoldable pub nextPhase : RunState → ℕ
-nextPhase s = s .workers .steals % 2048 + 1
+nextPhase s = s .steals % 2048 + 1
 
 -- The ordinal of the step that is stolen from v, which step q pushed.
 unfoldable pub takenOrdinal : RunState → List ℕ → ℕ → ℕ → ℕ
-takenOrdinal s ks v q = ordinalFrom (s .workers .policy) ks (getD (s .workers .base) v 0) (getD (s .workers .low) v 0) q
+takenOrdinal s ks v q = ordinalFrom (s .policy) ks (getD (s .base) v 0) (getD (s .low) v 0) q
+
+-- What a steal from a deque takes, whose oldest step was pushed by a step that is found, or by none.
+unfoldable pub takenOf : ℕ → List ℕ → ℕ → ℕ → Option ℕ → Taken
+takenOf p ks base from none = Nothing
+takenOf p ks base from (some q) = Of (record { 0 = q }) (record { 0 = pushes p ks q }) (record { 0 = ordinalFrom p ks base from q })
+
+-- It fits the tables.
+abbrev pub Small : Taken → Type 0
+Small (Of pusher step ordinal) = (pusher .0 < 4095) × (step .0 < 65536) × (ordinal .0 < 65536)
+Small Nothing = 0 < 1
 
 -- The thief t has taken from v the step that step q pushed.
 unfoldable pub robbedState : RunState → List ℕ → ℕ → ℕ → ℕ → RunState
 robbedState s ks t v q =
-    let taken = pushes (s .workers .policy) ks q in
-    record {
-      place = robbed (s .place) v (getD (s .workers .low) v 0) (length ks);
-      workers = record {
-        held = set (s .workers .held) t taken;
-        phase = set (s .workers .phase) t (nextPhase s);
-        low = set (set (s .workers .low) v (suc q)) t taken;
-        base = set (set (s .workers .base) v 0) t (takenOrdinal s ks v q);
-        steals = nextPhase s;
-        policy = s .workers .policy;
-      };
-    }
+    let taken = pushes (s .policy) ks q in
+    stateOf (robbed (s .place) v (getD (s .low) v 0) (length ks)) (set (s .held) t taken) (set (s .phase) t (nextPhase s))
+    (set (set (s .low) v (suc q)) t taken) (set (set (s .base) v 0) t (takenOrdinal s ks v q)) (nextPhase s) (s .policy)
 
 unfoldable pub stealAnswer : RunState → List ℕ → ℕ → ℕ → Answer
 stealAnswer s tree t v =
     let ks = kinds tree in
     cond (leb mostWorkers t || leb mostWorkers v) (refused 8 s)
     (cond (ltb mostSteps (length ks)) (refused 2 s)
-    (cond (ltb (getD (s .workers .held) t 0) (length ks)) (refused 11 s)
-    (elim (oldestMark (s .place) v (getD (s .workers .low) v 0) (length ks)) [
+    (cond (ltb (getD (s .held) t 0) (length ks)) (refused 11 s)
+    (elim (oldestMark (s .place) v (getD (s .low) v 0) (length ks)) [
       | none ↦ refused 12 s
-      | some q ↦ record { outcome = Stole (numberBy (s .workers .policy) (takenOrdinal s ks v q) (pushes (s .workers .policy) ks q)); state = robbedState s ks t v q }
+      | some q ↦ record { outcome = Stole (numberBy (s .policy) (takenOrdinal s ks v q) (pushes (s .policy) ks q)); state = robbedState s ks t v q }
     ])))
 
 -- "Equal bytes: that worker runs its step. Different bytes: the first steals from the second."
@@ -173,8 +181,8 @@ idleFirst held i (suc m) = cond (isIdle (getD held i 0)) i (idleFirst held (suc 
 unfoldable pub idleAnswer : RunState → Idle
 idleAnswer s =
     record {
-      set = idleBits (s .workers .held) 0 mostWorkers;
-      count = idleNumber (s .workers .held) 0 mostWorkers;
-      lowest = idleFirst (s .workers .held) 0 mostWorkers;
+      set = idleBits (s .held) 0 mostWorkers;
+      count = idleNumber (s .held) 0 mostWorkers;
+      lowest = idleFirst (s .held) 0 mostWorkers;
       state = s;
     }

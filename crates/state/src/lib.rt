@@ -2,12 +2,16 @@
 // and hands back the next with its answer. Any state and any bytes are safe: a step that the tree has not is no held step, and
 // a tree with more records than a tree may have is refused with 2.
 ghost use mathlib.Core.Path.{_≡_};
-ghost use Prim.Native.Nat.{_≤_, _<_};
+ghost use mathlib.Core.List.{List};
+ghost use Prim.Native.Nat.{ℕ, _≤_, _<_};
 ghost use lib.ListN.{length};
 ghost use Rattle.rules.specs.Tree.{kinds};
-ghost use Rattle.state.specs.Answers.{stateOf, moved, zeros, fresh, startAnswer, runAnswer, stealAnswer, eventAnswer, idleBits, idleAnswer, numberBy, ordinalFrom};
+ghost use Rattle.tables.specs.Answers.{Ends};
+ghost use Rattle.moves.specs.Answers.{Climbs, oldestMark, robbed};
+ghost use Rattle.state.specs.Answers.{Hints, Small, stateOf, answerOf, zeros, fresh, startAnswer, heldNext, placeNext, takenOf, runAnswer, stealAnswer, eventAnswer, idleBits, idleAnswer, numberBy, numberValue, ordinalFrom};
 use moves::NOT_RUN;
 use moves::Pusher;
+use tables::wide;
 use tasks::HELP_FIRST;
 use tasks::WORK_FIRST;
 use tree::END;
@@ -28,9 +32,11 @@ pub const MOST_ORDINALS: usize = 4096;
 // What a worker that holds no step has for one.
 pub const NO_STEP: u16 = 65535;
 
-// The workers' tables, the count of steals and the policy.
+// The state of a run.
 #[repr(C)]
-pub struct Workers {
+pub struct RunState {
+    // for each step NOT_RUN, RUN, or the worker in whose deque the step is that it pushed
+    pub place: [u8; 4095],
     // for each worker the step that it holds, or NO_STEP
     pub held: [u16; 16],
     // its latest phase
@@ -42,14 +48,6 @@ pub struct Workers {
     // how many steals there were
     pub steals: u16,
     pub policy: u8,
-}
-
-// The state of a run.
-#[repr(C)]
-pub struct RunState {
-    // for each step NOT_RUN, RUN, or the worker in whose deque the step is that it pushed
-    pub place: [u8; 4095],
-    pub workers: Workers,
 }
 
 // The number of a trace record: under work-first an ordinal, under help-first a serial number.
@@ -66,10 +64,20 @@ pub enum Outcome {
     Refused(u8),
 }
 
-// An event's outcome with the workers' next tables.
+// An event's outcome with the count of steals after it.
 pub struct Moved {
     pub outcome: Outcome,
-    pub workers: Workers,
+    pub steals: u16,
+}
+
+// What a steal takes: the step, its ordinal and its pusher; or nothing.
+pub enum Taken {
+    Of {
+        pusher: Step,
+        step: Step,
+        ordinal: Ordinal,
+    },
+    Nothing,
 }
 
 // An event's outcome with the next state.
@@ -93,12 +101,6 @@ pub struct Idle {
     pub state: RunState,
 }
 
-fn wide(x: u16) -> usize
-    ensures { λ r. ⌜ r ≡ x ⌝ }
-{
-    x as usize
-}
-
 // The trace number of a stolen step, by its ordinal or its serial number.
 fn trace_number(policy: u8, ordinal: Ordinal, step: Step) -> TraceNumber
     ensures { λ r. ⌜ r ≡ numberBy policy (ordinal .0) (step .0) ⌝ }
@@ -107,6 +109,16 @@ fn trace_number(policy: u8, ordinal: Ordinal, step: Step) -> TraceNumber
         return TraceNumber::ByOrdinal(ordinal);
     }
     TraceNumber::BySerial(step)
+}
+
+// The number of a trace record.
+pub fn number_of(number: TraceNumber) -> usize
+    ensures { λ r. ⌜ r ≡ numberValue number ⌝ }
+{
+    match number {
+        TraceNumber::ByOrdinal(ordinal) => ordinal.0,
+        TraceNumber::BySerial(step) => step.0,
+    }
 }
 
 // The ordinal of the step that step `pusher` pushes, from the ordinal of an earlier step of its task; 0 under help-first,
@@ -130,14 +142,12 @@ fn no_state() -> RunState
 {
     RunState {
         place: [0; 4095],
-        workers: Workers {
-            held: [0; 16],
-            phase: [0; 16],
-            low: [0; 16],
-            base: [0; 16],
-            steals: 0,
-            policy: 0,
-        },
+        held: [0; 16],
+        phase: [0; 16],
+        low: [0; 16],
+        base: [0; 16],
+        steals: 0,
+        policy: 0,
     }
 }
 
@@ -149,14 +159,12 @@ fn first_state(policy: u8) -> RunState
     held[0] = 0;
     RunState {
         place: [NOT_RUN; 4095],
-        workers: Workers {
-            held,
-            phase: [0; 16],
-            low: [0; 16],
-            base: [0; 16],
-            steals: 0,
-            policy,
-        },
+        held,
+        phase: [0; 16],
+        low: [0; 16],
+        base: [0; 16],
+        steals: 0,
+        policy,
     }
 }
 
@@ -193,142 +201,173 @@ pub fn start(tree: &[u8], policy: u8) -> Started
     }
 }
 
+// A worker has run a step: the places change, and the step that it holds next, or NO_STEP, is given.
+fn advance(
+    tree: &[u8],
+    ends: &[u16],
+    openers: &[u16],
+    place: &mut [u8; 4095],
+    policy: u8,
+    worker: u8,
+    low: usize,
+    step: Step,
+) -> u16
+    requires { ⌜ (step .0 < length (kinds (now tree))) × (length (kinds (now tree)) ≤ 4095) × Ends (kinds (now tree)) (now ends) (length (now ends)) × (step .0 < length (now openers) → Climbs (now openers) (now place) worker low (step .0)) ⌝ }
+    ensures gives { λ r. ⌜ r ≡ heldNext policy (kinds (now (tree .entry))) (now (place .entry)) worker low (step .0) ⌝ }
+    ensures leaves { λ r. ⌜ now (place .exit) ≡ placeNext (kinds (now (tree .entry))) (now (place .entry)) worker low (step .0) ⌝ }
+{
+    let i = step.0;
+    if tree::kind(tree, step) != END {
+        let held = moves::held_after(tree, ends, policy, step);
+        place[i] = worker;
+        return held.0 as u16;
+    }
+    match moves::pop(openers, place, worker, low, step) {
+        Pusher::At(q) => {
+            let held = moves::pushed_by(tree, ends, policy, q);
+            held.0 as u16
+        }
+        Pusher::Nothing => NO_STEP,
+    }
+}
+
 // A worker runs its step, on the arrays themselves: refusals 8 to 10 leave them as they are.
-pub fn run_on(tree: &[u8], place: &mut [u8; 4095], workers: Workers, worker: u8) -> Moved
-    ensures tells { λ r. ⌜ r ≡ moved (runAnswer (stateOf (now (place .entry)) workers) (now (tree .entry)) worker) ⌝ }
-    ensures leaves { λ r. ⌜ now (place .exit) ≡ runAnswer (stateOf (now (place .entry)) workers) (now (tree .entry)) worker .state .place ⌝ }
+pub fn run_on(
+    tree: &[u8],
+    ends: &[u16],
+    openers: &[u16],
+    place: &mut [u8; 4095],
+    held: &mut [u16; 16],
+    phase: &[u16; 16],
+    low: &[u16; 16],
+    policy: u8,
+    worker: u8,
+) -> Outcome
+    requires { ⌜ Hints (now tree) (now ends) (now openers) (now place) (now held) (now low) ⌝ }
+    ensures { λ r. ⌜ ((base : List ℕ) → (steals : ℕ) → answerOf r (stateOf (now (place .exit)) (now (held .exit)) (now (phase .entry)) (now (low .entry)) base steals policy) ≡ runAnswer (stateOf (now (place .entry)) (now (held .entry)) (now (phase .entry)) (now (low .entry)) base steals policy) (now (tree .entry)) worker) ⌝ }
 {
     let w = worker as usize;
     if MOST_WORKERS <= w {
-        return Moved {
-            outcome: Outcome::Refused(8),
-            workers,
-        };
+        return Outcome::Refused(8);
     }
     let n = tree::steps(tree);
     if MOST_STEPS < n {
-        return Moved {
-            outcome: Outcome::Refused(2),
-            workers,
-        };
+        return Outcome::Refused(2);
     }
-    let i = wide(workers.held[w]);
+    let i = wide(held[w]);
     if n <= i {
-        return Moved {
-            outcome: Outcome::Refused(9),
-            workers,
-        };
+        return Outcome::Refused(9);
     }
-    if moves::waits(tree, place, Step(i)) {
-        return Moved {
-            outcome: Outcome::Refused(10),
-            workers,
-        };
+    if moves::waits(tree, openers, place, Step(i)) {
+        return Outcome::Refused(10);
     }
-    let phase = Phase(wide(workers.phase[w]));
-    let low = wide(workers.low[w]);
-    let policy = workers.policy;
-    let mut next = workers;
-    if tree::kind(tree, Step(i)) != END {
-        let held = moves::held_after(tree, policy, Step(i));
-        place[i] = worker;
-        next.held[w] = held.0 as u16;
-        return Moved {
-            outcome: Outcome::Ran {
-                phase,
-                step: Step(i),
-            },
-            workers: next,
-        };
+    let from = wide(low[w]);
+    let next = advance(tree, ends, openers, place, policy, worker, from, Step(i));
+    held[w] = next;
+    Outcome::Ran {
+        phase: Phase(wide(phase[w])),
+        step: Step(i),
     }
-    match moves::pop(place, worker, low, Step(i)) {
-        Pusher::At(q) => {
-            let held = moves::pushed_by(tree, policy, q);
-            next.held[w] = held.0 as u16;
-            Moved {
-                outcome: Outcome::Ran {
-                    phase,
-                    step: Step(i),
-                },
-                workers: next,
+}
+
+// The oldest step of the victim's deque leaves it.
+fn take_step(
+    tree: &[u8],
+    ends: &[u16],
+    place: &mut [u8; 4095],
+    policy: u8,
+    victim: u8,
+    low: usize,
+    base: u16,
+) -> Taken
+    requires { ⌜ (length (kinds (now tree)) ≤ 4095) × Ends (kinds (now tree)) (now ends) (length (now ends)) ⌝ }
+    ensures gives { λ r. ⌜ r ≡ takenOf policy (kinds (now (tree .entry))) base low (oldestMark (now (place .entry)) victim low (length (kinds (now (tree .entry))))) ⌝ }
+    ensures leaves { λ r. ⌜ now (place .exit) ≡ robbed (now (place .entry)) victim low (length (kinds (now (tree .entry)))) ⌝ }
+    ensures small { λ r. ⌜ Small r ⌝ }
+{
+    let n = tree::steps(tree);
+    match moves::take(place, victim, low, n) {
+        Pusher::At(pusher) => {
+            let step = moves::pushed_by(tree, ends, policy, pusher);
+            let ordinal = ordinal_from(tree, policy, base, low, pusher.0);
+            Taken::Of {
+                pusher,
+                step,
+                ordinal,
             }
         }
-        Pusher::Nothing => {
-            next.held[w] = NO_STEP;
-            Moved {
-                outcome: Outcome::Ran {
-                    phase,
-                    step: Step(i),
-                },
-                workers: next,
-            }
-        }
+        Pusher::Nothing => Taken::Nothing,
     }
 }
 
 // The thief takes the oldest step of the victim's deque, on the arrays themselves: refusals 8, 11 and 12 leave them as they are.
 pub fn steal_on(
     tree: &[u8],
+    ends: &[u16],
     place: &mut [u8; 4095],
-    workers: Workers,
+    held: &mut [u16; 16],
+    phase: &mut [u16; 16],
+    low: &mut [u16; 16],
+    base: &mut [u16; 16],
+    steals: u16,
+    policy: u8,
     thief: u8,
     victim: u8,
 ) -> Moved
-    ensures tells { λ r. ⌜ r ≡ moved (stealAnswer (stateOf (now (place .entry)) workers) (now (tree .entry)) thief victim) ⌝ }
-    ensures leaves { λ r. ⌜ now (place .exit) ≡ stealAnswer (stateOf (now (place .entry)) workers) (now (tree .entry)) thief victim .state .place ⌝ }
+    requires { ⌜ Ends (kinds (now tree)) (now ends) (length (now ends)) ⌝ }
+    ensures { λ r. ⌜ answerOf (r .outcome) (stateOf (now (place .exit)) (now (held .exit)) (now (phase .exit)) (now (low .exit)) (now (base .exit)) (r .steals) policy) ≡ stealAnswer (stateOf (now (place .entry)) (now (held .entry)) (now (phase .entry)) (now (low .entry)) (now (base .entry)) steals policy) (now (tree .entry)) thief victim ⌝ }
 {
     let t = thief as usize;
     let v = victim as usize;
     if MOST_WORKERS <= t {
         return Moved {
             outcome: Outcome::Refused(8),
-            workers,
+            steals,
         };
     }
     if MOST_WORKERS <= v {
         return Moved {
             outcome: Outcome::Refused(8),
-            workers,
+            steals,
         };
     }
     let n = tree::steps(tree);
     if MOST_STEPS < n {
         return Moved {
             outcome: Outcome::Refused(2),
-            workers,
+            steals,
         };
     }
-    if wide(workers.held[t]) < n {
+    if wide(held[t]) < n {
         return Moved {
             outcome: Outcome::Refused(11),
-            workers,
+            steals,
         };
     }
-    let low = wide(workers.low[v]);
-    let base = workers.base[v];
-    let policy = workers.policy;
-    let phase = workers.steals % MOST_PHASES + 1;
-    let mut next = workers;
-    match moves::take(place, victim, low, n) {
-        Pusher::At(q) => {
-            let step = moves::pushed_by(tree, policy, q);
+    let from = wide(low[v]);
+    match take_step(tree, ends, place, policy, victim, from, base[v]) {
+        Taken::Of {
+            pusher,
+            step,
+            ordinal,
+        } => {
+            let number = trace_number(policy, ordinal, step);
             let taken = step.0 as u16;
-            let ordinal = ordinal_from(tree, policy, base, low, q.0);
-            next.low[v] = (q.0 + 1) as u16;
-            next.low[t] = taken;
-            next.base[v] = 0;
-            next.base[t] = ordinal.0 as u16;
-            next.held[t] = taken;
-            next.phase[t] = phase;
-            next.steals = phase;
+            let begun = steals % MOST_PHASES + 1;
+            low[v] = (pusher.0 + 1) as u16;
+            low[t] = taken;
+            base[v] = 0;
+            base[t] = ordinal.0 as u16;
+            held[t] = taken;
+            phase[t] = begun;
             Moved {
-                outcome: Outcome::Stole(trace_number(policy, ordinal, step)),
-                workers: next,
+                outcome: Outcome::Stole(number),
+                steals: begun,
             }
         }
-        Pusher::Nothing => Moved {
+        Taken::Nothing => Moved {
             outcome: Outcome::Refused(12),
-            workers,
+            steals,
         },
     }
 }
@@ -336,18 +375,38 @@ pub fn steal_on(
 // An event of two bytes: equal, that worker runs its step; different, the first steals from the second.
 pub fn event_on(
     tree: &[u8],
+    ends: &[u16],
+    openers: &[u16],
     place: &mut [u8; 4095],
-    workers: Workers,
+    held: &mut [u16; 16],
+    phase: &mut [u16; 16],
+    low: &mut [u16; 16],
+    base: &mut [u16; 16],
+    steals: u16,
+    policy: u8,
     first: u8,
     second: u8,
 ) -> Moved
-    ensures tells { λ r. ⌜ r ≡ moved (eventAnswer (stateOf (now (place .entry)) workers) (now (tree .entry)) first second) ⌝ }
-    ensures leaves { λ r. ⌜ now (place .exit) ≡ eventAnswer (stateOf (now (place .entry)) workers) (now (tree .entry)) first second .state .place ⌝ }
+    requires { ⌜ Hints (now tree) (now ends) (now openers) (now place) (now held) (now low) ⌝ }
+    ensures { λ r. ⌜ answerOf (r .outcome) (stateOf (now (place .exit)) (now (held .exit)) (now (phase .exit)) (now (low .exit)) (now (base .exit)) (r .steals) policy) ≡ eventAnswer (stateOf (now (place .entry)) (now (held .entry)) (now (phase .entry)) (now (low .entry)) (now (base .entry)) steals policy) (now (tree .entry)) first second ⌝ }
 {
     if first == second {
-        return run_on(tree, place, workers, first);
+        let outcome = run_on(tree, ends, openers, place, held, phase, low, policy, first);
+        return Moved { outcome, steals };
     }
-    steal_on(tree, place, workers, first, second)
+    steal_on(
+        tree,
+        ends,
+        place,
+        held,
+        phase,
+        low,
+        base,
+        steals,
+        policy,
+        first,
+        second,
+    )
 }
 
 // The set of idle workers: worker w is bit w.
@@ -374,11 +433,22 @@ impl RunState {
         ensures { λ r. ⌜ r ≡ runAnswer self (now (tree .entry)) worker ⌝ }
     {
         let mut next = self;
-        let workers = next.workers;
-        let moved = run_on(tree, &mut next.place, workers, worker);
-        let after = moved.workers;
-        let outcome = moved.outcome;
-        next.workers = after;
+        let mut held = next.held;
+        let phase = next.phase;
+        let low = next.low;
+        let policy = next.policy;
+        let outcome = run_on(
+            tree,
+            &[],
+            &[],
+            &mut next.place,
+            &mut held,
+            &phase,
+            &low,
+            policy,
+            worker,
+        );
+        next.held = held;
         Answer {
             outcome,
             state: next,
@@ -390,11 +460,32 @@ impl RunState {
         ensures { λ r. ⌜ r ≡ stealAnswer self (now (tree .entry)) thief victim ⌝ }
     {
         let mut next = self;
-        let workers = next.workers;
-        let moved = steal_on(tree, &mut next.place, workers, thief, victim);
-        let after = moved.workers;
+        let mut held = next.held;
+        let mut phase = next.phase;
+        let mut low = next.low;
+        let mut base = next.base;
+        let steals = next.steals;
+        let policy = next.policy;
+        let moved = steal_on(
+            tree,
+            &[],
+            &mut next.place,
+            &mut held,
+            &mut phase,
+            &mut low,
+            &mut base,
+            steals,
+            policy,
+            thief,
+            victim,
+        );
         let outcome = moved.outcome;
-        next.workers = after;
+        let count = moved.steals;
+        next.held = held;
+        next.phase = phase;
+        next.low = low;
+        next.base = base;
+        next.steals = count;
         Answer {
             outcome,
             state: next,
@@ -405,23 +496,17 @@ impl RunState {
     pub fn event(self, tree: &[u8], first: u8, second: u8) -> Answer
         ensures { λ r. ⌜ r ≡ eventAnswer self (now (tree .entry)) first second ⌝ }
     {
-        let mut next = self;
-        let workers = next.workers;
-        let moved = event_on(tree, &mut next.place, workers, first, second);
-        let after = moved.workers;
-        let outcome = moved.outcome;
-        next.workers = after;
-        Answer {
-            outcome,
-            state: next,
+        if first == second {
+            return self.run(tree, first);
         }
+        self.steal(tree, first, second)
     }
 
     // The idle workers.
     pub fn idle(self) -> Idle
         ensures { λ r. ⌜ r ≡ idleAnswer self ⌝ }
     {
-        let held = self.workers.held;
+        let held = self.held;
         let set = idle_set(&held);
         Idle {
             set,

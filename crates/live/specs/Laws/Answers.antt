@@ -41,7 +41,7 @@ module _ (s : RunState) where
   unfolding runAnswer
   keeps-run tree w =
       let n = length (kinds tree) in
-      let i = getD (s .workers .held) w 0 in
+      let i = getD (s .held) w 0 in
       keeps-if (leb 16 w) (keeps-refused 8)
       (keeps-if (ltb 4095 n) (keeps-refused 2)
       (keeps-if (leb n i) (keeps-refused 9)
@@ -59,9 +59,9 @@ module _ (s : RunState) where
       let n = length (kinds tree) in
       keeps-if (leb 16 t || leb 16 v) (keeps-refused 8)
       (keeps-if (ltb 4095 n) (keeps-refused 2)
-      (keeps-if (ltb (getD (s .workers .held) t 0) n) (keeps-refused 11)
-      (keeps-found (oldestMark (s .place) v (getD (s .workers .low) v 0) n)
-      (λ q. numberBy (s .workers .policy) (takenOrdinal s (kinds tree) v q) (pushes (s .workers .policy) (kinds tree) q))
+      (keeps-if (ltb (getD (s .held) t 0) n) (keeps-refused 11)
+      (keeps-found (oldestMark (s .place) v (getD (s .low) v 0) n)
+      (λ q. numberBy (s .policy) (takenOrdinal s (kinds tree) v q) (pushes (s .policy) (kinds tree) q))
       (robbedState s (kinds tree) t v))))
 
 -- ---- a state that shows a run
@@ -93,7 +93,7 @@ module _ {p : ℕ} (tree : List ℕ) {s : RunState} {r : Run} (known : Known p (
     held-answer : (i : ℕ) → workerAt r w .hand .held ≡ some i
         → runAnswer s tree w
         ≡ cond (waits (kinds tree) (r .log) i) (refused 10 s)
-        (record { outcome = Ran (record { 0 = getD (s .workers .phase) w 0 }) (record { 0 = i }); state = ranState s (kinds tree) w i })
+        (record { outcome = Ran (record { 0 = getD (s .phase) w 0 }) (record { 0 = i }); state = ranState s (kinds tree) w i })
     unfolding runAnswer
     held-answer i e =
         let n = length (kinds tree) in
@@ -123,14 +123,14 @@ module _ {p : ℕ} (tree : List ℕ) {s : RunState} {r : Run} (known : Known p (
 
   -- A steal by t from v.
   module _ (t v : ℕ) (small : t < mostWorkers) (few : v < mostWorkers) (other : t ≡ v → ⊥) where
-    steal-answer : (found : Option ℕ) → oldestMark (s .place) v (getD (s .workers .low) v 0) (length (kinds tree)) ≡ found
+    steal-answer : (found : Option ℕ) → oldestMark (s .place) v (getD (s .low) v 0) (length (kinds tree)) ≡ found
         → stealAnswer s tree t v
-        ≡ cond (ltb (getD (s .workers .held) t 0) (length (kinds tree))) (refused 11 s)
+        ≡ cond (ltb (getD (s .held) t 0) (length (kinds tree))) (refused 11 s)
         (elim found [
           | none ↦ refused 12 s
           | some q ↦ record {
-            outcome = Stole (numberBy (s .workers .policy) (takenOrdinal s (kinds tree) v q)
-                (pushes (s .workers .policy) (kinds tree) q));
+            outcome = Stole (numberBy (s .policy) (takenOrdinal s (kinds tree) v q)
+                (pushes (s .policy) (kinds tree) q));
             state = robbedState s (kinds tree) t v q;
           }
         ])
@@ -149,7 +149,7 @@ module _ {p : ℕ} (tree : List ℕ) {s : RunState} {r : Run} (known : Known p (
         let held = held-some known t j small e in
         rw (steal-answer _ refl, held .0, lt-ltb j (length (kinds tree)) (held .1), e, holdsStep) (refuses (omega arith) refl)
 
-    not-busy : workerAt r t .hand .held ≡ none → ltb (getD (s .workers .held) t 0) (length (kinds tree)) ≡ false
+    not-busy : workerAt r t .hand .held ≡ none → ltb (getD (s .held) t 0) (length (kinds tree)) ≡ false
     not-busy e = rw (held-none known t small e) (le-ltb 65535 (length (kinds tree)) (omega (arith, known .most)))
 
     steal-taken : workerAt r t .hand .held ≡ none → (length (workerAt r v .hand .deque) ≡ 0 → ⊥) → (q : ℕ)

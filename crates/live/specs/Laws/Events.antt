@@ -154,26 +154,26 @@ module _ (p : ℕ) (tree : List ℕ) (frame : Frame tree) (s : RunState) (r : Ru
   -- ---- the idle workers
 
   idle-by : (u : ℕ) → u < mostWorkers → (o : Option ℕ) → workerAt r u .hand .held ≡ o
-      → isIdle (getD (s .workers .held) u 0) ≡ not (holdsStep (workerAt r u))
+      → isIdle (getD (s .held) u 0) ≡ not (holdsStep (workerAt r u))
   unfolding isIdle holdsStep
   idle-by u few none e = rw (held-none known u few e, e, holdsStep) (le-leb 4095 65535 (omega arith))
   idle-by u few (some i) e =
       let held = held-some known u i few e in
       rw (held .0, e, holdsStep) (lt-leb 4095 i (omega (arith, frame .most)))
 
-  workers-alike : Alike (s .workers .held) 0 (r .workers)
+  workers-alike : Alike (s .held) 0 (r .workers)
   unfolding workerAt
   workers-alike =
-      alike (r .workers) (s .workers .held) 0
+      alike (r .workers) (s .held) 0
       (λ u l.
       let here : 0 + u ≡ u = omega arith in
       rw here (idle-by u (omega (arith, shows .workers)) (workerAt r u .hand .held) refl))
 
-  pub idle-set-shown : idleBits (s .workers .held) 0 mostWorkers ≡ idleSet (r .workers)
-  idle-set-shown = rw (shows .workers) at (alike-set (r .workers) (s .workers .held) 0 workers-alike)
+  pub idle-set-shown : idleBits (s .held) 0 mostWorkers ≡ idleSet (r .workers)
+  idle-set-shown = rw (shows .workers) at (alike-set (r .workers) (s .held) 0 workers-alike)
 
-  pub idle-count-shown : idleNumber (s .workers .held) 0 mostWorkers ≡ idleCount (r .workers)
-  idle-count-shown = rw (shows .workers) at (alike-count (r .workers) (s .workers .held) 0 workers-alike)
+  pub idle-count-shown : idleNumber (s .held) 0 mostWorkers ≡ idleCount (r .workers)
+  idle-count-shown = rw (shows .workers) at (alike-count (r .workers) (s .held) 0 workers-alike)
 
-  pub idle-lowest-shown : idleFirst (s .workers .held) 0 mostWorkers ≡ idleLowest 0 (r .workers)
-  idle-lowest-shown = rw (shows .workers) at (alike-lowest (r .workers) (s .workers .held) 0 workers-alike)
+  pub idle-lowest-shown : idleFirst (s .held) 0 mostWorkers ≡ idleLowest 0 (r .workers)
+  idle-lowest-shown = rw (shows .workers) at (alike-lowest (r .workers) (s .held) 0 workers-alike)

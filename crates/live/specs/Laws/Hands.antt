@@ -2,10 +2,10 @@
 -- and that they leave every other.
 use Prim.Native.Nat.{ℕ, suc, _+_, _%_, _≤_, _<_}
 use mathlib.Core.Path.{_≡_, refl, sym, ap, _∙_}
-use mathlib.Core.Bool.{Bool, true, false, cond, _||_, or-assoc, or-true, or-false}
+use mathlib.Core.Bool.{Bool, true, true≢false, false, cond, _||_, or-assoc, or-true, or-false}
 use mathlib.Core.List.{List, [], _∷_, map, dropLast, head?, cons-ne-nil}
 use mathlib.Core.Option.{Option, none, some, Option·none-ne-some}
-use native.Mathlib.Decide.{ℕ-discrete}
+use native.Mathlib.Decide.{ℕ-discrete, decLt}
 use native.Mathlib.Omega.{arith}
 use lib.ListN.{length, getD, set, length-set}
 use lib.Seq.{lt-length-set, getD-set-same, getD-set-other}
@@ -78,6 +78,25 @@ module _ (ks : List ℕ) (sh : Shape (length ks) (endAt ks) (sizeAt ks)) (low : 
   line-inner [] x y l a b = (omega arith, omega (arith, end-within ks sh x (l .1)))
   line-inner (q ∷ qs) x y l a b =
       (l .0, omega arith, omega (arith, nested-end ks sh q x (line-step qs q (l .3)) (omega arith) (l .2)), l .3)
+
+  -- A pusher stands before the held step.
+  before : (qs : List ℕ) (x : ℕ) → Line ks low x qs → (j : ℕ) → any (eqb j) qs ≡ true → j < x
+  before qs x l j m =
+      elim (decLt j x) [ yes h ↦ h | no n ↦ absurd (true≢false (sym m ∙ line-past ks low qs x l j (omega arith))) ]
+
+  -- Every pusher's task ends past the held step.
+  pub line-nested : (qs : List ℕ) (x : ℕ) → Line ks low x qs → (j : ℕ) → any (eqb j) qs ≡ true → x < taskEnd ks j
+  unfolding any
+  line-nested [] x l j m = absurd (true≢false (sym m))
+  line-nested (q ∷ qs) x l j m =
+      elim (ℕ-discrete j q) [
+        | yes e ↦ rw e (l .2)
+        | no n ↦
+            let among : any (eqb j) qs ≡ true = rw (ne-eqb j q n) at m in
+            let past = line-nested qs q (l .3) j among in
+            let first = before qs q (l .3) j among in
+            omega (arith, nested-end ks sh j q (omega (arith, line-step qs q (l .3))) (omega arith) past, l .2)
+      ]
 
   -- Without the oldest, `low` may go past it.
   line-rest : (q : ℕ) (qs : List ℕ) (x : ℕ) → Line ks low x (q ∷ qs)

@@ -20,7 +20,7 @@ use Rattle.runs.specs.Laws.Waiting.{run-more}
 use Rattle.runs.specs.Laws.Consequences.{steals-most, phases-count, pending-unrun}
 use Rattle.moves.specs.Answers.{marked, newestMark, oldestMark, popped, robbed}
 use Rattle.state.specs.declared.RunState.{RunState}
-use Rattle.state.specs.Answers.{heldNext, ranState, nextPhase, takenOrdinal, robbedState}
+use Rattle.state.specs.Answers.{stateOf, heldNext, placeNext, ranState, nextPhase, takenOrdinal, robbedState}
 use Rattle.live.specs.Tie.{HandShown, Shows}
 use Rattle.live.specs.Laws.Hands.{opened-shown, ended-nothing, ended-newest, ended-idle-shown, ended-shown, oldest-none, oldest-pusher, oldest-ordinal, robbed-shown, idle-none, thief-shown, other-shown, push-other, pop-other, rob-other, push-unrun, push-run, pop-unrun, pop-run, rob-unrun, popped-length, robbed-length}
 use Rattle.live.specs.Laws.Tables.{Table, Spared, tables-of, shows-by, table-set}
@@ -42,7 +42,7 @@ pub record Known (p : ℕ) (ks : List ℕ) (s : RunState) (r : Run) : Type 0 whe
 
 -- A steal by t from v: step q pushed what is stolen, and the next state shows the next run.
 pub record Stolen (p : ℕ) (ks : List ℕ) (s : RunState) (r : Run) (t v q : ℕ) : Type 0 where
-  pub found : oldestMark (s .place) v (getD (s .workers .low) v 0) (length ks) ≡ some q
+  pub found : oldestMark (s .place) v (getD (s .low) v 0) (length ks) ≡ some q
   pub taken : oldest (workerAt r v .hand .deque) ≡ pushes p ks q
   pub numbered : p ≡ workFirst → takenOrdinal s ks v q ≡ ordinal ks (pushes p ks q)
   pub next : Shows p ks (robbedState s ks t v q) (steal r t v)
@@ -52,7 +52,7 @@ module _ {p : ℕ} {ks : List ℕ} {s : RunState} {r : Run} (known : Known p ks 
 
   -- ---- what a worker holds
 
-  pub held-none : (w : ℕ) → w < mostWorkers → workerAt r w .hand .held ≡ none → getD (s .workers .held) w 0 ≡ 65535
+  pub held-none : (w : ℕ) → w < mostWorkers → workerAt r w .hand .held ≡ none → getD (s .held) w 0 ≡ 65535
   held-none w few e = rw e at (shows .hands w few .holding) .0
 
   module _ (w i : ℕ) (few : w < mostWorkers) (holding : workerAt r w .hand .held ≡ some i) where
@@ -73,7 +73,7 @@ module _ {p : ℕ} {ks : List ℕ} {s : RunState} {r : Run} (known : Known p ks 
     within : i < length ks
     within = held-within p ks sh i (workerAt r w .hand .deque) chained
 
-    pub held-some : (getD (s .workers .held) w 0 ≡ i) × (i < length ks)
+    pub held-some : (getD (s .held) w 0 ≡ i) × (i < length ks)
     held-some = (rw holding at (shows .hands w few .holding) .0, within)
 
     unrun : getD (s .place) i 0 ≡ 17
@@ -88,7 +88,7 @@ module _ {p : ℕ} {ks : List ℕ} {s : RunState} {r : Run} (known : Known p ks 
     -- The two ways to store.
     pushed : Stored ks (s .place) (set (s .place) i w) w i
     pushed =
-        let low = getD (s .workers .low) w 0 in
+        let low = getD (s .low) w 0 in
         record {
           places = length-set (s .place) i w ∙ shows .places;
           spared = λ u. push-other p ks sh most (s .place) (shows .places) w low few i u within unrun;
@@ -96,9 +96,9 @@ module _ {p : ℕ} {ks : List ℕ} {s : RunState} {r : Run} (known : Known p ks 
           rest = push-unrun p ks sh most (s .place) (shows .places) w low few i within;
         }
 
-    emptied : Stored ks (s .place) (popped (s .place) w (getD (s .workers .low) w 0) i) w i
+    emptied : Stored ks (s .place) (popped (s .place) w (getD (s .low) w 0) i) w i
     emptied =
-        let low = getD (s .workers .low) w 0 in
+        let low = getD (s .low) w 0 in
         record {
           places = popped-length p ks sh most _ (shows .places) w low few i;
           spared = λ u. pop-other p ks sh most _ (shows .places) w low few i u within unrun;
@@ -110,26 +110,15 @@ module _ {p : ℕ} {ks : List ℕ} {s : RunState} {r : Run} (known : Known p ks 
     next = record { hand = afterRun (λ x. false) p ks i (workerAt r w .hand .deque); phase = workerAt r w .phase }
 
     stored-shows : (after : List ℕ) (h : ℕ) → Stored ks (s .place) after w i
-        → HandShown p ks after w h (getD (s .workers .low) w 0) (getD (s .workers .base) w 0)
-        (getD (s .workers .phase) w 0) next
-        → Shows p ks
-        (record {
-          place = after;
-          workers = record {
-            held = set (s .workers .held) w h;
-            phase = s .workers .phase;
-            low = s .workers .low;
-            base = s .workers .base;
-            steals = s .workers .steals;
-            policy = s .workers .policy;
-          };
-        })
+        → HandShown p ks after w h (getD (s .low) w 0) (getD (s .base) w 0)
+        (getD (s .phase) w 0) next
+        → Shows p ks (stateOf after (set (s .held) w h) (s .phase) (s .low) (s .base) (s .steals) (s .policy))
         (runStep p ks r w)
     unfolding runStep next marked
     stored-shows after h stored shown =
-        let table = rw (set-getD (s .workers .low) w 0, set-getD (s .workers .base) w 0, set-getD (s .workers .phase) w 0) at
-        (table-set p ks sh most _ _ _ _ _ _ (tables-of p ks s r shows) after w h (getD (s .workers .low) w 0)
-        (getD (s .workers .base) w 0) (getD (s .workers .phase) w 0) next (stored .places) few shown (stored .spared)) in
+        let table = rw (set-getD (s .low) w 0, set-getD (s .base) w 0, set-getD (s .phase) w 0) at
+        (table-set p ks sh most _ _ _ _ _ _ (tables-of p ks s r shows) after w h (getD (s .low) w 0)
+        (getD (s .base) w 0) (getD (s .phase) w 0) next (stored .places) few shown (stored .spared)) in
         rw (holding, runStep)
         (shows-by p ks _ _ table (shows .policy)
         (λ j l. rw run-more (elim (ℕ-discrete j i) [
@@ -139,22 +128,22 @@ module _ {p : ℕ} {ks : List ℕ} {s : RunState} {r : Run} (known : Known p ks 
         (shows .steals))
 
     -- What it holds next, and its hand then.
-    next-opened : isEnd (kindAt ks i) ≡ false → heldNext s ks w i ≡ holds p ks i
+    next-opened : isEnd (kindAt ks i) ≡ false → heldNext (s .policy) ks (s .place) w (getD (s .low) w 0) i ≡ holds p ks i
     unfolding heldNext
     next-opened e = rw (e, shows .policy) refl
 
-    next-idle : isEnd (kindAt ks i) ≡ true → newestMark (s .place) w (getD (s .workers .low) w 0) i ≡ none → heldNext s ks w i ≡ 65535
+    next-idle : isEnd (kindAt ks i) ≡ true → newestMark (s .place) w (getD (s .low) w 0) i ≡ none → heldNext (s .policy) ks (s .place) w (getD (s .low) w 0) i ≡ 65535
     unfolding heldNext
     next-idle e found = rw (e, found) refl
 
-    next-newest : isEnd (kindAt ks i) ≡ true → (q : ℕ) → newestMark (s .place) w (getD (s .workers .low) w 0) i ≡ some q
-        → heldNext s ks w i ≡ pushes p ks q
+    next-newest : isEnd (kindAt ks i) ≡ true → (q : ℕ) → newestMark (s .place) w (getD (s .low) w 0) i ≡ some q
+        → heldNext (s .policy) ks (s .place) w (getD (s .low) w 0) i ≡ pushes p ks q
     unfolding heldNext
     next-newest e q found = rw (e, found, shows .policy) refl
 
     hand-after : isEnd (kindAt ks i) ≡ true → (deque : List ℕ) → workerAt r w .hand .deque ≡ deque
-        → HandShown p ks (popped (s .place) w (getD (s .workers .low) w 0) i) w (heldNext s ks w i) (getD (s .workers .low) w 0)
-        (getD (s .workers .base) w 0) (getD (s .workers .phase) w 0) next
+        → HandShown p ks (popped (s .place) w (getD (s .low) w 0) i) w (heldNext (s .policy) ks (s .place) w (getD (s .low) w 0) i) (getD (s .low) w 0)
+        (getD (s .base) w 0) (getD (s .phase) w 0) next
     unfolding next
     hand-after e [] d =
         let hand = shows .hands w few in
@@ -167,10 +156,10 @@ module _ {p : ℕ} {ks : List ℕ} {s : RunState} {r : Run} (known : Known p ks 
         (ended-shown p ks sh most _ (shows .places) w _ _ _ _ _ few hand i holding unrun e (found .0) (found .1))
 
     shows-next : (b : Bool) → isEnd (kindAt ks i) ≡ b → Shows p ks (ranState s ks w i) (runStep p ks r w)
-    unfolding ranState next
+    unfolding ranState placeNext next
     shows-next true e =
         rw e
-        (stored-shows (popped (s .place) w (getD (s .workers .low) w 0) i) (heldNext s ks w i) emptied
+        (stored-shows (popped (s .place) w (getD (s .low) w 0) i) (heldNext (s .policy) ks (s .place) w (getD (s .low) w 0) i) emptied
         (hand-after e (workerAt r w .hand .deque) refl))
     shows-next false e =
         rw (e, next-opened e)
@@ -184,10 +173,10 @@ module _ {p : ℕ} {ks : List ℕ} {s : RunState} {r : Run} (known : Known p ks 
 
   -- From an empty deque there is nothing to steal.
   pub nothing-found : (v : ℕ) → v < mostWorkers → workerAt r v .hand .deque ≡ []
-      → oldestMark (s .place) v (getD (s .workers .low) v 0) (length ks) ≡ none
+      → oldestMark (s .place) v (getD (s .low) v 0) (length ks) ≡ none
   nothing-found v few d = by (workerAt r v .hand .held) refl
     where
-      by : (o : Option ℕ) → workerAt r v .hand .held ≡ o → oldestMark (s .place) v (getD (s .workers .low) v 0) (length ks) ≡ none
+      by : (o : Option ℕ) → workerAt r v .hand .held ≡ o → oldestMark (s .place) v (getD (s .low) v 0) (length ks) ≡ none
       by none e = idle-none p ks sh most _ (shows .places) v _ _ _ _ _ (shows .hands v few) e
       by (some i) e = oldest-none p ks sh most _ (shows .places) v _ _ _ _ _ few (shows .hands v few) i e (unrun v i few e) d
 
@@ -212,19 +201,19 @@ module _ {p : ℕ} {ks : List ℕ} {s : RunState} {r : Run} (known : Known p ks 
     thief = record { hand = record { held = some step; deque = [] }; phase = length (r .phases) }
 
     after : List ℕ
-    after = robbed (s .place) v (getD (s .workers .low) v 0) (length ks)
+    after = robbed (s .place) v (getD (s .low) v 0) (length ks)
 
     places : length after ≡ 4095
     unfolding after
-    places = robbed-length p ks sh most _ (shows .places) v (getD (s .workers .low) v 0) few
+    places = robbed-length p ks sh most _ (shows .places) v (getD (s .low) v 0) few
 
     spared : Spared ks (s .place) after v
     unfolding after
-    spared = rob-other p ks sh most _ (shows .places) v (getD (s .workers .low) v 0) few
+    spared = rob-other p ks sh most _ (shows .places) v (getD (s .low) v 0) few
 
     -- The victim holds step i, and step q pushed what is stolen.
     module _ (i : ℕ) (holding : workerAt r v .hand .held ≡ some i) (q : ℕ)
-        (found : oldestMark (s .place) v (getD (s .workers .low) v 0) (length ks) ≡ some q)
+        (found : oldestMark (s .place) v (getD (s .low) v 0) (length ks) ≡ some q)
         (pushed-by : step ≡ pushes p ks q) where
       taken-ordinal : p ≡ workFirst → takenOrdinal s ks v q ≡ ordinal ks (pushes p ks q)
       unfolding takenOrdinal
@@ -233,13 +222,13 @@ module _ {p : ℕ} {ks : List ℕ} {s : RunState} {r : Run} (known : Known p ks 
           (oldest-ordinal p ks sh most _ (shows .places) v _ _ _ _ _ few (shows .hands v few) i holding (unrun v i few holding)
           first q found)
 
-      victim-table : Table p ks after (s .workers .held) (set (s .workers .low) v (suc q)) (set (s .workers .base) v 0)
-          (s .workers .phase) (set (r .workers) v victim)
+      victim-table : Table p ks after (s .held) (set (s .low) v (suc q)) (set (s .base) v 0)
+          (s .phase) (set (r .workers) v victim)
       unfolding victim after
       victim-table =
-          rw (set-getD (s .workers .held) v 0, set-getD (s .workers .phase) v 0) at
-          (table-set p ks sh most _ _ _ _ _ _ (tables-of p ks s r shows) after v (getD (s .workers .held) v 0) (suc q) 0
-          (getD (s .workers .phase) v 0) victim places few
+          rw (set-getD (s .held) v 0, set-getD (s .phase) v 0) at
+          (table-set p ks sh most _ _ _ _ _ _ (tables-of p ks s r shows) after v (getD (s .held) v 0) (suc q) 0
+          (getD (s .phase) v 0) victim places few
           (robbed-shown p ks sh most _ (shows .places) v _ _ _ _ _ few (shows .hands v few) i holding (unrun v i few holding)
           q found)
           spared)
@@ -253,8 +242,8 @@ module _ {p : ℕ} {ks : List ℕ} {s : RunState} {r : Run} (known : Known p ks 
           (oldest-within p ks sh i (workerAt r v .hand .deque) full (chained v i few holding))
           (λ first. taken-ordinal first ∙ ap (ordinal ks) (sym pushed-by))
 
-      both-table : Table p ks after (set (s .workers .held) t step) (set (set (s .workers .low) v (suc q)) t step)
-          (set (set (s .workers .base) v 0) t (takenOrdinal s ks v q)) (set (s .workers .phase) t (length (r .phases)))
+      both-table : Table p ks after (set (s .held) t step) (set (set (s .low) v (suc q)) t step)
+          (set (set (s .base) v 0) t (takenOrdinal s ks v q)) (set (s .phase) t (length (r .phases)))
           (set (set (r .workers) v victim) t thief)
       both-table =
           table-set p ks sh most _ _ _ _ _ _ victim-table after t step step (takenOrdinal s ks v q) (length (r .phases))
@@ -263,11 +252,11 @@ module _ {p : ℕ} {ks : List ℕ} {s : RunState} {r : Run} (known : Known p ks 
       shows-stolen : Shows p ks (robbedState s ks t v q) (steal r t v)
       unfolding robbedState steal victim thief step after marked
       shows-stolen =
-          let taken : pushes (s .workers .policy) ks q ≡ step = ap (λ (x : ℕ). pushes x ks q) (shows .policy) ∙ sym pushed-by in
+          let taken : pushes (s .policy) ks q ≡ step = ap (λ (x : ℕ). pushes x ks q) (shows .policy) ∙ sym pushed-by in
           let stolen : Steal = record { thief = t; victim = v; step = step } in
           rw (taken, thief-phase)
           (shows-by p ks _ _ both-table (shows .policy)
-          (λ j l. rob-unrun p ks sh most _ (shows .places) v (getD (s .workers .low) v 0) few j l ∙ shows .unrun j l)
+          (λ j l. rob-unrun p ks sh most _ (shows .places) v (getD (s .low) v 0) few j l ∙ shows .unrun j l)
           (omega (arith, phases-count p ks some-step sh r inv, length-append (r .steals) (stolen ∷ []))))
 
     -- A worker with steps in its deque holds one.

@@ -30,7 +30,7 @@ pub record Table (p : ℕ) (ks place helds lows bases phases : List ℕ) (worker
 -- What a state shows of a run is the tables and three facts more.
 module _ (p : ℕ) (ks : List ℕ) (s : RunState) (r : Run) where
   abbrev pub Tables : Type 0
-  Tables = Table p ks (s .place) (s .workers .held) (s .workers .low) (s .workers .base) (s .workers .phase) (r .workers)
+  Tables = Table p ks (s .place) (s .held) (s .low) (s .base) (s .phase) (r .workers)
 
   pub tables-of : Shows p ks s r → Tables
   unfolding workerAt
@@ -41,8 +41,8 @@ module _ (p : ℕ) (ks : List ℕ) (s : RunState) (r : Run) where
         hands = shows .hands;
       }
 
-  pub shows-by : Tables → s .workers .policy ≡ p → ((j : ℕ) → j < length ks → eqb (getD (s .place) j 0) 17 ≡ not (hasRun (r .log) j))
-      → s .workers .steals ≡ length (r .steals) → Shows p ks s r
+  pub shows-by : Tables → s .policy ≡ p → ((j : ℕ) → j < length ks → eqb (getD (s .place) j 0) 17 ≡ not (hasRun (r .log) j))
+      → s .steals ≡ length (r .steals) → Shows p ks s r
   unfolding workerAt
   shows-by table policy unrun steals =
       record {

@@ -18,7 +18,7 @@ element-write-place c = search needs
 
 element-write-place-2 : tie.Need-element-write-place-2
 element-write-place-2 c =
-    let a = c .before .before .before .before .before .args in
+    let a = c .before .before .before .before .before .before .args in
     omega (arith, newest-before (a .place .now) (a .worker) (a .step .0) (a .low) (c .before .q .given .0 .0 .0) (pusher-at (newestMark (a .place .now) (a .worker) (a .low) (a .step .0)) (c .before .q .given .0 .0) (sym (c .before .before .before .newest .ensures) ∙ c .before .q .given .1)))
 
 enum-told : tie.Need-enum-told
@@ -29,14 +29,14 @@ element-write-place-3 c = search needs
 
 returns : tie.Need-returns
 returns c =
-    let a = c .before .before .before .before .before .args in (
+    let a = c .before .before .before .before .before .before .args in (
       sym (c .before .q .given .1) ∙ c .before .before .before .newest .ensures,
       popped-at (a .place .now) (a .worker) (a .low) (a .step .0) (c .before .q .given .0 .0 .0) (pusher-at (newestMark (a .place .now) (a .worker) (a .low) (a .step .0)) (c .before .q .given .0 .0) (sym (c .before .before .before .newest .ensures) ∙ c .before .q .given .1)),
     )
 
 returns-2 : tie.Need-returns-2
 returns-2 c =
-    let a = c .before .before .before .before .args in (
+    let a = c .before .before .before .before .before .args in (
       sym (c .enum-told .given .1) ∙ c .before .before .newest .ensures,
       popped-nothing (a .place .now) (a .worker) (a .low) (a .step .0) (pusher-nothing (newestMark (a .place .now) (a .worker) (a .low) (a .step .0)) (sym (c .before .before .newest .ensures) ∙ c .enum-told .given .1)),
     )

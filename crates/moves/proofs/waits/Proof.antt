@@ -7,8 +7,8 @@ use borrow.Author.Needs.{needs}
 use Rattle.moves.proofs.waits.Statement.{statement}
 use Rattle.moves.proofs.waits.Tie as tie
 
-finish-before-requires : tie.Need-finish-before-requires
-finish-before-requires c κs = search needs
+finish-by-requires : tie.Need-finish-by-requires
+finish-by-requires c κs = search needs
 
 enum-known-first : tie.Need-enum-known-first
 enum-known-first c = search needs
@@ -21,16 +21,16 @@ enum-told c = search needs
 
 returns : tie.Need-returns
 returns c =
-    let a = c .before .before .before .before .before .before .args in
+    let a = c .before .before .before .before .before .before .before .args in
     ap (λ (x : Bool). not x) (c .all-run .ensures)
-    ∙ waits-found (kinds (a .tree .now)) (a .place .now) (a .step .0) (c .before .before .first .given .0 .0) (sym (c .before .before .before .before .finish-before .ensures) ∙ c .before .before .first .given .1)
+    ∙ waits-found (kinds (a .tree .now)) (a .place .now) (a .step .0) (c .before .before .first .given .0 .0) (sym (c .before .before .before .before .finish-by .ensures) ∙ c .before .before .first .given .1)
 
 returns-2 : tie.Need-returns-2
 returns-2 c =
-    let a = c .before .before .before .before .args in
-    waits-nothing (kinds (a .tree .now)) (a .place .now) (a .step .0) (sym (c .before .before .finish-before .ensures) ∙ c .enum-told .given .1)
+    let a = c .before .before .before .before .before .args in
+    waits-nothing (kinds (a .tree .now)) (a .place .now) (a .step .0) (sym (c .before .before .finish-by .ensures) ∙ c .enum-told .given .1)
 
 pub waits-spec : {M : Type 1} → statement M
 waits-spec =
     tie.close
-    (tie.spec finish-before-requires enum-known-first all-run-requires enum-told returns returns-2)
+    (tie.spec finish-by-requires enum-known-first all-run-requires enum-told returns returns-2)

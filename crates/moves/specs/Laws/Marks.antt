@@ -2,20 +2,21 @@
 use Prim.Native.Nat.{ℕ, zero, suc, _+_, _-_, _≤_, _<_}
 use mathlib.Core.Path.{_≡_, refl, sym, ap, _∙_}
 use mathlib.Core.Bool.{Bool, true, false, cond, _&&_, not}
-use mathlib.Core.List.{List, [], _∷_, _++_, reverse, reverse-append}
+use mathlib.Core.List.{List, [], _∷_, reverse, reverse-append}
 use mathlib.Core.Option.{Option, none, some}
 use native.Mathlib.Decide.{decLe, decLt}
 use native.Mathlib.Nat.{lt-of-not-le}
 use native.Mathlib.Omega.{arith}
 use native.Mathlib.Numerals.{add-one}
-use lib.ListN.{getD, set}
+use lib.ListN.{length, getD, set}
 use lib.Dec.{eqb}
 use borrow.Author.Tests.{eq-eqb, ne-eqb}
 use Rattle.rules.specs.Bytes.{count, all}
+use Rattle.tree.specs.Laws.Counts.{count-snoc}
 use Rattle.tree.specs.declared.Step.{Step}
 use Rattle.moves.specs.declared.Pusher.{Pusher}
 use Rattle.moves.specs.declared.Pusher.the-variants.{At, Nothing}
-use Rattle.moves.specs.Answers.{find, marked, newestMark, oldestMark, pusherOf, allRun, popped, robbed}
+use Rattle.moves.specs.Answers.{Climbs, find, marked, newestMark, oldestMark, pusherOf, allRun, popped, robbed}
 
 -- ---- intervals
 
@@ -25,15 +26,6 @@ unfolding count
 count-low low end h =
     let e : end - low ≡ suc (end - suc low) = omega arith in
     rw e refl
-
-count-snoc : (m low : ℕ) → count low (suc m) ≡ count low m ++ ((low + m) ∷ [])
-unfolding count
-count-snoc zero low =
-    let e : low ≡ low + 0 = omega arith in
-    rw (← e) refl
-count-snoc (suc m) low =
-    let e : suc low + m ≡ low + suc m = omega arith in
-    ap (λ (x : List ℕ). low ∷ x) (rw (← e) (count-snoc m (suc low)))
 
 count-high : (low j : ℕ) → low ≤ j → reverse (count low (suc j - low)) ≡ j ∷ reverse (count low (j - low))
 count-high low j h =
@@ -102,6 +94,68 @@ module _ (place : List ℕ) (w low end j : ℕ) where
   pub oldest-end : end ≤ j → oldestMark place w j end ≡ oldestMark place w low end → Nothing ≡ pusherOf (oldestMark place w low end)
   unfolding pusherOf
   oldest-end h same = rw (← same, oldest-done place w j end h) refl
+
+-- ---- from opener to opener
+
+module _ (place : List ℕ) (w low q : ℕ) where
+  -- Where no step between q and j is marked, what is found before j is found up to q.
+  newest-skip : (m : ℕ) → ((k : ℕ) → low ≤ k → q < k → k < suc q + m → marked place w k ≡ false)
+      → newestMark place w low (suc q + m) ≡ newestMark place w low (suc q)
+  newest-skip zero clear =
+      let e : suc q + 0 ≡ suc q = omega arith in
+      rw e refl
+  newest-skip (suc m) clear =
+      let e : suc q + suc m ≡ suc (suc q + m) = omega arith in
+      let rest = newest-skip m (λ k l h b. clear k l h (omega arith)) in
+      elim (decLe low (suc q + m)) [
+        | yes l ↦ rw e (newest-turn place w low (suc q + m) l ∙ (rw (clear (suc q + m) l (omega arith) (omega arith)) rest))
+        | no n ↦ rw e
+            (newest-done place w low (suc (suc q + m)) (lt-of-not-le n) ∙ sym (newest-done place w low (suc q) (omega arith)))
+      ]
+
+module _ (openers place : List ℕ) (w low end : ℕ) (climbs : Climbs openers place w low end) (j : ℕ) (h : low < j) (b : j ≤ end)
+    (in-table : end < length openers) where
+  -- The opener of a step on the way stands before it, and no step between them is marked: its task would have ended.
+  climb-before : getD openers j 0 < j
+  climb-before = climbs .table j (omega arith) (omega arith) .before
+
+  clear : (k : ℕ) → low ≤ k → getD openers j 0 < k → k < j → marked place w k ≡ false
+  clear k l q m = by (marked place w k) refl
+    where
+      by : (x : Bool) → marked place w k ≡ x → marked place w k ≡ false
+      by true e =
+          let past = climbs .nested k l (omega arith) e in
+          let ended = climbs .table j (omega arith) (omega arith) .nearest k q m in
+          absurd (omega arith)
+      by false e = e
+
+  climb-turn : newestMark place w low j ≡ newestMark place w low end
+      → newestMark place w low (suc (getD openers j 0)) ≡ newestMark place w low end
+  climb-turn same =
+      let q = getD openers j 0 in
+      let e : suc q + (j - suc q) ≡ j = omega (arith, climb-before) in
+      sym (rw e at (newest-skip place w low q (j - suc q) (λ k l m n. clear k l m (omega (arith, climb-before))))) ∙ same
+
+  -- In the terms of the loop: the step that it goes on to is below `low`, is marked, or is not.
+  module _ (same : newestMark place w low j ≡ newestMark place w low end) (q : ℕ) (e : q ≡ getD openers j 0) where
+    turned-to : newestMark place w low (suc q) ≡ newestMark place w low end
+    turned-to = rw e (climb-turn same)
+
+    pub climb-less : q < j
+    climb-less = rw e climb-before
+
+    pub climb-below : q < low → Nothing ≡ pusherOf (newestMark place w low end)
+    climb-below l = newest-end place w low end (suc q) l turned-to
+
+    pub climb-hit : low ≤ q → getD place q 0 ≡ w → At (record { 0 = q }) ≡ pusherOf (newestMark place w low end)
+    climb-hit l m =
+        let back : suc q - 1 ≡ q = omega arith in
+        rw back at (newest-hit place w low end (suc q) (omega arith) turned-to (rw back m))
+
+    pub climb-miss : low ≤ q → (getD place q 0 ≡ w → ⊥) → newestMark place w low q ≡ newestMark place w low end
+    climb-miss l m =
+        let back : suc q - 1 ≡ q = omega arith in
+        rw back at (newest-miss place w low end (suc q) (omega arith) turned-to (rw back m))
 
 pub run-turn : (place : List ℕ) (j end : ℕ) → j < end
     → allRun place j end ≡ not (eqb (getD place j 0) 17) && allRun place (suc j) end

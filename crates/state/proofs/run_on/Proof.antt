@@ -1,27 +1,56 @@
 -- `state::run_on` meets its contract: each return is a law of its answers. Assumes nothing.
-use mathlib.Core.Path.{refl, sym, _∙_}
+use Prim.Native.Nat.{ℕ, _≤_, _<_}
+use mathlib.Core.Path.{_≡_}
+use mathlib.Core.Bool.{true, false}
+use mathlib.Core.List.{List}
 use native.Mathlib.Omega.{arith}
+use lib.ListN.{length}
 use Rattle.rules.specs.Tree.{kinds}
-use Rattle.moves.specs.Answers.{newestMark}
-use Rattle.moves.specs.Laws.Marks.{pusher-at, pusher-nothing, newest-before}
+use Rattle.moves.specs.Answers.{waitsFor}
+use Rattle.state.specs.declared.RunState.{RunState}
 use Rattle.state.specs.Answers.{stateOf}
-use Rattle.state.specs.Laws.Cases.{both, holds-most, pushes-most, run-worker, run-long, run-idle, run-waits, run-opens, run-pops, run-ends}
+use Rattle.state.specs.Laws.Cases.{lent-climbs, run-worker, run-long, run-idle, run-waits, run-runs}
 use borrow.Author.Needs.{needs}
 use Rattle.state.proofs.run_on.Statement.{statement}
 use Rattle.state.proofs.run_on.Tie as tie
 
+-- The state whose arrays are lent.
+abbrev lent : tie.Start → List ℕ → ℕ → RunState
+lent c base steals =
+    let a = c .args in
+    stateOf (a .place .now) (a .held .now) (a .phase .now) (a .low .now) base steals (a .policy)
+
+-- The worker is one of the 16,
+few : (c : tie.Else1) → c .before .before .before .before .args .worker < 16
+few c = omega arith
+
+-- the tree has no more steps than a tree may have,
+most : (c : tie.Else2) → length (kinds (c .before .before .before .before .before .before .args .tree .now)) ≤ 4095
+most c = omega (arith, c .before .steps .ensures)
+
+-- and it has the step that the worker holds.
+within : (c : tie.Else3) → c .before .wide .result < length (kinds (c .before .before .before .before .before .before .before .before .before .args .tree .now))
+within c = omega (arith, c .before .before .before .before .steps .ensures)
+
+-- The step waits, or not.
+waits : (c : tie.Then4) → waitsFor (kinds (c .before .before .before .before .before .before .before .before .before .before .before .before .args .tree .now)) (c .before .before .before .before .before .before .before .before .before .before .before .before .args .place .now) (c .before .before .before .before .wide .result) ≡ true
+waits c = rw (← c .before .waits .ensures) (c .if4 .taken)
+
+goes : (c : tie.Else4) → waitsFor (kinds (c .before .before .before .before .before .before .before .before .before .before .before .before .args .tree .now)) (c .before .before .before .before .before .before .before .before .before .before .before .before .args .place .now) (c .before .before .before .before .wide .result) ≡ false
+goes c = rw (← c .before .waits .ensures) (c .if4 .left)
+
 returns : tie.Need-returns
 returns c =
-    let a = c .before .before .args in
-    both (run-worker (stateOf (a .place .now) (a .t3)) (a .tree .now) (a .worker) (omega arith))
+    let a = c .before .before .before .before .args in
+    λ base steals. run-worker (lent (c .before .before .before .before) base steals) (a .tree .now) (a .worker) (omega arith)
 
 steps-requires : tie.Need-steps-requires
 steps-requires c κs = search needs
 
 returns-2 : tie.Need-returns-2
 returns-2 c =
-    let a = c .before .before .before .before .args in
-    both (run-long (stateOf (a .place .now) (a .t3)) (a .tree .now) (a .worker) (omega arith) (omega (arith, c .before .steps .ensures)))
+    let a = c .before .before .before .before .before .before .args in
+    λ base steals. run-long (lent (c .before .before .before .before .before .before) base steals) (a .tree .now) (a .worker) (few (c .before .before)) (omega (arith, c .before .steps .ensures))
 
 mul-wide : tie.Need-mul-wide
 mul-wide c = search needs
@@ -34,18 +63,18 @@ wide-requires c κs = search needs
 
 returns-3 : tie.Need-returns-3
 returns-3 c =
-    let a = c .before .before .before .before .before .before .before .args in
+    let a = c .before .before .before .before .before .before .before .before .before .args in
     let i = c .before .wide in
-    both (run-idle (stateOf (a .place .now) (a .t3)) (a .tree .now) (a .worker) (omega arith) (omega (arith, c .before .before .before .before .steps .ensures)) (i .result) (i .ensures) (omega (arith, c .before .before .before .before .steps .ensures)))
+    λ base steals. run-idle (lent (c .before .before .before .before .before .before .before .before .before) base steals) (a .tree .now) (a .worker) (few (c .before .before .before .before .before)) (most (c .before .before .before)) (i .result) (i .ensures) (omega (arith, c .before .before .before .before .steps .ensures))
 
 waits-requires : tie.Need-waits-requires
 waits-requires c κs = search needs
 
 returns-4 : tie.Need-returns-4
 returns-4 c =
-    let a = c .before .before .before .before .before .before .before .before .before .before .args in
+    let a = c .before .before .before .before .before .before .before .before .before .before .before .before .args in
     let i = c .before .before .before .before .wide in
-    both (run-waits (stateOf (a .place .now) (a .t3)) (a .tree .now) (a .worker) (omega arith) (omega (arith, c .before .before .before .before .before .before .before .steps .ensures)) (i .result) (i .ensures) (omega (arith, c .before .before .before .before .before .before .before .steps .ensures)) (sym (c .before .waits .ensures) ∙ c .if4 .taken))
+    λ base steals. run-waits (lent (c .before .before .before .before .before .before .before .before .before .before .before .before) base steals) (a .tree .now) (a .worker) (few (c .before .before .before .before .before .before .before .before)) (most (c .before .before .before .before .before .before)) (i .result) (i .ensures) (within (c .before .before .before)) (waits c)
 
 mul-wide-2 : tie.Need-mul-wide-2
 mul-wide-2 c = search needs
@@ -56,6 +85,17 @@ element-copy-out-wide-2 c = search needs
 wide-requires-2 : tie.Need-wide-requires-2
 wide-requires-2 c κs = search needs
 
+advance-requires : tie.Need-advance-requires
+advance-requires c κs =
+    let hints = c .before .before .before .before .before .before .before .before .before .before .before .before .before .before .before .pre in
+    (within (c .before .before .before .before .before .before), most (c .before .before .before .before .before .before .before .before .before), hints .taskEnds, lent-climbs hints (few (c .before .before .before .before .before .before .before .before .before .before .before)) (c .before .before .before .before .before .before .before .wide .ensures) (c .before .wide2 .ensures))
+
+mul-held : tie.Need-mul-held
+mul-held c = search needs
+
+element-write-held : tie.Need-element-write-held
+element-write-held c = search needs
+
 mul-wide-3 : tie.Need-mul-wide-3
 mul-wide-3 c = search needs
 
@@ -65,75 +105,12 @@ element-copy-out-wide-3 c = search needs
 wide-requires-3 : tie.Need-wide-requires-3
 wide-requires-3 c κs = search needs
 
-kind-requires : tie.Need-kind-requires
-kind-requires c κs = search needs
-
-held-after-requires : tie.Need-held-after-requires
-held-after-requires c κs = search needs
-
-element-write-place : tie.Need-element-write-place
-element-write-place c = search needs
-
-cast-next : tie.Need-cast-next
-cast-next c =
-    omega (arith, c .before .held-after .ensures, c .before .before .before .before .before .before .before .before .before .before .before .before .before .before .before .steps .ensures, holds-most (c .before .before .before .before .before .before .before .before .before .before .before .before .before .before .before .before .before .before .args .t3 .policy) (kinds (c .before .before .before .before .before .before .before .before .before .before .before .before .before .before .before .before .before .before .args .tree .now)) (c .before .before .before .before .before .before .before .before .before .before .before .before .wide .result) (omega (arith, c .before .before .before .before .before .before .before .before .before .before .before .before .before .before .before .steps .ensures)))
-
-mul-next : tie.Need-mul-next
-mul-next c = search needs
-
-element-write-next : tie.Need-element-write-next
-element-write-next c = search needs
-
 returns-5 : tie.Need-returns-5
 returns-5 c =
     let a = c .before .before .before .before .before .before .before .before .before .before .before .before .before .before .before .before .before .before .args in
-    let i = c .before .before .before .before .before .before .before .before .before .before .before .before .wide in
-    both (run-opens (stateOf (a .place .now) (a .t3)) (a .tree .now) (a .worker) (omega arith) (omega (arith, c .before .before .before .before .before .before .before .before .before .before .before .before .before .before .before .steps .ensures)) (i .result) (i .ensures) (omega (arith, c .before .before .before .before .before .before .before .before .before .before .before .before .before .before .before .steps .ensures)) (sym (c .before .before .before .before .before .before .before .before .before .waits .ensures) ∙ c .before .before .before .before .before .before .before .before .if4 .left) (c .before .before .before .before .before .before .wide2 .result) (c .before .before .before .before .before .before .wide2 .ensures) (c .before .held-after .result .0) (λ e. c .before .before .if5 .taken (c .before .before .before .kind .ensures ∙ e)) (c .before .held-after .ensures))
-
-pop-requires : tie.Need-pop-requires
-pop-requires c κs = search needs
-
-enum-known-q : tie.Need-enum-known-q
-enum-known-q c = search needs
-
-pushed-by-requires : tie.Need-pushed-by-requires
-pushed-by-requires c κs =
-    let a = c .before .before .before .before .before .before .before .before .before .before .before .before .before .before .before .before .before .before .before .before .before .args in
-    let i = c .before .before .before .before .before .before .before .before .before .before .before .before .before .before .before .wide in
-    omega (arith, c .before .before .before .before .before .before .before .before .before .before .before .before .before .before .before .before .before .before .steps .ensures, newest-before (a .place .now) (a .worker) (i .result) (c .before .before .before .before .before .before .before .wide3 .result) (c .before .q .given .0 .0 .0) (pusher-at (newestMark (a .place .now) (a .worker) (c .before .before .before .before .before .before .before .wide3 .result) (i .result)) (c .before .q .given .0 .0) (sym (c .before .before .before .pop .ensures .0) ∙ c .before .q .given .1)))
-
-cast-next-2 : tie.Need-cast-next-2
-cast-next-2 c =
-    let a = c .before .before .before .before .before .before .before .before .before .before .before .before .before .before .before .before .before .before .before .before .before .before .before .args in
-    let i = c .before .before .before .before .before .before .before .before .before .before .before .before .before .before .before .before .before .wide in
-    omega (arith, c .before .pushed-by .ensures, c .before .before .before .before .before .before .before .before .before .before .before .before .before .before .before .before .before .before .before .before .steps .ensures, pushes-most (a .t3 .policy) (kinds (a .tree .now)) (c .before .before .before .q .given .0 .0 .0) (omega (arith, c .before .before .before .before .before .before .before .before .before .before .before .before .before .before .before .before .before .before .before .before .steps .ensures, newest-before (a .place .now) (a .worker) (i .result) (c .before .before .before .before .before .before .before .before .before .wide3 .result) (c .before .before .before .q .given .0 .0 .0) (pusher-at (newestMark (a .place .now) (a .worker) (c .before .before .before .before .before .before .before .before .before .wide3 .result) (i .result)) (c .before .before .before .q .given .0 .0) (sym (c .before .before .before .before .before .pop .ensures .0) ∙ c .before .before .before .q .given .1)))))
-
-mul-next-2 : tie.Need-mul-next-2
-mul-next-2 c = search needs
-
-element-write-next-2 : tie.Need-element-write-next-2
-element-write-next-2 c = search needs
-
-enum-told : tie.Need-enum-told
-enum-told c = search needs
-
-mul-next-3 : tie.Need-mul-next-3
-mul-next-3 c = search needs
-
-element-write-next-3 : tie.Need-element-write-next-3
-element-write-next-3 c = search needs
-
-returns-6 : tie.Need-returns-6
-returns-6 c =
-    let a = c .before .before .before .before .before .before .before .before .before .before .before .before .before .before .before .before .before .before .before .before .before .before .before .args in
-    let i = c .before .before .before .before .before .before .before .before .before .before .before .before .before .before .before .before .before .wide in
-    both (run-pops (stateOf (a .place .now) (a .t3)) (a .tree .now) (a .worker) (omega arith) (omega (arith, c .before .before .before .before .before .before .before .before .before .before .before .before .before .before .before .before .before .before .before .before .steps .ensures)) (i .result) (i .ensures) (omega (arith, c .before .before .before .before .before .before .before .before .before .before .before .before .before .before .before .before .before .before .before .before .steps .ensures)) (sym (c .before .before .before .before .before .before .before .before .before .before .before .before .before .before .waits .ensures) ∙ c .before .before .before .before .before .before .before .before .before .before .before .before .before .if4 .left) (c .before .before .before .before .before .before .before .before .before .before .before .wide2 .result) (c .before .before .before .before .before .before .before .before .before .before .before .wide2 .ensures) (c .before .pushed-by .result .0) (sym (c .before .before .before .before .before .before .before .before .kind .ensures) ∙ c .before .before .before .before .before .before .before .if5 .left) (c .before .before .before .before .before .before .before .before .before .wide3 .result) (c .before .before .before .before .before .before .before .before .before .wide3 .ensures) (c .before .before .before .before .before .pop .last .0) (c .before .before .before .before .before .pop .ensures .1) (c .before .before .before .q .given .0 .0 .0) (pusher-at (newestMark (a .place .now) (a .worker) (c .before .before .before .before .before .before .before .before .before .wide3 .result) (i .result)) (c .before .before .before .q .given .0 .0) (sym (c .before .before .before .before .before .pop .ensures .0) ∙ c .before .before .before .q .given .1)) (c .before .pushed-by .ensures))
-
-returns-7 : tie.Need-returns-7
-returns-7 c =
-    let a = c .before .before .before .before .before .before .before .before .before .before .before .before .before .before .before .before .before .before .before .before .args in
-    let i = c .before .before .before .before .before .before .before .before .before .before .before .before .before .before .wide in
-    both (run-ends (stateOf (a .place .now) (a .t3)) (a .tree .now) (a .worker) (omega arith) (omega (arith, c .before .before .before .before .before .before .before .before .before .before .before .before .before .before .before .before .before .steps .ensures)) (i .result) (i .ensures) (omega (arith, c .before .before .before .before .before .before .before .before .before .before .before .before .before .before .before .before .before .steps .ensures)) (sym (c .before .before .before .before .before .before .before .before .before .before .before .waits .ensures) ∙ c .before .before .before .before .before .before .before .before .before .before .if4 .left) (c .before .before .before .before .before .before .before .before .wide2 .result) (c .before .before .before .before .before .before .before .before .wide2 .ensures) 65535 (sym (c .before .before .before .before .before .kind .ensures) ∙ c .before .before .before .before .if5 .left) (c .before .before .before .before .before .before .wide3 .result) (c .before .before .before .before .before .before .wide3 .ensures) (c .before .before .pop .last .0) (c .before .before .pop .ensures .1) (pusher-nothing (newestMark (a .place .now) (a .worker) (c .before .before .before .before .before .before .wide3 .result) (i .result)) (sym (c .before .before .pop .ensures .0) ∙ c .enum-told .given .1)) refl)
+    let i = c .before .before .before .before .before .before .before .before .before .before .wide in
+    let advance = c .before .before .advance in
+    λ base steals. run-runs (lent (c .before .before .before .before .before .before .before .before .before .before .before .before .before .before .before .before .before .before) base steals) (a .tree .now) (a .worker) (few (c .before .before .before .before .before .before .before .before .before .before .before .before .before .before)) (most (c .before .before .before .before .before .before .before .before .before .before .before .before)) (i .result) (i .ensures) (within (c .before .before .before .before .before .before .before .before .before)) (goes (c .before .before .before .before .before .before)) (c .wide3 .result) (c .wide3 .ensures) (c .before .before .before .before .wide2 .result) (c .before .before .before .before .wide2 .ensures) (advance .result) (advance .ensures .0) (advance .last .1 .1 .1 .0) (advance .ensures .1)
 
 pub run-on-spec : {M : Type 1} → statement M
 run-on-spec =
@@ -151,24 +128,10 @@ run-on-spec =
     mul-wide-2
     element-copy-out-wide-2
     wide-requires-2
+    advance-requires
+    mul-held
+    element-write-held
     mul-wide-3
     element-copy-out-wide-3
     wide-requires-3
-    kind-requires
-    held-after-requires
-    element-write-place
-    cast-next
-    mul-next
-    element-write-next
-    returns-5
-    pop-requires
-    enum-known-q
-    pushed-by-requires
-    cast-next-2
-    mul-next-2
-    element-write-next-2
-    enum-told
-    mul-next-3
-    element-write-next-3
-    returns-6
-    returns-7)
+    returns-5)

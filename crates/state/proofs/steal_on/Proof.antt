@@ -1,153 +1,195 @@
 -- `state::steal_on` meets its contract: each return is a law of its answers. Assumes nothing.
-use mathlib.Core.Path.{sym, _∙_}
+use Prim.Native.Nat.{ℕ, _+_, _*_, _%_, _≤_, _<_}
+use mathlib.Core.Path.{refl, subst}
 use native.Mathlib.Omega.{arith}
+use lib.ListN.{length, getD}
 use Rattle.rules.specs.Tree.{kinds}
-use Rattle.moves.specs.Answers.{oldestMark}
-use Rattle.moves.specs.Laws.Marks.{pusher-at, pusher-nothing, oldest-before, robbed-nothing}
-use Rattle.state.specs.Answers.{stateOf}
-use Rattle.state.specs.Laws.Cases.{both, pushes-most, steal-thief, steal-victim, steal-long, steal-busy, steal-empty, steal-takes}
+use Rattle.state.specs.declared.RunState.{RunState}
+use Rattle.state.specs.declared.Taken.the-variants.{Of}
+use Rattle.state.specs.Answers.{stateOf, Small}
+use Rattle.state.specs.Laws.Cases.{steal-thief, steal-victim, steal-long, steal-busy, steal-empty, steal-takes}
+use mir.Syntax.{w16, w64}
+use mir.Val.{Fits}
 use borrow.Author.Needs.{needs}
 use Rattle.state.proofs.steal_on.Statement.{statement}
 use Rattle.state.proofs.steal_on.Tie as tie
 
+-- The state that the arrays are of.
+abbrev state : tie.Start → RunState
+state c =
+    let a = c .args in
+    stateOf (a .place .now) (a .held .now) (a .phase .now) (a .low .now) (a .base .now) (a .steals) (a .policy)
+
+-- Sizes that the code asks for.
+doubled : (w : ℕ) → w < 16 → Fits w64 (w * 2)
+doubled w h = omega arith
+
+narrow : (x : ℕ) → x < 65536 → Fits w16 x
+narrow x h = omega arith
+
+following : (q : ℕ) → q < 4095 → Fits w64 (q + 1) × Fits w16 (q + 1)
+following q h = (omega arith, omega arith)
+
+begun : (n : ℕ) → Fits w16 (n % 2048 + 1)
+begun n = omega arith
+
 returns : tie.Need-returns
 returns c =
-    let a = c .before .before .args in
-    both (steal-thief (stateOf (a .place .now) (a .t3)) (a .tree .now) (a .thief) (a .victim) (omega arith))
+    let at = c .before .before .before in
+    steal-thief (state at) (at .args .tree .now) (at .args .thief) (at .args .victim) (c .if1 .taken)
 
 returns-2 : tie.Need-returns-2
 returns-2 c =
-    let a = c .before .before .before .args in
-    both (steal-victim (stateOf (a .place .now) (a .t3)) (a .tree .now) (a .thief) (a .victim) (omega arith))
+    let at = c .before .before .before .before in
+    steal-victim (state at) (at .args .tree .now) (at .args .thief) (at .args .victim) (c .if2 .taken)
 
 steps-requires : tie.Need-steps-requires
 steps-requires c κs = search needs
 
 returns-3 : tie.Need-returns-3
 returns-3 c =
-    let a = c .before .before .before .before .before .args in
-    both (steal-long (stateOf (a .place .now) (a .t3)) (a .tree .now) (a .thief) (a .victim) (omega arith) (omega arith) (omega (arith, c .before .steps .ensures)))
+    let at = c .before .before .before .before .before .before in
+    steal-long (state at) (at .args .tree .now) (at .args .thief) (at .args .victim) (c .before .before .before .if1 .left)
+    (c .before .before .if2 .left)
+    (subst (λ (n : ℕ). 4095 < n) (c .before .steps .ensures) (c .if3 .taken))
+
+-- The tree is not too long.
+short : (c : tie.Else3) → length (kinds (c .before .before .before .before .before .before .args .tree .now)) ≤ 4095
+short c = subst (λ (n : ℕ). n ≤ 4095) (c .before .steps .ensures) (c .if3 .left)
 
 mul-wide : tie.Need-mul-wide
-mul-wide c = search needs
+mul-wide c = doubled _ (c .before .before .before .if1 .left)
 
 element-copy-out-wide : tie.Need-element-copy-out-wide
-element-copy-out-wide c = search needs
+element-copy-out-wide c = c .before .before .before .if1 .left
 
 wide-requires : tie.Need-wide-requires
 wide-requires c κs = search needs
 
 returns-4 : tie.Need-returns-4
 returns-4 c =
-    let a = c .before .before .before .before .before .before .before .before .args in
-    both (steal-busy (stateOf (a .place .now) (a .t3)) (a .tree .now) (a .thief) (a .victim) (omega arith) (omega arith) (omega (arith, c .before .before .before .before .steps .ensures)) (c .before .wide .result) (c .before .wide .ensures) (omega (arith, c .before .before .before .before .steps .ensures)))
+    let at = c .before .before .before .before .before .before .before .before .before in
+    let held = c .before .wide in
+    steal-busy (state at) (at .args .tree .now) (at .args .thief) (at .args .victim) (c .before .before .before .before .before .before .if1 .left)
+    (c .before .before .before .before .before .if2 .left) (short (c .before .before .before)) (held .result) (held .ensures) (subst (λ (n : ℕ). held .result < n) (c .before .before .before .before .steps .ensures) (c .if4 .taken))
+
+-- The thief is idle.
+idle : (c : tie.Else4) → length (kinds (c .before .before .before .before .before .before .before .before .before .args .tree .now)) ≤ c .before .wide .result
+idle c = subst (λ (n : ℕ). n ≤ c .before .wide .result) (c .before .before .before .before .steps .ensures) (c .if4 .left)
 
 mul-wide-2 : tie.Need-mul-wide-2
-mul-wide-2 c = search needs
+mul-wide-2 c = doubled _ (c .before .before .before .before .before .if2 .left)
 
 element-copy-out-wide-2 : tie.Need-element-copy-out-wide-2
-element-copy-out-wide-2 c = search needs
+element-copy-out-wide-2 c = c .before .before .before .before .before .if2 .left
 
 wide-requires-2 : tie.Need-wide-requires-2
 wide-requires-2 c κs = search needs
 
-mul-base : tie.Need-mul-base
-mul-base c = search needs
+mul-take-step : tie.Need-mul-take-step
+mul-take-step c = doubled _ (c .before .before .before .before .before .before .before .before .if2 .left)
 
-element-copy-out-base : tie.Need-element-copy-out-base
-element-copy-out-base c = search needs
+element-copy-out-take-step : tie.Need-element-copy-out-take-step
+element-copy-out-take-step c = c .before .before .before .before .before .before .before .before .if2 .left
 
-add-phase : tie.Need-add-phase
-add-phase c = search needs
+take-step-requires : tie.Need-take-step-requires
+take-step-requires c κs =
+    (short (c .before .before .before .before .before .before .before), c .before .before .before .before .before .before .before .before .before .before .before .before .before .pre)
 
-take-requires : tie.Need-take-requires
-take-requires c κs = search needs
+-- The two are workers, and what is taken fits the tables.
+few : (c : tie.After-take-step) → c .before .before .before .before .before .before .before .before .before .before .before .before .before .before .args .thief < 16
+few c = c .before .before .before .before .before .before .before .before .before .before .before .if1 .left
 
-enum-known-q : tie.Need-enum-known-q
-enum-known-q c = search needs
+fewer : (c : tie.After-take-step) → c .before .before .before .before .before .before .before .before .before .before .before .before .before .before .args .victim < 16
+fewer c = c .before .before .before .before .before .before .before .before .before .before .if2 .left
 
-pushed-by-requires : tie.Need-pushed-by-requires
-pushed-by-requires c κs =
-    let a = c .before .before .before .before .before .before .before .before .before .before .before .before .before .before .before .before .args in
-    omega (arith, c .before .before .before .before .before .before .before .before .before .before .before .before .steps .ensures, oldest-before (a .place .now) (a .victim) (c .before .before .before .before .before .before .wide2 .result) (c .before .before .before .before .before .before .before .before .before .before .before .before .steps .result) (c .before .q .given .0 .0 .0) (pusher-at (oldestMark (a .place .now) (a .victim) (c .before .before .before .before .before .before .wide2 .result) (c .before .before .before .before .before .before .before .before .before .before .before .before .steps .result)) (c .before .q .given .0 .0) (sym (c .before .before .before .take .ensures .0) ∙ c .before .q .given .1)))
+small : (c : tie.After-pusher) → let x = c .pusher .given .0 in Small (Of (x .0) (x .1 .0) (x .1 .1 .0))
+small c = rw (c .pusher .given .1) at (c .before .before .take-step .ensures .1 .1)
 
-cast-taken : tie.Need-cast-taken
-cast-taken c =
-    let a = c .before .before .before .before .before .before .before .before .before .before .before .before .before .before .before .before .before .before .args in
-    omega (arith, c .before .pushed-by .ensures, c .before .before .before .before .before .before .before .before .before .before .before .before .before .before .steps .ensures, pushes-most (a .t3 .policy) (kinds (a .tree .now)) (c .before .before .before .q .given .0 .0 .0) (omega (arith, c .before .before .before .before .before .before .before .before .before .before .before .before .before .before .steps .ensures, oldest-before (a .place .now) (a .victim) (c .before .before .before .before .before .before .before .before .wide2 .result) (c .before .before .before .before .before .before .before .before .before .before .before .before .before .before .steps .result) (c .before .before .before .q .given .0 .0 .0) (pusher-at (oldestMark (a .place .now) (a .victim) (c .before .before .before .before .before .before .before .before .wide2 .result) (c .before .before .before .before .before .before .before .before .before .before .before .before .before .before .steps .result)) (c .before .before .before .q .given .0 .0) (sym (c .before .before .before .before .before .take .ensures .0) ∙ c .before .before .before .q .given .1)))))
-
-ordinal-from-requires : tie.Need-ordinal-from-requires
-ordinal-from-requires c κs =
-    let a = c .before .before .before .before .before .before .before .before .before .before .before .before .before .before .before .before .before .before .args in
-    (omega (arith, c .before .before .before .before .before .before .before .before .before .before .before .before .before .before .steps .ensures, oldest-before (a .place .now) (a .victim) (c .before .before .before .before .before .before .before .before .wide2 .result) (c .before .before .before .before .before .before .before .before .before .before .before .before .before .before .steps .result) (c .before .before .before .q .given .0 .0 .0) (pusher-at (oldestMark (a .place .now) (a .victim) (c .before .before .before .before .before .before .before .before .wide2 .result) (c .before .before .before .before .before .before .before .before .before .before .before .before .before .before .steps .result)) (c .before .before .before .q .given .0 .0) (sym (c .before .before .before .before .before .take .ensures .0) ∙ c .before .before .before .q .given .1))), omega (arith, c .before .before .before .before .before .before .before .before .before .before .before .before .before .before .steps .ensures))
-
-add-next : tie.Need-add-next
-add-next c =
-    let a = c .before .before .before .before .before .before .before .before .before .before .before .before .before .before .before .before .before .before .before .before .args in
-    omega (arith, oldest-before (a .place .now) (a .victim) (c .before .before .before .before .before .before .before .before .before .before .wide2 .result) (c .before .before .before .before .before .before .before .before .before .before .before .before .before .before .before .before .steps .result) (c .before .before .before .before .before .q .given .0 .0 .0) (pusher-at (oldestMark (a .place .now) (a .victim) (c .before .before .before .before .before .before .before .before .before .before .wide2 .result) (c .before .before .before .before .before .before .before .before .before .before .before .before .before .before .before .before .steps .result)) (c .before .before .before .before .before .q .given .0 .0) (sym (c .before .before .before .before .before .before .before .take .ensures .0) ∙ c .before .before .before .before .before .q .given .1)))
-
-cast-next : tie.Need-cast-next
-cast-next c =
-    let a = c .before .before .before .before .before .before .before .before .before .before .before .before .before .before .before .before .before .before .before .before .args in
-    omega (arith, oldest-before (a .place .now) (a .victim) (c .before .before .before .before .before .before .before .before .before .before .wide2 .result) (c .before .before .before .before .before .before .before .before .before .before .before .before .before .before .before .before .steps .result) (c .before .before .before .before .before .q .given .0 .0 .0) (pusher-at (oldestMark (a .place .now) (a .victim) (c .before .before .before .before .before .before .before .before .before .before .wide2 .result) (c .before .before .before .before .before .before .before .before .before .before .before .before .before .before .before .before .steps .result)) (c .before .before .before .before .before .q .given .0 .0) (sym (c .before .before .before .before .before .before .before .take .ensures .0) ∙ c .before .before .before .before .before .q .given .1)))
-
-mul-next : tie.Need-mul-next
-mul-next c = search needs
-
-element-write-next : tie.Need-element-write-next
-element-write-next c = search needs
-
-mul-next-2 : tie.Need-mul-next-2
-mul-next-2 c = search needs
-
-element-write-next-2 : tie.Need-element-write-next-2
-element-write-next-2 c = search needs
-
-mul-next-3 : tie.Need-mul-next-3
-mul-next-3 c = search needs
-
-element-write-next-3 : tie.Need-element-write-next-3
-element-write-next-3 c = search needs
-
-cast-next-2 : tie.Need-cast-next-2
-cast-next-2 c =
-    let a = c .before .before .before .before .before .before .before .before .before .before .before .before .before .before .before .before .before .before .before .before .before .args in
-    omega (arith, c .before .before .ordinal-from .ensures .1)
-
-mul-next-4 : tie.Need-mul-next-4
-mul-next-4 c = search needs
-
-element-write-next-4 : tie.Need-element-write-next-4
-element-write-next-4 c = search needs
-
-mul-next-5 : tie.Need-mul-next-5
-mul-next-5 c = search needs
-
-element-write-next-5 : tie.Need-element-write-next-5
-element-write-next-5 c = search needs
-
-mul-next-6 : tie.Need-mul-next-6
-mul-next-6 c = search needs
-
-element-write-next-6 : tie.Need-element-write-next-6
-element-write-next-6 c = search needs
+enum-known-pusher : tie.Need-enum-known-pusher
+enum-known-pusher c = c .match .keys1
 
 trace-number-requires : tie.Need-trace-number-requires
 trace-number-requires c κs = search needs
 
+cast-taken : tie.Need-cast-taken
+cast-taken c = narrow _ (small (c .before .before .before) .1)
+
+add-begun : tie.Need-add-begun
+add-begun c = begun (c .before .before .before .before .before .before .before .before .before .before .before .before .before .before .before .before .before .before .before .args .steals)
+
+add-low : tie.Need-add-low
+add-low c = following _ (small (c .before .before .before .before) .0) .0
+
+cast-low : tie.Need-cast-low
+cast-low c = following _ (small (c .before .before .before .before) .0) .1
+
+mul-low : tie.Need-mul-low
+mul-low c = doubled _ (fewer (c .before .before .before .before .before .before))
+
+element-write-low : tie.Need-element-write-low
+element-write-low c = fewer (c .before .before .before .before .before .before)
+
+mul-low-2 : tie.Need-mul-low-2
+mul-low-2 c = doubled _ (few (c .before .before .before .before .before .before))
+
+element-write-low-2 : tie.Need-element-write-low-2
+element-write-low-2 c = few (c .before .before .before .before .before .before)
+
+mul-base : tie.Need-mul-base
+mul-base c = doubled _ (fewer (c .before .before .before .before .before .before))
+
+element-write-base : tie.Need-element-write-base
+element-write-base c = fewer (c .before .before .before .before .before .before)
+
+cast-base : tie.Need-cast-base
+cast-base c = narrow _ (small (c .before .before .before .before .before) .2)
+
+mul-base-2 : tie.Need-mul-base-2
+mul-base-2 c = doubled _ (few (c .before .before .before .before .before .before .before))
+
+element-write-base-2 : tie.Need-element-write-base-2
+element-write-base-2 c = few (c .before .before .before .before .before .before .before)
+
+mul-held : tie.Need-mul-held
+mul-held c = doubled _ (few (c .before .before .before .before .before .before .before))
+
+element-write-held : tie.Need-element-write-held
+element-write-held c = few (c .before .before .before .before .before .before .before)
+
+mul-phase : tie.Need-mul-phase
+mul-phase c = doubled _ (few (c .before .before .before .before .before .before .before))
+
+element-write-phase : tie.Need-element-write-phase
+element-write-phase c = few (c .before .before .before .before .before .before .before)
+
 enum-told : tie.Need-enum-told
-enum-told c = search needs
+enum-told c = c .match .keys2
 
 returns-5 : tie.Need-returns-5
 returns-5 c =
-    let a = c .before .before .before .before .before .before .before .before .before .before .before .before .before .before .before .before .before .before .before .before .before .before .args in
-    both (steal-takes (stateOf (a .place .now) (a .t3)) (a .tree .now) (a .thief) (a .victim) (omega arith) (omega arith) (omega (arith, c .before .before .before .before .before .before .before .before .before .before .before .before .before .before .before .before .before .before .steps .ensures)) (c .before .before .before .before .before .before .before .before .before .before .before .before .before .before .before .wide .result) (c .before .before .before .before .before .before .before .before .before .before .before .before .before .before .before .wide .ensures) (omega (arith, c .before .before .before .before .before .before .before .before .before .before .before .before .before .before .before .before .before .before .steps .ensures)) (c .before .before .before .before .before .before .before .before .before .before .before .before .wide2 .result) (c .before .before .before .before .before .before .before .before .before .before .before .before .wide2 .ensures) (c .before .before .before .before .before .before .before .q .given .0 .0 .0) (rw (c .before .before .before .before .before .before .before .before .before .before .before .before .before .before .before .before .before .before .steps .ensures) at (pusher-at (oldestMark (a .place .now) (a .victim) (c .before .before .before .before .before .before .before .before .before .before .before .before .wide2 .result) (c .before .before .before .before .before .before .before .before .before .before .before .before .before .before .before .before .before .before .steps .result)) (c .before .before .before .before .before .before .before .q .given .0 .0) (sym (c .before .before .before .before .before .before .before .before .before .take .ensures .0) ∙ c .before .before .before .before .before .before .before .q .given .1))) (c .before .before .before .before .before .before .before .before .before .take .last .0) (rw (c .before .before .before .before .before .before .before .before .before .before .before .before .before .before .before .before .before .before .steps .ensures) at (c .before .before .before .before .before .before .before .before .before .take .ensures .1)) (c .before .before .before .before .before .pushed-by .result .0) (c .before .before .before .before .before .pushed-by .ensures) (c .before .before .before .ordinal-from .result .0) (c .before .before .before .ordinal-from .ensures .0) (c .trace-number .result) (c .trace-number .ensures))
+    let found = c .before .before .before .before .before in
+    let taken = found .before .before in
+    let at = taken .before .before .before .before .before .before .before .before .before .before .before .before .before .before in
+    let held = taken .before .before .before .before .before .before .wide in
+    let from = taken .before .before .before .wide2 in
+    let x = found .pusher .given .0 in
+    let number = c .before .before .before .trace-number in
+    steal-takes (state at) (at .args .tree .now) (at .args .thief) (at .args .victim) (few taken) (fewer taken)
+    (short (taken .before .before .before .before .before .before .before .before)) (held .result) (held .ensures) (idle (taken .before .before .before .before .before)) (from .result) (from .ensures)
+    (getD (at .args .base .now) (at .args .victim) 0) refl (taken .take-step .last .1 .1 .0) (taken .take-step .ensures .1 .0)
+    (taken .take-step .result) (taken .take-step .ensures .0) (x .0) (x .1 .0) (x .1 .1 .0) (found .pusher .given .1) (number .result) (number .ensures)
 
 returns-6 : tie.Need-returns-6
 returns-6 c =
-    let a = c .before .before .before .before .before .before .before .before .before .before .before .before .before .before .before .args in
-    let law = both (steal-empty (stateOf (a .place .now) (a .t3)) (a .tree .now) (a .thief) (a .victim) (omega arith) (omega arith) (omega (arith, c .before .before .before .before .before .before .before .before .before .before .before .steps .ensures)) (c .before .before .before .before .before .before .before .before .wide .result) (c .before .before .before .before .before .before .before .before .wide .ensures) (omega (arith, c .before .before .before .before .before .before .before .before .before .before .before .steps .ensures)) (c .before .before .before .before .before .wide2 .result) (c .before .before .before .before .before .wide2 .ensures) (rw (c .before .before .before .before .before .before .before .before .before .before .before .steps .ensures) at (pusher-nothing (oldestMark (a .place .now) (a .victim) (c .before .before .before .before .before .wide2 .result) (c .before .before .before .before .before .before .before .before .before .before .before .steps .result)) (sym (c .before .before .take .ensures .0) ∙ c .enum-told .given .1)))) in
-    (law .0, c .before .before .take .ensures .1 ∙ (sym (robbed-nothing (a .place .now) (a .victim) (c .before .before .before .before .before .wide2 .result) (c .before .before .before .before .before .before .before .before .before .before .before .steps .result) (pusher-nothing (oldestMark (a .place .now) (a .victim) (c .before .before .before .before .before .wide2 .result) (c .before .before .before .before .before .before .before .before .before .before .before .steps .result)) (sym (c .before .before .take .ensures .0) ∙ c .enum-told .given .1))) ∙ law .1))
+    let taken = c .before .before in
+    let at = taken .before .before .before .before .before .before .before .before .before .before .before .before .before .before in
+    let held = taken .before .before .before .before .before .before .wide in
+    let from = taken .before .before .before .wide2 in
+    steal-empty (state at) (at .args .tree .now) (at .args .thief) (at .args .victim) (few taken) (fewer taken)
+    (short (taken .before .before .before .before .before .before .before .before)) (held .result) (held .ensures) (idle (taken .before .before .before .before .before)) (from .result) (from .ensures)
+    (getD (at .args .base .now) (at .args .victim) 0) refl (taken .take-step .last .1 .1 .0) (taken .take-step .ensures .1 .0)
+    (taken .take-step .result) (taken .take-step .ensures .0) (c .enum-told .given .1)
 
 pub steal-on-spec : {M : Type 1} → statement M
 steal-on-spec =
@@ -164,30 +206,28 @@ steal-on-spec =
     mul-wide-2
     element-copy-out-wide-2
     wide-requires-2
-    mul-base
-    element-copy-out-base
-    add-phase
-    take-requires
-    enum-known-q
-    pushed-by-requires
-    cast-taken
-    ordinal-from-requires
-    add-next
-    cast-next
-    mul-next
-    element-write-next
-    mul-next-2
-    element-write-next-2
-    mul-next-3
-    element-write-next-3
-    cast-next-2
-    mul-next-4
-    element-write-next-4
-    mul-next-5
-    element-write-next-5
-    mul-next-6
-    element-write-next-6
+    mul-take-step
+    element-copy-out-take-step
+    take-step-requires
+    enum-known-pusher
     trace-number-requires
+    cast-taken
+    add-begun
+    add-low
+    cast-low
+    mul-low
+    element-write-low
+    mul-low-2
+    element-write-low-2
+    mul-base
+    element-write-base
+    cast-base
+    mul-base-2
+    element-write-base-2
+    mul-held
+    element-write-held
+    mul-phase
+    element-write-phase
     enum-told
     returns-5
     returns-6)

@@ -3,7 +3,7 @@ use Prim.Native.Nat.{ℕ, suc, _+_, _%_, _≤_, _<_}
 use mathlib.Core.Path.{_≡_, refl, sym, ap, _∙_}
 use mathlib.Core.Bool.{Bool, true, false, cond, _||_, not}
 use mathlib.Core.List.{List, [], _∷_}
-use mathlib.Core.Option.{none, some}
+use mathlib.Core.Option.{Option, none, some}
 use native.Mathlib.Decide.{ℕ-discrete}
 use native.Mathlib.Numerals.{add-one}
 use native.Mathlib.Omega.{arith}
@@ -11,7 +11,7 @@ use lib.ListN.{length, getD, set}
 use lib.Dec.{eqb, leb}
 use borrow.Author.Tests.{eq-eqb, ne-eqb, lt-ltb, le-ltb, le-leb, lt-leb}
 use Rattle.rules.specs.Bytes.{Verdict, accepted, refusedIf, firstRefused}
-use Rattle.rules.specs.Tree.{kinds, kindAt, isEnd, taskEnd, cont, ordinal, treeVerdict}
+use Rattle.rules.specs.Tree.{kinds, kindAt, isEnd, taskEnd, cont, treeVerdict}
 use Rattle.rules.specs.Scheduling.{pushesChild, holds, pushes}
 use Rattle.rules.specs.Calls.{startVerdict}
 use Rattle.tree.specs.declared.Step.{Step}
@@ -19,15 +19,18 @@ use Rattle.tree.specs.declared.Ordinal.{Ordinal}
 use Rattle.tree.specs.declared.Accepted.{Accepted}
 use Rattle.tree.specs.Answers.{acceptance}
 use Rattle.tree.specs.Laws.Bools.{or-true}
-use Rattle.moves.specs.Answers.{newestMark, oldestMark, waitsFor, childrenBetween, popped, robbed}
+use Rattle.moves.specs.Answers.{Climbs, newestMark, oldestMark, pusherOf, waitsFor, childrenBetween, popped, robbed}
+use Rattle.moves.specs.declared.Pusher.{Pusher}
+use Rattle.moves.specs.declared.Pusher.the-variants.{At, Nothing as NoPusher}
+use Rattle.moves.specs.Laws.Marks.{pusher-at, pusher-nothing, robbed-nothing}
 use Rattle.state.specs.declared.RunState.{RunState}
 use Rattle.state.specs.declared.TraceNumber.{TraceNumber}
 use Rattle.state.specs.declared.TraceNumber.the-variants.{ByOrdinal, BySerial}
 use Rattle.state.specs.declared.Outcome.the-variants.{Ran, Stole, Refused}
-use Rattle.state.specs.declared.Moved.{Moved}
-use Rattle.state.specs.declared.Answer.{Answer}
+use Rattle.state.specs.declared.Taken.{Taken}
+use Rattle.state.specs.declared.Taken.the-variants.{Of, Nothing}
 use Rattle.state.specs.declared.Started.{Started}
-use Rattle.state.specs.Answers.{moved, zeros, fresh, startAnswer, refused, numberBy, ordinalFrom, takenOrdinal, heldNext, ranState, runAnswer, nextPhase, robbedState, stealAnswer, eventAnswer}
+use Rattle.state.specs.Answers.{Hints, stateOf, answerOf, zeros, fresh, startAnswer, refused, numberBy, ordinalFrom, takenOrdinal, takenOf, heldNext, placeNext, ranState, runAnswer, nextPhase, robbedState, stealAnswer, eventAnswer}
 
 -- ---- sizes
 
@@ -47,16 +50,6 @@ holds-most p ks i h = part-most (pushesChild p (kindAt ks i)) (cont ks i) (suc i
 pub pushes-most : (p : ℕ) (ks : List ℕ) (i : ℕ) → i < length ks → pushes p ks i ≤ length ks
 unfolding pushes
 pushes-most p ks i h = part-most (pushesChild p (kindAt ks i)) (suc i) (cont ks i) (length ks) h (cont-most ks i)
-
--- ---- the two parts of an answer
-
--- An answer is its outcome with the workers' tables, beside the places.
-pub both : {x y : Answer} → x ≡ y → (moved x ≡ moved y) × (x .state .place ≡ y .state .place)
-both e = (ap {B = Moved} moved e, ap (λ (a : Answer). a .state .place) e)
-
-pub joined : {x : Moved} {place : List ℕ} {y : Answer} → x ≡ moved y → place ≡ y .state .place
-    → _≡_ {A = Answer} (record { outcome = x .outcome; state = record { place = place; workers = x .workers } }) y
-joined {x} {place} {y} e f = λ k. record { outcome = e k .outcome; state = record { place = f k; workers = e k .workers } }
 
 -- ---- trace numbers
 
@@ -79,137 +72,172 @@ module _ (p : ℕ) (ks : List ℕ) (base from q : ℕ) where
 
 -- ---- running
 
--- Worker w has run step i in this phase: the places and its held step are new.
-abbrev pub ran : RunState → ℕ → ℕ → ℕ → ℕ → List ℕ → Answer
-ran s w phase i next place =
-    record {
-      outcome = Ran (record { 0 = phase }) (record { 0 = i });
-      state = record {
-        place = place;
-        workers = record {
-          held = set (s .workers .held) w next;
-          phase = s .workers .phase;
-          low = s .workers .low;
-          base = s .workers .base;
-          steals = s .workers .steals;
-          policy = s .workers .policy;
-        };
-      };
-    }
+module _ (p : ℕ) (ks place : List ℕ) (w low i : ℕ) where
+  -- Step i opens a task,
+  module _ (n : kindAt ks i ≡ 3 → ⊥) where
+    pub next-opens : (next : ℕ) → next ≡ holds p ks i → next ≡ heldNext p ks place w low i
+    unfolding isEnd heldNext
+    next-opens next e = rw (ne-eqb (kindAt ks i) 3 n) e
+
+    pub place-opens : set place i w ≡ placeNext ks place w low i
+    unfolding isEnd placeNext
+    place-opens = rw (ne-eqb (kindAt ks i) 3 n) refl
+
+  -- or ends one, over a deque with a newest step or an empty one.
+  module _ (end : kindAt ks i ≡ 3) where
+    pub next-pops : (q : ℕ) → newestMark place w low i ≡ some q → (next : ℕ) → next ≡ pushes p ks q → next ≡ heldNext p ks place w low i
+    unfolding isEnd heldNext
+    next-pops q found next e = rw (end, heldNext, found) e
+
+    pub next-ends : newestMark place w low i ≡ none → 65535 ≡ heldNext p ks place w low i
+    unfolding isEnd heldNext
+    next-ends found = rw (end, heldNext, found) refl
+
+    pub place-ends : (after : List ℕ) → after ≡ popped place w low i → after ≡ placeNext ks place w low i
+    unfolding isEnd placeNext
+    place-ends after e = rw end e
 
 module _ (s : RunState) (tree : List ℕ) (w : ℕ) where
-  pub run-worker : 16 ≤ w → _≡_ {A = Answer} (record { outcome = Refused 8; state = s }) (runAnswer s tree w)
+  pub run-worker : 16 ≤ w → answerOf (Refused 8) s ≡ runAnswer s tree w
   unfolding runAnswer refused
   run-worker h = rw (le-leb 16 w h) refl
 
   module _ (few : w < 16) where
-    pub run-long : 4095 < length (kinds tree) → _≡_ {A = Answer} (record { outcome = Refused 2; state = s }) (runAnswer s tree w)
+    pub run-long : 4095 < length (kinds tree) → answerOf (Refused 2) s ≡ runAnswer s tree w
     unfolding runAnswer refused
     run-long h = rw (lt-leb 16 w few, lt-ltb 4095 (length (kinds tree)) h) refl
 
-    module _ (most : length (kinds tree) ≤ 4095) (i : ℕ) (held : i ≡ getD (s .workers .held) w 0) where
-      pub run-idle : length (kinds tree) ≤ i → _≡_ {A = Answer} (record { outcome = Refused 9; state = s }) (runAnswer s tree w)
+    module _ (most : length (kinds tree) ≤ 4095) (i : ℕ) (holding : i ≡ getD (s .held) w 0) where
+      pub run-idle : length (kinds tree) ≤ i → answerOf (Refused 9) s ≡ runAnswer s tree w
       unfolding runAnswer refused
-      run-idle h = rw (lt-leb 16 w few, le-ltb 4095 (length (kinds tree)) most, ← held, le-leb (length (kinds tree)) i h) refl
+      run-idle h = rw (lt-leb 16 w few, le-ltb 4095 (length (kinds tree)) most, ← holding, le-leb (length (kinds tree)) i h) refl
 
       module _ (within : i < length (kinds tree)) where
-        pub run-waits : waitsFor (kinds tree) (s .place) i ≡ true
-            → _≡_ {A = Answer} (record { outcome = Refused 10; state = s }) (runAnswer s tree w)
+        pub run-waits : waitsFor (kinds tree) (s .place) i ≡ true → answerOf (Refused 10) s ≡ runAnswer s tree w
         unfolding runAnswer refused
-        run-waits h = rw (lt-leb 16 w few, le-ltb 4095 (length (kinds tree)) most, ← held, lt-leb (length (kinds tree)) i within, h) refl
+        run-waits h = rw (lt-leb 16 w few, le-ltb 4095 (length (kinds tree)) most, ← holding, lt-leb (length (kinds tree)) i within, h) refl
 
-        pub run-runs : waitsFor (kinds tree) (s .place) i ≡ false → (phase : ℕ) → phase ≡ getD (s .workers .phase) w 0
-            → _≡_ {A = Answer} (record { outcome = Ran (record { 0 = phase }) (record { 0 = i }); state = ranState s (kinds tree) w i })
-            (runAnswer s tree w)
-        unfolding runAnswer refused
-        run-runs h phase e =
-            rw (lt-leb 16 w few, le-ltb 4095 (length (kinds tree)) most, ← held, lt-leb (length (kinds tree)) i within, h, e) refl
+        pub run-runs : waitsFor (kinds tree) (s .place) i ≡ false
+            → (phase : ℕ) → phase ≡ getD (s .phase) w 0 → (low : ℕ) → low ≡ getD (s .low) w 0
+            → (next : ℕ) → next ≡ heldNext (s .policy) (kinds tree) (s .place) w low i
+            → (place : List ℕ) → place ≡ placeNext (kinds tree) (s .place) w low i
+            → answerOf (Ran (record { 0 = phase }) (record { 0 = i }))
+            (stateOf place (set (s .held) w next) (s .phase) (s .low) (s .base) (s .steals) (s .policy))
+            ≡ runAnswer s tree w
+        unfolding runAnswer refused ranState
+        run-runs h phase e low from next f place g =
+            rw (f, g, from, lt-leb 16 w few, le-ltb 4095 (length (kinds tree)) most, ← holding, lt-leb (length (kinds tree)) i within, h, e) refl
 
-        -- A step that does not wait. The worker's phase, and what it holds next.
-        module _ (free : waitsFor (kinds tree) (s .place) i ≡ false) (phase : ℕ) (in-phase : phase ≡ getD (s .workers .phase) w 0) (next : ℕ) where
-          ran-state : (place : List ℕ) → next ≡ heldNext s (kinds tree) w i
-              → place ≡ cond (isEnd (kindAt (kinds tree) i)) (popped (s .place) w (getD (s .workers .low) w 0) i) (set (s .place) i w)
-              → ran s w phase i next place ≡ runAnswer s tree w
-          unfolding ranState
-          ran-state place e f = rw (e, f) (run-runs free phase in-phase)
+-- Nothing is asked of empty tables.
+pub no-hints : (tree place held low : List ℕ) → Hints tree [] [] place held low
+no-hints tree place held low =
+    record { taskEnds = λ i h. absurd (omega arith); opened = λ j l h. absurd (omega arith); climbs = λ w l h. absurd (omega arith) }
 
-          pub run-opens : (kindAt (kinds tree) i ≡ 3 → ⊥) → next ≡ holds (s .workers .policy) (kinds tree) i
-              → ran s w phase i next (set (s .place) i w) ≡ runAnswer s tree w
-          unfolding isEnd heldNext
-          run-opens n e =
-              ran-state (set (s .place) i w) (rw (ne-eqb (kindAt (kinds tree) i) 3 n) e) (rw (ne-eqb (kindAt (kinds tree) i) 3 n) refl)
+-- The openers lead from the step that a worker holds.
+pub lent-climbs : {tree ends openers place held low : List ℕ} → Hints tree ends openers place held low → {w : ℕ} → w < 16
+    → {i : ℕ} → i ≡ getD held w 0 → {from : ℕ} → from ≡ getD low w 0 → i < length openers → Climbs openers place w from i
+lent-climbs hints few holding e h = rw (holding, e) (hints .climbs _ few (rw holding at h))
 
-          module _ (end : kindAt (kinds tree) i ≡ 3) (low : ℕ) (from : low ≡ getD (s .workers .low) w 0) (place : List ℕ)
-              (stored : place ≡ popped (s .place) w low i) where
-            pub run-pops : (q : ℕ) → newestMark (s .place) w low i ≡ some q → next ≡ pushes (s .workers .policy) (kinds tree) q
-                → ran s w phase i next place ≡ runAnswer s tree w
-            unfolding isEnd heldNext
-            run-pops q found e =
-                ran-state place (rw (end, ← from, heldNext, found) e) (rw (end, ← from) stored)
+-- What a scan found, by its result.
+module _ (o : Option ℕ) (r : Pusher) (e : r ≡ pusherOf o) where
+  pub found-at : (q : Step) → r ≡ At q → o ≡ some (q .0)
+  found-at q f = pusher-at o q (sym e ∙ f)
 
-            pub run-ends : newestMark (s .place) w low i ≡ none → next ≡ 65535 → ran s w phase i next place ≡ runAnswer s tree w
-            unfolding isEnd heldNext
-            run-ends found e = ran-state place (rw (end, ← from, heldNext, found) e) (rw (end, ← from) stored)
+  pub found-nothing : r ≡ NoPusher → o ≡ none
+  found-nothing f = pusher-nothing o (sym e ∙ f)
 
 -- ---- stealing
 
--- Thief t has taken a step from v: the places are new, and so are its held step, its phase and both their `low`.
-abbrev pub stolen : RunState → ℕ → ℕ → TraceNumber → ℕ → ℕ → ℕ → ℕ → List ℕ → Answer
-stolen s t v number taken ordinal phase low place =
-    record {
-      outcome = Stole number;
-      state = record {
-        place = place;
-        workers = record {
-          held = set (s .workers .held) t taken;
-          phase = set (s .workers .phase) t phase;
-          low = set (set (s .workers .low) v low) t taken;
-          base = set (set (s .workers .base) v 0) t ordinal;
-          steals = phase;
-          policy = s .workers .policy;
-        };
-      };
-    }
+module _ (p : ℕ) (ks : List ℕ) (base from : ℕ) where
+  pub takes-nothing : (o : Option ℕ) → o ≡ none → Nothing ≡ takenOf p ks base from o
+  unfolding takenOf
+  takes-nothing o e = rw e refl
+
+  pub takes-step : (o : Option ℕ) (q : Step) → o ≡ some (q .0) → (step : Step) → step .0 ≡ pushes p ks (q .0)
+      → (ordinal : Ordinal) → ordinal .0 ≡ ordinalFrom p ks base from (q .0) → Of q step ordinal ≡ takenOf p ks base from o
+  unfolding takenOf
+  takes-step o q e step f ordinal g = rw (e, ← f, ← g) refl
+
+  -- And what was found, by what was taken.
+  took-nothing : (o : Option ℕ) → takenOf p ks base from o ≡ Nothing → o ≡ none
+  unfolding takenOf
+  took-nothing none e = refl
+  took-nothing (some q) e = let z : _≡_ {A = ℕ} 0 1 = cc in absurd (omega arith)
+
+  took-step : (o : Option ℕ) (q step : Step) (ordinal : Ordinal) → takenOf p ks base from o ≡ Of q step ordinal
+      → (o ≡ some (q .0)) × (step .0 ≡ pushes p ks (q .0)) × (ordinal .0 ≡ ordinalFrom p ks base from (q .0))
+  unfolding takenOf
+  took-step none q step ordinal e = let z : _≡_ {A = ℕ} 0 1 = cc in absurd (omega arith)
+  took-step (some x) q step ordinal e = (cc, cc, cc)
 
 module _ (s : RunState) (tree : List ℕ) (t v : ℕ) where
-  pub steal-thief : 16 ≤ t → _≡_ {A = Answer} (record { outcome = Refused 8; state = s }) (stealAnswer s tree t v)
+  pub steal-thief : 16 ≤ t → answerOf (Refused 8) s ≡ stealAnswer s tree t v
   unfolding stealAnswer refused
   steal-thief h = rw (le-leb 16 t h) refl
 
-  pub steal-victim : 16 ≤ v → _≡_ {A = Answer} (record { outcome = Refused 8; state = s }) (stealAnswer s tree t v)
+  pub steal-victim : 16 ≤ v → answerOf (Refused 8) s ≡ stealAnswer s tree t v
   unfolding stealAnswer refused
   steal-victim h = rw (le-leb 16 v h, or-true (leb 16 t)) refl
 
   module _ (few : t < 16) (fewer : v < 16) where
-    pub steal-long : 4095 < length (kinds tree)
-        → _≡_ {A = Answer} (record { outcome = Refused 2; state = s }) (stealAnswer s tree t v)
+    pub steal-long : 4095 < length (kinds tree) → answerOf (Refused 2) s ≡ stealAnswer s tree t v
     unfolding stealAnswer refused
     steal-long h = rw (lt-leb 16 t few, lt-leb 16 v fewer, lt-ltb 4095 (length (kinds tree)) h) refl
 
-    module _ (most : length (kinds tree) ≤ 4095) (held : ℕ) (holding : held ≡ getD (s .workers .held) t 0) where
-      pub steal-busy : held < length (kinds tree)
-          → _≡_ {A = Answer} (record { outcome = Refused 11; state = s }) (stealAnswer s tree t v)
+    module _ (most : length (kinds tree) ≤ 4095) (held : ℕ) (holding : held ≡ getD (s .held) t 0) where
+      pub steal-busy : held < length (kinds tree) → answerOf (Refused 11) s ≡ stealAnswer s tree t v
       unfolding stealAnswer refused
       steal-busy h =
           rw (lt-leb 16 t few, lt-leb 16 v fewer, le-ltb 4095 (length (kinds tree)) most, ← holding, lt-ltb held (length (kinds tree)) h) refl
 
       -- The thief is idle.
-      module _ (none-held : length (kinds tree) ≤ held) (low : ℕ) (from : low ≡ getD (s .workers .low) v 0) where
-        pub steal-empty : oldestMark (s .place) v low (length (kinds tree)) ≡ none
-            → _≡_ {A = Answer} (record { outcome = Refused 12; state = s }) (stealAnswer s tree t v)
+      module _ (none-held : length (kinds tree) ≤ held) (low : ℕ) (from : low ≡ getD (s .low) v 0) (base : ℕ) (based : base ≡ getD (s .base) v 0)
+          (place : List ℕ) (stored : place ≡ robbed (s .place) v low (length (kinds tree)))
+          (r : Taken) (taken : r ≡ takenOf (s .policy) (kinds tree) base low (oldestMark (s .place) v low (length (kinds tree)))) where
+        pub steal-empty : r ≡ Nothing → answerOf (Refused 12) (stateOf place (s .held) (s .phase) (s .low) (s .base) (s .steals) (s .policy)) ≡ stealAnswer s tree t v
         unfolding stealAnswer refused
-        steal-empty found =
-            rw (lt-leb 16 t few, lt-leb 16 v fewer, le-ltb 4095 (length (kinds tree)) most, ← holding, le-ltb held (length (kinds tree)) none-held, ← from, stealAnswer, found) refl
+        steal-empty e =
+            let n = length (kinds tree) in
+            let found = took-nothing (s .policy) (kinds tree) base low (oldestMark (s .place) v low n) (sym taken ∙ e) in
+            rw (
+              stored,
+              ← robbed-nothing (s .place) v low n found,
+              lt-leb 16 t few,
+              lt-leb 16 v fewer,
+              le-ltb 4095 n most,
+              ← holding,
+              le-ltb held n none-held,
+              ← from,
+              stealAnswer,
+              found,
+            ) refl
 
-        pub steal-takes : (q : ℕ) → oldestMark (s .place) v low (length (kinds tree)) ≡ some q
-            → (place : List ℕ) → place ≡ robbed (s .place) v low (length (kinds tree))
-            → (taken : ℕ) → taken ≡ pushes (s .workers .policy) (kinds tree) q
-            → (ordinal : ℕ) → ordinal ≡ ordinalFrom (s .workers .policy) (kinds tree) (getD (s .workers .base) v 0) low q
-            → (number : TraceNumber) → number ≡ numberBy (s .workers .policy) ordinal taken
-            → stolen s t v number taken ordinal (s .workers .steals % 2048 + 1) (q + 1) place ≡ stealAnswer s tree t v
-        unfolding stealAnswer refused robbedState nextPhase takenOrdinal
-        steal-takes q found place stored taken e ordinal g number f =
-            rw (stored, f, g, e, add-one q, lt-leb 16 t few, lt-leb 16 v fewer, le-ltb 4095 (length (kinds tree)) most, ← holding, le-ltb held (length (kinds tree)) none-held, from, stealAnswer, rw from at found) refl
+        pub steal-takes : (q : Step) (step : Step) (ordinal : Ordinal) → r ≡ Of q step ordinal → (number : TraceNumber) → number ≡ numberBy (s .policy) (ordinal .0) (step .0)
+            → answerOf (Stole number)
+            (stateOf place (set (s .held) t (step .0)) (set (s .phase) t (s .steals % 2048 + 1))
+            (set (set (s .low) v (q .0 + 1)) t (step .0)) (set (set (s .base) v 0) t (ordinal .0)) (s .steals % 2048 + 1) (s .policy))
+            ≡ stealAnswer s tree t v
+        unfolding stealAnswer robbedState nextPhase takenOrdinal
+        steal-takes q step ordinal e number f =
+            let n = length (kinds tree) in
+            let took = took-step (s .policy) (kinds tree) base low (oldestMark (s .place) v low n) q step ordinal (sym taken ∙ e) in
+            let found = rw from at (took .0) in
+            rw (
+              stored,
+              f,
+              took .2,
+              took .1,
+              based,
+              from,
+              add-one (q .0),
+              lt-leb 16 t few,
+              lt-leb 16 v fewer,
+              le-ltb 4095 n most,
+              ← holding,
+              le-ltb held n none-held,
+              stealAnswer,
+              found,
+            ) refl
 
 -- ---- an event
 

@@ -101,7 +101,7 @@ module _ (held : List ℕ) where
       let z : w ≡ 0 = omega arith in
       rw z at (built .same)
 
-pub idle-answers : (s : RunState) (set : ℕ) → set ≡ idleBits (s .workers .held) 0 16
+pub idle-answers : (s : RunState) (set : ℕ) → set ≡ idleBits (s .held) 0 16
     → _≡_ {A = Idle} (record { set = set; count = ones set; lowest = trailingZeros 16 set; state = s }) (idleAnswer s)
 unfolding idleAnswer
-idle-answers s set e = rw (e, ones-set (s .workers .held) 16 0, lowest-set (s .workers .held)) refl
+idle-answers s set e = rw (e, ones-set (s .held) 16 0, lowest-set (s .held)) refl

@@ -1,14 +1,25 @@
--- `RunState::event` meets its contract: it lends its arrays to `event_on` and joins what that leaves and answers. Assumes nothing.
-use Rattle.state.specs.Laws.Cases.{joined}
+-- `RunState::event` meets its contract: equal bytes run, different ones steal. Assumes nothing.
+use mathlib.Core.Path.{_∙_}
+use Rattle.state.specs.Laws.Cases.{event-run, event-steal}
 use borrow.Author.Needs.{needs}
 use Rattle.state.proofs.RunState.event.Statement.{statement}
 use Rattle.state.proofs.RunState.event.Tie as tie
 
-event-on-requires : tie.Need-event-on-requires
-event-on-requires c κs = search needs
+run-requires : tie.Need-run-requires
+run-requires c κs = search needs
 
 returns : tie.Need-returns
-returns c = joined (c .before .event-on .ensures .0) (c .before .event-on .ensures .1)
+returns c =
+    let a = c .before .before .before .args in
+    c .run .ensures ∙ event-run (a .self) (a .tree .now) (a .first) (a .second) (c .before .if1 .taken)
+
+steal-requires : tie.Need-steal-requires
+steal-requires c κs = search needs
+
+returns-2 : tie.Need-returns-2
+returns-2 c =
+    let a = c .before .before .before .args in
+    c .steal .ensures ∙ event-steal (a .self) (a .tree .now) (a .first) (a .second) (c .before .if1 .left)
 
 pub event-spec : {M : Type 1} → statement M
-event-spec = tie.close (tie.spec event-on-requires returns)
+event-spec = tie.close (tie.spec run-requires returns steal-requires returns-2)

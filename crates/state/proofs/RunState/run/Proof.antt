@@ -1,14 +1,25 @@
--- `RunState::run` meets its contract: it lends its arrays to `run_on` and joins what that leaves and answers. Assumes nothing.
-use Rattle.state.specs.Laws.Cases.{joined}
+-- `RunState::run` meets its contract: it lends its arrays to `run_on`, with empty tables. Assumes nothing.
+use Rattle.state.specs.Laws.Cases.{no-hints}
 use borrow.Author.Needs.{needs}
 use Rattle.state.proofs.RunState.run.Statement.{statement}
 use Rattle.state.proofs.RunState.run.Tie as tie
 
+slice-aggregate-run-on : tie.Need-slice-aggregate-run-on
+slice-aggregate-run-on c = search needs
+
+slice-aggregate-run-on-2 : tie.Need-slice-aggregate-run-on-2
+slice-aggregate-run-on-2 c = search needs
+
 run-on-requires : tie.Need-run-on-requires
-run-on-requires c κs = search needs
+run-on-requires c κs =
+    let a = c .before .before .before .before .before .before .before .before .before .before .args in
+    no-hints (a .tree .now) (a .self .place) (a .self .held) (a .self .low)
 
 returns : tie.Need-returns
-returns c = joined (c .before .run-on .ensures .0) (c .before .run-on .ensures .1)
+returns c =
+    let s = c .before .before .before .before .before .before .before .before .before .before .before .args .self in
+    c .run-on .ensures (s .base) (s .steals)
 
 pub run-spec : {M : Type 1} → statement M
-run-spec = tie.close (tie.spec run-on-requires returns)
+run-spec =
+    tie.close (tie.spec slice-aggregate-run-on slice-aggregate-run-on-2 run-on-requires returns)

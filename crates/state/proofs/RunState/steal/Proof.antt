@@ -1,14 +1,16 @@
--- `RunState::steal` meets its contract: it lends its arrays to `steal_on` and joins what that leaves and answers. Assumes nothing.
-use Rattle.state.specs.Laws.Cases.{joined}
+-- `RunState::steal` meets its contract: it lends its arrays to `steal_on`, with an empty table. Assumes nothing.
 use borrow.Author.Needs.{needs}
 use Rattle.state.proofs.RunState.steal.Statement.{statement}
 use Rattle.state.proofs.RunState.steal.Tie as tie
+
+slice-aggregate-steal-on : tie.Need-slice-aggregate-steal-on
+slice-aggregate-steal-on c = search needs
 
 steal-on-requires : tie.Need-steal-on-requires
 steal-on-requires c κs = search needs
 
 returns : tie.Need-returns
-returns c = joined (c .before .steal-on .ensures .0) (c .before .steal-on .ensures .1)
+returns c = c .steal-on .ensures
 
 pub steal-spec : {M : Type 1} → statement M
-steal-spec = tie.close (tie.spec steal-on-requires returns)
+steal-spec = tie.close (tie.spec slice-aggregate-steal-on steal-on-requires returns)
