@@ -1,0 +1,7 @@
+-- What need not be believed: everything here is proved from the definitions.
+--     Records   records of four bytes, stored one behind the other
+--     Copies    the loop that copies bytes out, turn by turn
+--     Heaviest  the loop that looks for the heaviest worker, turn by turn
+pub mod Records
+pub mod Copies
+pub mod Heaviest
