@@ -24,7 +24,7 @@ module _ {A : Type 0} where
   unfolding sum
   sum-one f xs x = omega (arith, sum-append f xs (x ∷ []))
 
-  sum-set : (f : A → ℕ) (xs : List A) (i : ℕ) (x d : A) → i < length xs → sum f (set xs i x) + f (getD xs i d) ≡ sum f xs + f x
+  pub sum-set : (f : A → ℕ) (xs : List A) (i : ℕ) (x d : A) → i < length xs → sum f (set xs i x) + f (getD xs i d) ≡ sum f xs + f x
   unfolding sum
   sum-set f [] i x d h = absurd (omega arith)
   sum-set f (y ∷ ys) zero x d h = omega arith

@@ -1,0 +1,128 @@
+-- The loop over the events in the terms of the code: what a call on the arrays ensures, and what is stored then.
+use Prim.Native.Nat.{ℕ, _+_, _*_, _/_, _%_, _≤_, _<_}
+use mathlib.Core.Path.{_≡_, refl, sym, ap, subst, _∙_}
+use mathlib.Core.List.{List}
+use native.Mathlib.Omega.{arith}
+use lib.ListN.{length, getD, set, replicate}
+use Rattle.rules.specs.Bytes.{accepted, Walked}
+use Rattle.rules.specs.Tree.{kinds, weights, taskEnd}
+use Rattle.rules.specs.Scheduling.{Run}
+use Rattle.rules.specs.Calls.{startVerdict}
+use Rattle.tables.specs.Answers.{Ends, Sums, weightBefore}
+use Rattle.state.specs.declared.RunState.{RunState}
+use Rattle.state.specs.declared.TraceNumber.{TraceNumber}
+use Rattle.state.specs.declared.Outcome.{Outcome}
+use Rattle.state.specs.declared.Outcome.the-variants.{Ran, Stole, Refused}
+use Rattle.state.specs.declared.Answer.{Answer}
+use Rattle.state.specs.Answers.{answerOf, fresh, numberValue, eventAnswer}
+use Rattle.outputs.specs.Answers.{recordPut, loadMoved}
+use Rattle.tree.specs.declared.Phase.{Phase}
+use Rattle.tree.specs.declared.Step.{Step}
+use Rattle.walks.specs.Answers.{weightBetween, Movable}
+use Rattle.walks.specs.Laws.Loads.{partWeight}
+use Rattle.walks.specs.Laws.Tables.{start-frame}
+use Rattle.walks.specs.Laws.Recording.{Recording, Walks, recording-start, recording-done, event-refused, ran-room, ran-next, stole-room, stole-weight, stole-next}
+
+-- What holds of a state holds of an equal one, and the count of steals is the state's.
+at-state : {p : ℕ} {tree events : List ℕ} {k : ℕ} {s : RunState} {log trace ls : List ℕ} {logs steals : ℕ} (after : RunState) → s ≡ after
+    → Recording p tree events k s log trace ls logs steals → Recording p tree events k after log trace ls logs (after .steals)
+at-state {p} {tree} {events} {k} {s} {log} {trace} {ls} {logs} after e so =
+    subst (λ (x : RunState). Recording p tree events k x log trace ls logs (x .steals)) e
+    (rw (so .stealCount ∙ sym (so .shows .steals)) at so)
+
+module _ (p : ℕ) (tree events : List ℕ) (accepts : startVerdict p tree .number ≡ 0) where
+  -- The start: all weight is worker 0's.
+  pub turn-start : (s : RunState) → s ≡ fresh p → (sums : List ℕ) → Sums (weights tree) sums (length (kinds tree))
+      → (n : ℕ) → n ≡ length (kinds tree) → (log trace : List ℕ) → length log ≡ 16380 → length trace ≡ 8188
+      → Recording p tree events 0 s log trace (set (replicate 16 0) 0 (getD sums n 0)) 0 (s .steals)
+  turn-start s e sums right n m log trace h l =
+      rw (m, right (length (kinds tree)) (omega arith))
+      (at-state s (sym e) (recording-start p tree events accepts log trace h l))
+
+  module _ (k : ℕ) (s : RunState) (log trace ls : List ℕ) (logs : ℕ) (so : Recording p tree events k s log trace ls logs (s .steals)) where
+    -- The end.
+    pub turn-done : k ≤ length events / 2 → length events / 2 ≤ k
+        → Walks p tree events (record { number = 0; position = 0; logs = logs; steals = s .steals; loads = ls }) log trace
+    unfolding accepted
+    turn-done h l =
+        let all : k ≡ length events / 2 = omega arith in
+        record {
+          verdict = sym (ap (λ (w : Walked Run). w .verdict) (recording-done p tree events accepts k s log trace ls logs (s .steals) so l));
+          recorded = λ z. (s, rw all at so);
+        }
+
+    -- An event of bytes a and b, with outcome o and the state after it.
+    module _ (more : k < length events / 2) (a b : ℕ) (first : a ≡ getD events (2 * k) 0) (second : b ≡ getD events (2 * k + 1) 0)
+        (o : Outcome) (after : RunState) (answers : answerOf o after ≡ eventAnswer s tree a b) where
+      outcome : eventAnswer s tree a b .outcome ≡ o
+      outcome = sym (ap (λ (x : Answer). x .outcome) answers)
+
+      state : eventAnswer s tree a b .state ≡ after
+      state = sym (ap (λ (x : Answer). x .state) answers)
+
+      -- It is refused.
+      pub turn-refused : (x : ℕ) → o ≡ Refused x → (loads : List ℕ) (mine yours : List ℕ)
+          → Walks p tree events (record { number = x; position = k; logs = 0; steals = 0; loads = loads }) mine yours
+      turn-refused x e loads mine yours =
+          let by = event-refused p tree events accepts k s log trace ls logs (s .steals) so more a b first second x (outcome ∙ e) in
+          record { verdict = by .0; recorded = λ z. absurd (by .1 z) }
+
+      -- It has run a step.
+      module _ (phase : Phase) (step : Step) (ran : o ≡ Ran phase step) where
+        pub ran-fits : (4 * logs + 4 ≤ length log) × (logs < 4095)
+        ran-fits =
+            let room = ran-room p tree events accepts k s log trace ls logs (s .steals) so more a b first second (phase .0) (step .0) (outcome ∙ ran) in
+            (omega (arith, room .0, so .logRoom, start-frame p tree accepts .most), omega (arith, room .0, start-frame p tree accepts .most))
+
+        pub ran-turn : (longer : List ℕ) → longer ≡ recordPut log logs (phase .0 % 256) (phase .0 / 256 % 256) (step .0)
+            → Recording p tree events (k + 1) after longer trace ls (logs + 1) (after .steals)
+        ran-turn longer e =
+            rw e
+            (at-state after state
+            (ran-next p tree events accepts k s log trace ls logs (s .steals) so more a b first second (phase .0) (step .0) (outcome ∙ ran)))
+
+      -- It has stolen one, which the thief holds now.
+      module _ (number : TraceNumber) (stole : o ≡ Stole number) (step : ℕ) (held : step ≡ getD (after .held) a 0) where
+        taken : step ≡ getD (eventAnswer s tree a b .state .held) a 0
+        taken = held ∙ ap (λ (x : RunState). getD (x .held) a 0) (sym state)
+
+        room : (a < 16) × (b < 16) × (2 * s .steals + 2 < length (kinds tree)) × (numberValue number < 65536)
+            × (step < length (kinds tree)) × (step < taskEnd (kinds tree) step) × (taskEnd (kinds tree) step ≤ length (kinds tree))
+        room = stole-room p tree events accepts k s log trace ls logs (s .steals) so more a b first second number (outcome ∙ stole) step taken
+
+        weight : (weightBefore (weights tree) step ≤ weightBefore (weights tree) (taskEnd (kinds tree) step))
+            × (partWeight (kinds tree) (weights tree) step ≤ getD ls b 0)
+            × (getD ls a 0 + partWeight (kinds tree) (weights tree) step ≤ weightBefore (weights tree) (length (kinds tree)))
+            × (a ≡ b → ⊥)
+        weight = stole-weight p tree events accepts k s log trace ls logs (s .steals) so more a b first second number (outcome ∙ stole) step taken
+
+        pub stole-fits : (4 * s .steals + 4 ≤ length trace) × (a < 16) × (b < 16) × (a ≡ b → ⊥)
+        stole-fits = (omega (arith, room, so .traceRoom, start-frame p tree accepts .most), room .0, room .1, weight .3)
+
+        module _ (ends sums : List ℕ) (sized : length ends ≡ length (kinds tree)) (right : Ends (kinds tree) ends (length ends))
+            (longer : length (kinds tree) < length sums) (added : Sums (weights tree) sums (length (kinds tree)))
+            (small : weightBefore (weights tree) (length (kinds tree)) < 18446744073709551616) where
+          end : getD ends step 0 ≡ taskEnd (kinds tree) step
+          end = right step (omega (arith, room .4, sized))
+
+          between : weightBetween ends sums step ≡ partWeight (kinds tree) (weights tree) step
+          unfolding weightBetween partWeight
+          between = rw (end, added step (omega (arith, room .4)), added (taskEnd (kinds tree) step) (room .6)) refl
+
+          pub stole-movable : Movable ends sums ls a b step
+          stole-movable =
+              record {
+                inTable = omega (arith, room .4, sized);
+                inSums = (omega (arith, room .4), omega (arith, end, room .6));
+                rises = rw (end, added step (omega (arith, room .4)), added (taskEnd (kinds tree) step) (room .6)) (weight .0);
+                leaves = rw between (weight .1);
+                fits = rw between (omega (arith, weight .2));
+              }
+
+          pub stole-turn : (further : List ℕ) → further ≡ recordPut trace (s .steals) a b (numberValue number)
+              → (moved : List ℕ) → moved ≡ loadMoved ls a b (weightBetween ends sums step)
+              → Recording p tree events (k + 1) after log further moved logs (after .steals)
+          stole-turn further e moved f =
+              rw (e, f, between)
+              (at-state after state
+              (stole-next p tree events accepts k s log trace ls logs (s .steals) so more a b first second number (outcome ∙ stole) step taken))
