@@ -42,6 +42,14 @@ impl Rng {
     pub fn pick<T: Copy>(&mut self, items: &[T]) -> T {
         items[self.below(items.len())]
     }
+
+    /// So many bytes.
+    pub fn bytes(&mut self, count: usize) -> Vec<u8> {
+        let words = count.div_ceil(8);
+        let mut bytes: Vec<u8> = (0..words).flat_map(|_| self.next().to_le_bytes()).collect();
+        bytes.truncate(count);
+        bytes
+    }
 }
 
 // ---- Trees ----
@@ -79,6 +87,14 @@ pub fn tree_record(kind: u8, weight: u32) -> [u8; TREE_RECORD] {
 /// A tree file of these kinds, all weights 1.
 pub fn tree_of_kinds(kinds: &[u8]) -> Vec<u8> {
     kinds.iter().flat_map(|&kind| tree_record(kind, 1)).collect()
+}
+
+/// A tree whose root opens so many async children, each of one step; all
+/// weights 1.
+pub fn flat_tree(children: usize) -> Vec<u8> {
+    let mut kinds = [1, 3].repeat(children);
+    kinds.push(3);
+    tree_of_kinds(&kinds)
 }
 
 fn weight(rng: &mut Rng, weights: Weights) -> u32 {
@@ -346,7 +362,7 @@ impl Plan {
 }
 
 /// Any event, mostly of the workers that take part.
-fn any_event(rng: &mut Rng, workers: usize) -> [u8; 2] {
+pub fn any_event(rng: &mut Rng, workers: usize) -> [u8; 2] {
     let one = |rng: &mut Rng| match rng.below(20) {
         0 => rng.next() as u8,
         1 => rng.between(14, 18) as u8,
@@ -409,6 +425,78 @@ pub fn event_bytes(tried: &[Tried]) -> Vec<u8> {
 /// The bytes of the accepted events only.
 pub fn accepted_bytes(tried: &[Tried]) -> Vec<u8> {
     tried.iter().filter(|t| t.refused == 0).flat_map(|t| t.event).collect()
+}
+
+/// An event that the run refuses now, with any of 8 to 12 that one can have.
+pub fn refused_event(rng: &mut Rng, run: &Run) -> [u8; 2] {
+    let number = rng.between(8, 12) as u32;
+    let all = (0..18).flat_map(|first| (0..18).map(move |second| [first, second]));
+    let refused: Vec<[u8; 2]> =
+        all.filter(|&[first, second]| run.judge(first, second) == number).collect();
+    if refused.is_empty() {
+        [16, 16]
+    } else {
+        rng.pick(&refused)
+    }
+}
+
+/// Accepted events to the end of a run, or such a list cut short or with
+/// something bad in it.
+pub fn events_to_record(rng: &mut Rng, policy: Policy, tree: &Tree) -> Vec<u8> {
+    let start = Run::new(policy, tree.clone());
+    let plan = Plan::any(rng);
+    let tried = drive(rng, &mut start.clone(), &plan);
+    let accepted = tried.iter().filter(|tried| tried.refused == 0);
+    let mut list: Vec<[u8; 2]> = accepted.map(|tried| tried.event).collect();
+    // Any event's place, or the one behind the last event.
+    let at = rng.between(0, list.len());
+    match rng.below(12) {
+        0..=3 => {}
+        4 | 5 => list.truncate(at),
+        // An event that is refused here.
+        6 | 7 => {
+            let mut run = start;
+            for &[first, second] in &list[..at] {
+                run.event(first, second).expect("the event was accepted");
+            }
+            list.insert(at, refused_event(rng, &run));
+        }
+        // Any event more, or in place of one, or one less.
+        8 => list.insert(at, any_event(rng, WORKERS)),
+        9 if at < list.len() => list[at] = any_event(rng, WORKERS),
+        10 if at < list.len() => {
+            list.remove(at);
+        }
+        // Any events, or any bytes, from here on.
+        _ => {
+            list.truncate(at);
+            let bytes = rng.percent(30);
+            for _ in 0..rng.between(1, 20) {
+                let any = [rng.next() as u8, rng.next() as u8];
+                list.push(if bytes { any } else { any_event(rng, WORKERS) });
+            }
+        }
+    }
+    list.concat()
+}
+
+/// Accepted events that run a flat tree of so many children to its end, with
+/// as many steals.
+pub fn all_stolen(policy: Policy, children: usize) -> Vec<[u8; 2]> {
+    let mut events = Vec::new();
+    let mut last = 0;
+    for _ in 0..children {
+        if policy == Policy::WorkFirst {
+            // The one opens a child, the other takes what follows it.
+            let other = 1 - last;
+            events.extend([[last, last], [other, last], [last, last]]);
+            last = other;
+        } else {
+            events.extend([[0, 0], [1, 0], [1, 1]]);
+        }
+    }
+    events.push([last, last]);
+    events
 }
 
 /// A whole event list for this tree: mostly acceptable events, some bad.

@@ -8,7 +8,9 @@ mod guarded;
 use std::fmt;
 
 use frame_tests::cover::WORKERS;
-use frame_tests::random::{damaged_tree, drive, tree, tree_of_kinds, tree_with, Plan, Rng, Weights, SHAPES};
+use frame_tests::random::{
+    all_stolen, damaged_tree, drive, flat_tree, tree, tree_of_kinds, tree_with, Plan, Rng, Weights, SHAPES,
+};
 use frame_tests::run::{Policy, Run};
 use guarded::Guarded;
 use library::{FrameEvent, FrameIdle, RunState, NOT_RUN, NO_STEP, RUN};
@@ -301,32 +303,14 @@ fn large_runs() {
     assert!(seen.finished > 50 && seen.nobody_idle > 10_000, "{seen:?}");
 }
 
-/// The root opens so many async children, each of one step.
-fn flat_tree(children: usize) -> Vec<u8> {
-    let mut kinds = [1, 3].repeat(children);
-    kinds.push(3);
-    tree_of_kinds(&kinds)
-}
-
 /// Every spawned task is stolen: 2,047 steals, the last begins phase 2,047.
 #[test]
 fn as_many_steals_as_a_run_can_have() {
     let bytes = flat_tree(2_047);
     for policy in [1, 2] {
-        let mut events = Vec::new();
-        for k in 0..2_047 {
-            if policy == 1 {
-                // The one opens a child, the other takes what follows it.
-                let (one, other) = if k % 2 == 0 { (0, 1) } else { (1, 0) };
-                events.extend([[one, one], [other, one], [one, one]]);
-            } else {
-                events.extend([[0, 0], [1, 0], [1, 1]]);
-            }
-        }
-        let last = if policy == 1 { 1 } else { 0 };
-        events.push([last, last]);
         let mut seen = Seen::default();
         let mut both = Both::start(&bytes, policy, policy.into());
+        let events = all_stolen(both.run.policy, 2_047);
         both.events(&events, 61, &mut seen);
         assert_eq!((seen.runs, seen.steals, seen.finished), (4_095, 2_047, 1), "policy {policy}");
         assert_eq!(both.state.steals, 2_047, "policy {policy}");

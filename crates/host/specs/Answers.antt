@@ -1,5 +1,6 @@
 -- The answers as the C interface's flat structs of numbers.
 use Prim.Native.Nat.{ℕ}
+use mathlib.Core.Bool.{cond}
 use Rattle.tree.specs.declared.Accepted.{Accepted}
 use Rattle.tasks.specs.declared.Task.{Task}
 use Rattle.tasks.specs.declared.FinishChild.{FinishChild}
@@ -13,12 +14,14 @@ use Rattle.state.specs.declared.Started.{Started}
 use Rattle.state.specs.declared.Idle.{Idle}
 use Rattle.state.specs.declared.RunState.{RunState}
 use Rattle.state.specs.Answers.{numberValue}
+use Rattle.record.specs.declared.Recorded.{Recorded}
 use Rattle.host.specs.declared.FrameTree.{FrameTree}
 use Rattle.host.specs.declared.FrameTask.{FrameTask}
 use Rattle.host.specs.declared.FrameRunning.{FrameRunning}
 use Rattle.host.specs.declared.FrameStart.{FrameStart}
 use Rattle.host.specs.declared.FrameEvent.{FrameEvent}
 use Rattle.host.specs.declared.FrameIdle.{FrameIdle}
+use Rattle.host.specs.declared.FrameRecord.{FrameRecord}
 
 abbrev pub flatTree : Accepted → FrameTree
 flatTree a = record { number = a .number; position = a .position; steps = a .steps }
@@ -49,3 +52,15 @@ flatEvent a = flatOutcome (a .outcome) (a .state)
 
 abbrev pub flatIdle : Idle → FrameIdle
 flatIdle a = record { set = a .set; count = a .count; lowest = a .lowest }
+
+abbrev pub flatRecord : Recorded → FrameRecord
+flatRecord a =
+    record {
+      number = a .number;
+      position = a .position;
+      logs = a .logs;
+      steals = a .steals;
+      finished = cond (a .finished) 1 0;
+      loads = a .loads;
+      heaviest = a .heaviest;
+    }

@@ -6,10 +6,11 @@ ghost use Rattle.rules.specs.Tree.{kinds, weights, kindAt, cont, finishBefore};
 ghost use Rattle.tree.specs.Answers.{acceptance};
 ghost use Rattle.tasks.specs.Answers.{taskOf, childOf, runningOf};
 ghost use Rattle.state.specs.Answers.{startAnswer, eventAnswer, idleAnswer};
-ghost use Rattle.host.specs.Answers.{flatTree, flatTask, flatChild, flatRunning, flatStart, flatEvent, flatIdle};
+ghost use Rattle.rules.specs.Calls.{recordCall};
+ghost use Rattle.record.specs.Answers.{answers};
+ghost use Rattle.host.specs.Answers.{flatTree, flatTask, flatChild, flatRunning, flatStart, flatEvent, flatIdle, flatRecord};
 use state::Outcome;
 use state::RunState;
-use state::TraceNumber;
 use tree::Step;
 
 // A tree's refusal and position, or its count of steps.
@@ -165,25 +166,14 @@ pub extern "C" fn frame_event(state: RunState, tree: &[u8], first: u8, second: u
             trace: 0,
             state,
         },
-        Outcome::Stole(number) => match number {
-            TraceNumber::ByOrdinal(ordinal) => FrameEvent {
-                number: 0,
-                position: 0,
-                what: 2,
-                phase: 0,
-                step: 0,
-                trace: ordinal.0,
-                state,
-            },
-            TraceNumber::BySerial(step) => FrameEvent {
-                number: 0,
-                position: 0,
-                what: 2,
-                phase: 0,
-                step: 0,
-                trace: step.0,
-                state,
-            },
+        Outcome::Stole(number) => FrameEvent {
+            number: 0,
+            position: 0,
+            what: 2,
+            phase: 0,
+            step: 0,
+            trace: state::number_of(number),
+            state,
         },
         Outcome::Refused(number) => FrameEvent {
             number: number as usize,
@@ -214,5 +204,45 @@ pub extern "C" fn frame_idle(state: RunState) -> FrameIdle
         set: a.set as usize,
         count: a.count as usize,
         lowest: a.lowest as usize,
+    }
+}
+
+// A recording's refusal and position, or the counts of log and trace records, whether every step has run (1 or 0), each
+// worker's load and the heaviest worker. What is not answered is 0.
+#[repr(C)]
+pub struct FrameRecord {
+    pub number: usize,
+    pub position: usize,
+    pub logs: usize,
+    pub steals: usize,
+    pub finished: usize,
+    pub loads: [u64; 16],
+    pub heaviest: usize,
+}
+
+// Records a list of events: the log and the trace stand at the front of the lent buffers then, and beyond them their old bytes.
+// A refusal changes no byte.
+#[no_mangle]
+pub extern "C" fn frame_record(
+    tree: &[u8],
+    policy: u8,
+    events: &[u8],
+    log: &mut [u8],
+    trace: &mut [u8],
+) -> FrameRecord
+    ensures answers { λ r. ⌜ r ≡ flatRecord (answers (recordCall 16 policy (now (tree .entry)) (now (events .entry)) (now (log .entry)) (now (trace .entry)))) ⌝ }
+    ensures log { λ r. ⌜ now (log .exit) ≡ recordCall 16 policy (now (tree .entry)) (now (events .entry)) (now (log .entry)) (now (trace .entry)) .log ⌝ }
+    ensures trace { λ r. ⌜ now (trace .exit) ≡ recordCall 16 policy (now (tree .entry)) (now (events .entry)) (now (log .entry)) (now (trace .entry)) .trace ⌝ }
+{
+    let recorded = record::record(tree, policy, events, log, trace);
+    let loads = recorded.loads;
+    FrameRecord {
+        number: recorded.number as usize,
+        position: recorded.position,
+        logs: recorded.logs,
+        steals: recorded.steals,
+        finished: recorded.finished as usize,
+        loads,
+        heaviest: recorded.heaviest,
     }
 }

@@ -4,6 +4,8 @@
 // A test program need not use them all.
 #![allow(dead_code)]
 
+use frame_tests::RecordAnswer;
+
 #[repr(C)]
 #[derive(Clone, Copy, Debug, PartialEq, Eq)]
 pub struct FrameTree {
@@ -74,8 +76,36 @@ pub struct FrameIdle {
     pub lowest: usize,
 }
 
+#[repr(C)]
+#[derive(Clone, Copy, Debug, PartialEq, Eq)]
+pub struct FrameRecord {
+    pub number: usize,
+    pub position: usize,
+    pub logs: usize,
+    pub steals: usize,
+    /// 1 if every step has run, else 0.
+    pub finished: usize,
+    pub loads: [u64; 16],
+    pub heaviest: usize,
+}
+
+/// The simulator's answer as the library gives it.
+impl From<RecordAnswer> for FrameRecord {
+    fn from(answer: RecordAnswer) -> FrameRecord {
+        FrameRecord {
+            number: answer.number as usize,
+            position: answer.position,
+            logs: answer.log_count,
+            steals: answer.trace_count,
+            finished: answer.finished.into(),
+            loads: answer.loads,
+            heaviest: answer.heaviest,
+        }
+    }
+}
+
 mod c {
-    use super::{FrameEvent, FrameIdle, FrameRunning, FrameStart, FrameTask, FrameTree, RunState};
+    use super::{FrameEvent, FrameIdle, FrameRecord, FrameRunning, FrameStart, FrameTask, FrameTree, RunState};
 
     extern "C" {
         pub fn frame_tree(tree: *const u8, len: usize) -> FrameTree;
@@ -88,6 +118,17 @@ mod c {
         pub fn frame_start(tree: *const u8, len: usize, policy: u8) -> FrameStart;
         pub fn frame_event(state: RunState, tree: *const u8, len: usize, first: u8, second: u8) -> FrameEvent;
         pub fn frame_idle(state: RunState) -> FrameIdle;
+        pub fn frame_record(
+            tree: *const u8,
+            tree_len: usize,
+            policy: u8,
+            events: *const u8,
+            events_len: usize,
+            log: *mut u8,
+            log_len: usize,
+            trace: *mut u8,
+            trace_len: usize,
+        ) -> FrameRecord;
     }
 }
 
@@ -131,4 +172,20 @@ pub fn event(state: RunState, tree: &[u8], first: u8, second: u8) -> FrameEvent 
 
 pub fn idle(state: RunState) -> FrameIdle {
     unsafe { c::frame_idle(state) }
+}
+
+pub fn record(tree: &[u8], policy: u8, events: &[u8], log: &mut [u8], trace: &mut [u8]) -> FrameRecord {
+    unsafe {
+        c::frame_record(
+            tree.as_ptr(),
+            tree.len(),
+            policy,
+            events.as_ptr(),
+            events.len(),
+            log.as_mut_ptr(),
+            log.len(),
+            trace.as_mut_ptr(),
+            trace.len(),
+        )
+    }
 }

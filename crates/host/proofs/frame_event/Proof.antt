@@ -1,13 +1,17 @@
 -- `host::frame_event` meets its contract: it flattens what `event` answers, case by case. Assumes nothing.
+use Prim.Native.Nat.{ℕ}
 use mathlib.Core.Path.{ap, sym, _∙_}
-use Rattle.state.specs.declared.TraceNumber.{TraceNumber}
 use Rattle.state.specs.declared.Outcome.{Outcome}
-use Rattle.state.specs.declared.Outcome.the-variants.{Stole}
+use Rattle.state.specs.declared.RunState.{RunState}
 use Rattle.host.specs.declared.FrameEvent.{FrameEvent}
 use Rattle.host.specs.Answers.{flatOutcome, flatEvent}
 use borrow.Author.Needs.{needs}
 use Rattle.host.proofs.frame_event.Statement.{statement}
 use Rattle.host.proofs.frame_event.Tie as tie
+
+-- A steal, by its trace number.
+abbrev stolen : ℕ → RunState → FrameEvent
+stolen x s = record { number = 0; position = 0; what = 2; phase = 0; step = 0; trace = x; state = s }
 
 event-requires : tie.Need-event-requires
 event-requires c κs = search needs
@@ -18,17 +22,14 @@ enum-known-outcome c = search needs
 enum-known-outcome-2 : tie.Need-enum-known-outcome-2
 enum-known-outcome-2 c = search needs
 
-enum-known-number : tie.Need-enum-known-number
-enum-known-number c = search needs
-
-enum-known-number-2 : tie.Need-enum-known-number-2
-enum-known-number-2 c = search needs
+number-of-requires : tie.Need-number-of-requires
+number-of-requires c κs = search needs
 
 enum-known-outcome-3 : tie.Need-enum-known-outcome-3
 enum-known-outcome-3 c = search needs
 
-cast-t16 : tie.Need-cast-t16
-cast-t16 c = search needs
+cast-t14 : tie.Need-cast-t14
+cast-t14 c = search needs
 
 returns : tie.Need-returns
 returns c =
@@ -37,18 +38,12 @@ returns c =
 
 returns-2 : tie.Need-returns-2
 returns-2 c =
-    ap (λ (x : TraceNumber). flatOutcome (Stole x) (c .before .before .before .before .before .before .before .event .result .state)) (sym (c .before .number .given .1))
-    ∙ (ap (λ (o : Outcome). flatOutcome o (c .before .before .before .before .before .before .before .event .result .state)) (sym (c .before .before .before .before .outcome2 .given .1))
-    ∙ ap {B = FrameEvent} flatEvent (c .before .before .before .before .before .before .before .event .ensures))
+    ap (λ (x : ℕ). stolen x (c .before .before .before .before .before .event .result .state)) (c .number-of .ensures)
+    ∙ (ap (λ (o : Outcome). flatOutcome o (c .before .before .before .before .before .event .result .state)) (sym (c .before .before .outcome2 .given .1))
+    ∙ ap {B = FrameEvent} flatEvent (c .before .before .before .before .before .event .ensures))
 
 returns-3 : tie.Need-returns-3
 returns-3 c =
-    ap (λ (x : TraceNumber). flatOutcome (Stole x) (c .before .before .before .before .before .before .before .event .result .state)) (sym (c .before .number2 .given .1))
-    ∙ (ap (λ (o : Outcome). flatOutcome o (c .before .before .before .before .before .before .before .event .result .state)) (sym (c .before .before .before .before .outcome2 .given .1))
-    ∙ ap {B = FrameEvent} flatEvent (c .before .before .before .before .before .before .before .event .ensures))
-
-returns-4 : tie.Need-returns-4
-returns-4 c =
     ap (λ (o : Outcome). flatOutcome o (c .before .before .before .before .event .result .state)) (sym (c .before .outcome3 .given .1))
     ∙ ap {B = FrameEvent} flatEvent (c .before .before .before .before .event .ensures)
 
@@ -59,11 +54,9 @@ frame-event-spec =
     event-requires
     enum-known-outcome
     enum-known-outcome-2
-    enum-known-number
-    enum-known-number-2
+    number-of-requires
     enum-known-outcome-3
-    cast-t16
+    cast-t14
     returns
     returns-2
-    returns-3
-    returns-4)
+    returns-3)
