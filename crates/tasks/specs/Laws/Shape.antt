@@ -99,9 +99,6 @@ module _ {n : ℕ} {end : ℕ → Bool} {size : ℕ → ℕ} (sh : Shape n end s
   unfolding Nested
   nested i j h w = tree-ind Nested nested-end nested-parts i h j w
 
-  pub inside-trans : (i j k : ℕ) → i < n → Inside size i j → Inside size j k → Inside size i k
-  inside-trans i j k h w v = (omega arith, omega (arith, nested i j h w))
-
   -- Every step is inside step 0.
   pub inside-first : (j : ℕ) → j < n → Inside size 0 j
   inside-first j h = (omega arith, omega (arith, sh .whole))

@@ -11,7 +11,7 @@ use lib.ListN.{length, take, drop, getD, set, replicate, length-append}
 use lib.Dec.{eqb}
 use borrow.Author.Tests.{eqb-true, eqb-false}
 use Rattle.rules.specs.Bytes.{records, Verdict, accepted, sum, Walked, walk}
-use Rattle.rules.specs.Tree.{kinds, weights, ordinal, taskEnd}
+use Rattle.rules.specs.Tree.{kinds, weights, taskEnd}
 use Rattle.rules.specs.Scheduling.{mostWorkers, Worker, Run, start, workerAt, isRun, oldest, steal, judgeEvent, nextRun}
 use Rattle.rules.specs.Traces.{traceNumber, traceBytes, entryBytes, loads}
 use Rattle.rules.specs.Calls.{startVerdict, eventCall, recordWalk}
@@ -19,14 +19,13 @@ use Rattle.tree.specs.declared.Phase.{Phase}
 use Rattle.tree.specs.declared.Step.{Step}
 use Rattle.tree.specs.Laws.Records.{length-records, field-at}
 use Rattle.tree.specs.Laws.Walks.{walk-on, walk-stop, walk-end}
-use Rattle.tasks.specs.Laws.Shape.{Shape}
-use Rattle.tasks.specs.Laws.Frames.{endAt, sizeAt, Frame, accepted-frame}
+use Rattle.tasks.specs.Laws.Frames.{Frame, accepted-frame}
 use Rattle.tables.specs.Answers.{weightBefore}
 use Rattle.runs.specs.Invariant.{Invariant}
 use Rattle.runs.specs.Laws.Weights.{end-within}
-use Rattle.runs.specs.Laws.Moves.{some-holds, ran as ranBy, run-is, enriched, steal-thief, victim-rich, first-within, second-within, run-held, event-runs, event-steals}
+use Rattle.runs.specs.Laws.Moves.{ran as ranBy, run-is, enriched, steal-thief, victim-rich, first-within, second-within, run-held, event-runs, event-steals}
 use Rattle.runs.specs.Laws.Always.{start-invariant, event-keeps}
-use Rattle.runs.specs.Laws.Consequences.{runs-most, steals-most, phases-count}
+use Rattle.runs.specs.Laws.Consequences.{runs-most, steals-most}
 use Rattle.state.specs.declared.RunState.{RunState}
 use Rattle.state.specs.declared.TraceNumber.{TraceNumber}
 use Rattle.state.specs.declared.Outcome.{Outcome}
@@ -36,7 +35,6 @@ use Rattle.state.specs.Laws.Cases.{start-tree-accepts}
 use Rattle.walks.specs.declared.Ended.{Ended}
 use Rattle.live.specs.Tie.{Shows, heldStep, told}
 use Rattle.live.specs.Follows.{number-traced}
-use Rattle.live.specs.Laws.Hops.{ordinal-most}
 use Rattle.live.specs.Laws.Moves.{Known, held-some}
 use Rattle.live.specs.Laws.Events.{start-shows, event-tells, event-shows}
 use Rattle.outputs.specs.Answers.{recordPut, loadMoved}
@@ -149,16 +147,6 @@ module _ (p : ℕ) (ks : List ℕ) (r : Run) (e : List ℕ) where
       let by = as-refusal _ _ _ _ (eqb (judgeEvent ks r e) 0) (isRun e) x t in
       (eqb-false (judgeEvent ks r e) 0 (by .0), by .1)
 
--- The number of a trace record is at most the step.
-number-most : (p : ℕ) (ks : List ℕ) → Shape (length ks) (endAt ks) (sizeAt ks) → (step : ℕ) → step < length ks
-    → traceNumber p ks step ≤ step
-unfolding traceNumber
-number-most p ks sh step h = by (eqb p 1)
-  where
-    by : (b : Bool) → cond b (ordinal ks step) step ≤ step
-    by true = ordinal-most ks sh step h
-    by false = omega arith
-
 -- ---- the loop
 
 module _ (p : ℕ) (tree events : List ℕ) (accepts : startVerdict p tree .number ≡ 0) where
@@ -259,22 +247,8 @@ module _ (p : ℕ) (tree events : List ℕ) (accepts : startVerdict p tree .numb
         ran-count =
             omega (arith, length-append (so .run .log) (record { phase = workerAt (so .run) a .phase; step = step } ∷ []), so .logCount)
 
-        pub ran-room : (logs < length (kinds tree)) × (phase < 65536) × (step < length (kinds tree))
-        ran-room =
-            let r = so .run in
-            let inv = so .invariant in
-            let small : a < mostWorkers = rw (so .shows .workers) at (runs .small) in (
-              omega (arith, ran-count, runs-most p (kinds tree) (frame .some) (frame .shape) ran-run (ran-known .inv)),
-              omega (
-                arith,
-                runs .latest,
-                inv .workers a .phase (some-holds (workerAt r a) step (runs .holding)),
-                phases-count p (kinds tree) (frame .some) (frame .shape) r inv,
-                steals-most p (kinds tree) (frame .some) (frame .shape) r inv,
-                frame .most,
-              ),
-              held-some (known s r inv (so .shows)) a step small (runs .holding) .1,
-            )
+        pub ran-room : logs < length (kinds tree)
+        ran-room = omega (arith, ran-count, runs-most p (kinds tree) (frame .some) (frame .shape) ran-run (ran-known .inv))
 
         pub ran-next : Recording p tree events (k + 1) (eventAnswer s tree a b .state)
             (recordPut log logs (phase % 256) (phase / 256 % 256) step) trace ls (logs + 1) steals
@@ -292,7 +266,7 @@ module _ (p : ℕ) (tree events : List ℕ) (accepts : startVerdict p tree .numb
               stealCount = so .stealCount;
               logged = rw (← runs .latest, entries-one entries phase step)
                   (put-front log logs (phase % 256) (phase / 256 % 256) step (entryBytes entries)
-                  (omega (arith, length-entries entries, so .logCount)) (omega (arith, so .logRoom, ran-room .0, frame .most)) (so .logged));
+                  (omega (arith, length-entries entries, so .logCount)) (omega (arith, so .logRoom, ran-room, frame .most)) (so .logged));
               traced = so .traced;
               loaded = so .loaded;
               whole = so .whole;
@@ -332,7 +306,7 @@ module _ (p : ℕ) (tree events : List ℕ) (accepts : startVerdict p tree .numb
             let both = held-some stole-known a taken small thief in
             (held ∙ both .0, both .1)
 
-        pub stole-room : (a < mostWorkers) × (b < mostWorkers) × (2 * steals + 2 < length (kinds tree)) × (numberValue number < 65536)
+        pub stole-room : (a < mostWorkers) × (b < mostWorkers) × (2 * steals + 2 < length (kinds tree))
             × (step < length (kinds tree)) × (step < taskEnd (kinds tree) step) × (taskEnd (kinds tree) step ≤ length (kinds tree))
         stole-room =
             let within : step < length (kinds tree) = omega (arith, taken-held) in
@@ -340,7 +314,6 @@ module _ (p : ℕ) (tree events : List ℕ) (accepts : startVerdict p tree .numb
               small,
               few,
               omega (arith, stole-count, steals-most p (kinds tree) (frame .some) (frame .shape) stole-run (stole-known .inv)),
-              omega (arith, theft .numbered, number-most p (kinds tree) (frame .shape) taken (taken-held .1), taken-held .1, frame .most),
               within,
               end .0,
               end .1,

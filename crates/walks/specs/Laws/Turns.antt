@@ -72,7 +72,7 @@ module _ (p : ℕ) (tree events : List ℕ) (accepts : startVerdict p tree .numb
         pub ran-fits : (4 * logs + 4 ≤ length log) × (logs < 4095)
         ran-fits =
             let room = ran-room p tree events accepts k s log trace ls logs (s .steals) so more a b first second (phase .0) (step .0) (outcome ∙ ran) in
-            (omega (arith, room .0, so .logRoom, start-frame p tree accepts .most), omega (arith, room .0, start-frame p tree accepts .most))
+            (omega (arith, room, so .logRoom, start-frame p tree accepts .most), omega (arith, room, start-frame p tree accepts .most))
 
         pub ran-turn : (longer : List ℕ) → longer ≡ recordPut log logs (phase .0 % 256) (phase .0 / 256 % 256) (step .0)
             → Recording p tree events (k + 1) after longer trace ls (logs + 1) (after .steals)
@@ -86,7 +86,7 @@ module _ (p : ℕ) (tree events : List ℕ) (accepts : startVerdict p tree .numb
         taken : step ≡ getD (eventAnswer s tree a b .state .held) a 0
         taken = held ∙ ap (λ (x : RunState). getD (x .held) a 0) (sym state)
 
-        room : (a < 16) × (b < 16) × (2 * s .steals + 2 < length (kinds tree)) × (numberValue number < 65536)
+        room : (a < 16) × (b < 16) × (2 * s .steals + 2 < length (kinds tree))
             × (step < length (kinds tree)) × (step < taskEnd (kinds tree) step) × (taskEnd (kinds tree) step ≤ length (kinds tree))
         room = stole-room p tree events accepts k s log trace ls logs (s .steals) so more a b first second number (outcome ∙ stole) step taken
 
@@ -103,18 +103,18 @@ module _ (p : ℕ) (tree events : List ℕ) (accepts : startVerdict p tree .numb
             (longer : length (kinds tree) < length sums) (added : Sums (weights tree) sums (length (kinds tree)))
             (small : weightBefore (weights tree) (length (kinds tree)) < 18446744073709551616) where
           end : getD ends step 0 ≡ taskEnd (kinds tree) step
-          end = right step (omega (arith, room .4, sized))
+          end = right step (omega (arith, room .3, sized))
 
           between : weightBetween ends sums step ≡ partWeight (kinds tree) (weights tree) step
           unfolding weightBetween partWeight
-          between = rw (end, added step (omega (arith, room .4)), added (taskEnd (kinds tree) step) (room .6)) refl
+          between = rw (end, added step (omega (arith, room .3)), added (taskEnd (kinds tree) step) (room .5)) refl
 
           pub stole-movable : Movable ends sums ls a b step
           stole-movable =
               record {
-                inTable = omega (arith, room .4, sized);
-                inSums = (omega (arith, room .4), omega (arith, end, room .6));
-                rises = rw (end, added step (omega (arith, room .4)), added (taskEnd (kinds tree) step) (room .6)) (weight .0);
+                inTable = omega (arith, room .3, sized);
+                inSums = (omega (arith, room .3), omega (arith, end, room .5));
+                rises = rw (end, added step (omega (arith, room .3)), added (taskEnd (kinds tree) step) (room .5)) (weight .0);
                 leaves = rw between (weight .1);
                 fits = rw between (omega (arith, weight .2));
               }
