@@ -1,7 +1,7 @@
 // What runs and steals do to the deques of all workers, which are kept in one byte for each step (document 01, "Scheduling"):
 // `place[j]` is NOT_RUN, or RUN, or the number of the worker in whose deque the step is that step j pushed when it ran. A deque is
 // in the order of its pushers, so its newest step is that of its highest pusher, its oldest that of its lowest. No links are
-// kept: any bytes are safe to scan.
+// kept: any bytes are safe to scan. Where a table of openers is lent, the newest step is found by it instead.
 ghost use mathlib.Core.Path.{_≡_};
 ghost use Prim.Native.Nat.{_≤_, _<_};
 ghost use lib.ListN.{length};

@@ -1,4 +1,4 @@
-// The walk over a list of events: each goes through the same function as a single event, on arrays of the walk's own and with the
+// The walk over a list of events: each goes through the same functions as a single event, on arrays of the walk's own and with the
 // tree's tables, which are filled once. What it comes to is a refusal with its position, or the log, the trace and the loads.
 ghost use mathlib.Core.Path.{_≡_};
 ghost use Prim.Native.Nat.{_+_, _*_, _/_, _%_, _≤_, _<_};
