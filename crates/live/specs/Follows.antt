@@ -13,6 +13,7 @@ use Rattle.rules.specs.Tree.{kinds, ordinal}
 use Rattle.rules.specs.Scheduling.{workFirst, mostWorkers, Run, start, idleSet, idleCount, idleLowest}
 use Rattle.rules.specs.Traces.{traceNumber}
 use Rattle.rules.specs.Calls.{startVerdict, eventCall, afterEvents}
+use Rattle.tasks.specs.Laws.Admission.{start-tree-accepts}
 use Rattle.tasks.specs.Laws.Frames.{Frame, accepted-frame}
 use Rattle.runs.specs.Invariant.{Invariant}
 use Rattle.runs.specs.Laws.Always.{start-invariant, event-keeps, always}
@@ -20,7 +21,6 @@ use Rattle.state.specs.declared.RunState.{RunState}
 use Rattle.state.specs.declared.Outcome.{Outcome}
 use Rattle.state.specs.declared.TraceNumber.the-variants.{ByOrdinal, BySerial}
 use Rattle.state.specs.Answers.{numberBy, numberValue, fresh, startAnswer, eventAnswer, idleAnswer}
-use Rattle.state.specs.Laws.Cases.{start-tree-accepts}
 use Rattle.live.specs.Tie.{Shows, toldAll, outcomes, stateAfter}
 use Rattle.live.specs.Laws.Events.{start-shows, event-tells, event-shows, idle-set-shown, idle-count-shown, idle-lowest-shown}
 

@@ -1,14 +1,27 @@
-// What recording and replay write and answer beside their rules: records of four bytes, the bytes that are copied out, loads and
-// the heaviest worker (document 01, "Trace, log, run list").
+// What recording and replay share beside their rules: whether what they are given is whole records, the records of four bytes
+// that they write, the bytes that are copied out, loads and the heaviest worker (document 01, "Trace, log, run list" and
+// "Refusals").
 ghost use mathlib.Core.Path.{_≡_};
 ghost use Prim.Native.Nat.{_+_, _*_, _≤_, _<_};
 ghost use lib.ListN.{length, take, getD};
+ghost use Rattle.rules.specs.Bytes.{wholeRecords};
 ghost use Rattle.rules.specs.Traces.{heaviest as heaviestOf};
 ghost use Rattle.rules.specs.Calls.{written};
 ghost use Rattle.outputs.specs.Answers.{recordPut, loadMoved};
 
 // Bytes of a record of a log, a trace or a run list.
 pub const RECORD: usize = 4;
+
+// Whether bytes are whole records of a width, and not too many.
+pub fn whole_records(bytes: &[u8], width: usize, most: usize) -> bool
+    requires { ⌜ 1 ≤ width ⌝ }
+    ensures { λ r. ⌜ r ≡ wholeRecords width most (now (bytes .entry)) ⌝ }
+{
+    if bytes.len() % width != 0 {
+        return false;
+    }
+    bytes.len() / width <= most
+}
 
 // Stores record k: two bytes and a number of two bytes.
 pub fn put_record(bytes: &mut [u8], k: usize, first: u8, second: u8, number: usize)

@@ -2,7 +2,6 @@
 // and "Refusals"). Log and trace are written to arrays of the call's own, and copied out once every event is accepted.
 ghost use mathlib.Core.Path.{_≡_};
 ghost use Prim.Native.Nat.{_≤_};
-ghost use Rattle.rules.specs.Bytes.{wholeRecords};
 ghost use Rattle.rules.specs.Calls.{recordCall};
 ghost use Rattle.record.specs.Answers.{answers, refusal, tooShort};
 use walks::EVENT;
@@ -37,16 +36,6 @@ fn refused(number: u8, position: usize) -> Recorded
     }
 }
 
-// Whether the events are whole records, and not too many.
-fn listed(events: &[u8]) -> bool
-    ensures { λ r. ⌜ r ≡ wholeRecords 2 8192 (now (events .entry)) ⌝ }
-{
-    if events.len() % EVENT != 0 {
-        return false;
-    }
-    events.len() / EVENT <= MOST_EVENTS
-}
-
 // Whether a lent output is short, for so many steps and by the lengths of log and trace.
 fn too_short(steps: usize, log: usize, trace: usize) -> bool
     requires { ⌜ (1 ≤ steps) × (steps ≤ 4095) ⌝ }
@@ -68,7 +57,7 @@ pub fn record(tree: &[u8], policy: u8, events: &[u8], log: &mut [u8], trace: &mu
     if started.number != 0 {
         return refused(started.number, started.position);
     }
-    if !listed(events) {
+    if !outputs::whole_records(events, EVENT, MOST_EVENTS) {
         return refused(6, 0);
     }
     let n = tree::steps(tree);

@@ -3,14 +3,14 @@
 -- from i" here; it is what a phase that begins with i covers before anything is stolen from it.
 use Prim.Native.Nat.{ℕ, suc, _+_, _-_, _≤_, _<_}
 use mathlib.Core.Path.{_≡_}
-use mathlib.Core.Bool.{Bool, true, false, cond, not}
+use mathlib.Core.Bool.{Bool, true, false, cond}
 use mathlib.Core.List.{List, [], _∷_, _++_, map}
 use mathlib.Core.Option.{none, some}
 use lib.ListN.{length, take}
 use lib.Dec.{eqb}
 use Rattle.rules.specs.Bytes.{all, any, sum}
 use Rattle.rules.specs.Tree.{kindAt, isFinish, isEnd, taskEnd, cont}
-use Rattle.rules.specs.Scheduling.{workFirst, Hand, pushes, pop, Phase, phaseAt, Worker, Entry, Run, workerAt, hasRun, holdsStep}
+use Rattle.rules.specs.Scheduling.{workFirst, Hand, pushes, pop, Phase, phaseAt, Entry, Run, workerAt, hasRun, holdsStep}
 use Rattle.rules.specs.Traces.{lastStolen, runAlone}
 
 -- ---- what a phase has run, and what it has still to run

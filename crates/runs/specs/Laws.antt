@@ -1,6 +1,6 @@
 -- What need not be believed: everything here is proved from the rules.
---     Counts         lists: intervals of numbers, members, sums
---     Weights        sums over parts of the tree: steps, sizes, opening steps; what running a step does to them
+--     Counts         truth values; lists: intervals of numbers, members, sums
+--     Weights        parts of the tree: the steps inside; sums of steps, sizes, opening steps; what running a step does to them
 --     Phase          one phase alone: its facts at its beginning, after it runs a step and after a steal from it
 --     Waiting        the step after a finish child
 --     Moves          what a run or a steal changes in a run's state, and what it leaves

@@ -12,7 +12,6 @@ ghost use Rattle.state.specs.Answers.{Hints, Small, stateOf, answerOf, z
 use moves::NOT_RUN;
 use moves::Pusher;
 use tables::wide;
-use tasks::HELP_FIRST;
 use tasks::WORK_FIRST;
 use tree::END;
 use tree::MOST_STEPS;
@@ -172,25 +171,11 @@ fn first_state(policy: u8) -> RunState
 pub fn start(tree: &[u8], policy: u8) -> Started
     ensures { λ r. ⌜ r ≡ startAnswer policy (now (tree .entry)) ⌝ }
 {
-    if policy < WORK_FIRST {
+    let admitted = tasks::admit(tree, policy);
+    if admitted.number != 0 {
         return Started {
-            number: 1,
-            position: 0,
-            state: no_state(),
-        };
-    }
-    if HELP_FIRST < policy {
-        return Started {
-            number: 1,
-            position: 0,
-            state: no_state(),
-        };
-    }
-    let accepted = tree::accept(tree);
-    if accepted.number != 0 {
-        return Started {
-            number: accepted.number,
-            position: accepted.position,
+            number: admitted.number,
+            position: admitted.position,
             state: no_state(),
         };
     }

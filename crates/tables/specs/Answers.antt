@@ -1,12 +1,13 @@
 -- What the tables of a tree have. `ks` are the tree's kinds and `ws` its weights.
 use Prim.Native.Nat.{ℕ, suc, pred, _≤_, _<_}
 use mathlib.Core.Path.{_≡_}
-use mathlib.Core.Bool.{cond, _&&_}
+use mathlib.Core.Bool.{false, cond, _&&_}
 use mathlib.Core.List.{List}
+use mathlib.Core.Logic.{_⊎_}
 use mathlib.Core.Option.{none, some}
 use lib.ListN.{getD}
 use Rattle.rules.specs.Bytes.{count, sum}
-use Rattle.rules.specs.Tree.{kindAt, isEnd, isFinish, taskEnd, finishBefore}
+use Rattle.rules.specs.Tree.{kindAt, isEnd, isFinish, taskEnd, cont, finishBefore}
 
 -- For each of the first m steps the step after its task's end.
 abbrev pub Ends : List ℕ → List ℕ → ℕ → Type 0
@@ -14,6 +15,9 @@ Ends ks ends m = (i : ℕ) → i < m → getD ends i 0 ≡ taskEnd ks i
 
 -- Step q is the opener of step j: the opening step whose child or whose continuation j is. What is good to know of it:
 pub record Opener (ks : List ℕ) (q j : ℕ) : Type 0 where
+  -- j is its child or its continuation,
+  pub opens : isEnd (kindAt ks q) ≡ false
+  pub which : (j ≡ suc q) ⊎ (j ≡ cont ks q)
   -- it stands before j,
   pub before : q < j
   -- the task of every step between has ended before j,

@@ -1,17 +1,28 @@
--- What the functions on steps and tasks answer, in the rules' words.
+-- What the functions on a policy, steps and tasks answer, in the rules' words.
 use Prim.Native.Nat.{ℕ}
 use mathlib.Core.Bool.{cond, _||_}
 use mathlib.Core.List.{List}
 use mathlib.Core.Option.{Option, none, some}
 use lib.ListN.{length}
-use lib.Dec.{leb}
-use Rattle.rules.specs.Tree.{kindAt, isEnd, task, ordinal}
+use lib.Dec.{eqb, leb}
+use Rattle.rules.specs.Tree.{kinds, kindAt, isEnd, task, ordinal}
 use Rattle.rules.specs.Scheduling.{holds, pushes}
+use Rattle.rules.specs.Calls.{startVerdict}
+use Rattle.tree.specs.declared.Accepted.{Accepted}
 use Rattle.tasks.specs.declared.Task.{Task}
 use Rattle.tasks.specs.declared.FinishChild.{FinishChild}
 use Rattle.tasks.specs.declared.FinishChild.the-variants.{From, Nothing}
 use Rattle.tasks.specs.declared.Running.{Running}
 use Rattle.tasks.specs.declared.Running.the-variants.{Opens, Ends}
+
+-- The refusal and position of a policy and a tree, or the tree's count of steps; what is not answered is 0.
+unfoldable pub admission : ℕ → List ℕ → Accepted
+admission p tree =
+    record {
+      number = startVerdict p tree .number;
+      position = startVerdict p tree .position;
+      steps = cond (eqb (startVerdict p tree .number) 0) (length (kinds tree)) 0;
+    }
 
 -- The task of a step and the step's ordinal in it.
 unfoldable pub taskOf : List ℕ → ℕ → Task

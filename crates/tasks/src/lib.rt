@@ -1,12 +1,13 @@
 // Steps and tasks of a tree (document 01, "The tree file"), and what running a step holds and pushes ("Scheduling"). Every
 // function takes any bytes and any step, stays within the slice and ends. A scan reads only the records between the step
-// asked for and the answer.
+// asked for and the answer; `admit` alone reads the tree whole.
 ghost use mathlib.Core.Path.{_≡_};
 ghost use mathlib.Core.Bool.{cond};
 ghost use Rattle.rules.specs.Tree.{kinds, cont as contAt, ordinal, finishBefore};
 ghost use Rattle.rules.specs.Scheduling.{pushesChild};
-ghost use Rattle.tasks.specs.Answers.{taskOf, childOf, runningOf};
+ghost use Rattle.tasks.specs.Answers.{admission, taskOf, childOf, runningOf};
 use tree::ASYNC;
+use tree::Accepted;
 use tree::END;
 use tree::FINISH;
 use tree::Ordinal;
@@ -18,6 +19,27 @@ use tree::kind;
 pub const WORK_FIRST: u8 = 1;
 
 pub const HELP_FIRST: u8 = 2;
+
+// Judges a policy and a tree: refusals 1 to 5, or how many steps the tree has.
+pub fn admit(tree: &[u8], policy: u8) -> Accepted
+    ensures { λ r. ⌜ r ≡ admission policy (now (tree .entry)) ⌝ }
+{
+    if policy < WORK_FIRST {
+        return Accepted {
+            number: 1,
+            position: 0,
+            steps: 0,
+        };
+    }
+    if HELP_FIRST < policy {
+        return Accepted {
+            number: 1,
+            position: 0,
+            steps: 0,
+        };
+    }
+    tree::accept(tree)
+}
 
 // The step after the end of the child that a step opens: its continuation. Where the tree has no such step, or ends before
 // the child does, the count of steps.

@@ -1,11 +1,11 @@
 -- What need not be believed: everything here is proved from the rules.
---     Bools        two laws of truth values
 --     Counts       the numbers of an interval
---     Records      records of any width; the tree's kinds and weights as bytes
+--     Records      records of any width, fields of two bytes; the tree's kinds and weights as bytes
 --     Walks        walks over any kind of record
+--     Verdicts     conditions judged one after the other
 --     Acceptance   accepting a tree, as a loop does it
-pub mod Bools
 pub mod Counts
 pub mod Records
 pub mod Walks
+pub mod Verdicts
 pub mod Acceptance

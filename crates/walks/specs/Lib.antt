@@ -1,5 +1,3 @@
 -- The walk over a list of events.
---     Answers   what the tables say of a stolen step's weight
---     Laws      loads, and what the loop over the events holds (proved)
-pub mod Answers
+--     Laws   what the loop over the events holds (proved)
 pub mod Laws

@@ -8,7 +8,7 @@ ghost use Rattle.rules.specs.Calls.{startVerdict};
 ghost use Rattle.tables.specs.Answers.{Ends, Openers, Sums};
 ghost use Rattle.state.specs.Answers.{numberValue, fresh};
 ghost use Rattle.outputs.specs.Answers.{recordPut, loadMoved};
-ghost use Rattle.walks.specs.Answers.{weightBetween, Movable};
+ghost use Rattle.loads.specs.Answers.{weightBetween, Movable};
 ghost use Rattle.walks.specs.Laws.Recording.{Walks};
 use state::Outcome;
 use state::RunState;
@@ -56,10 +56,8 @@ fn trace_steal(
     ensures trace { λ r. ⌜ now (trace .exit) ≡ recordPut (now (trace .entry)) k thief victim (numberValue number) ⌝ }
     ensures loads { λ r. ⌜ now (loads .exit) ≡ loadMoved (now (loads .entry)) thief victim (weightBetween (now (ends .entry)) (now (sums .entry)) step) ⌝ }
 {
-    let end = wide(ends[step]);
-    let weight = sums[end] - sums[step];
     outputs::put_record(trace, k, thief, victim, state::number_of(number));
-    outputs::move_load(loads, thief as usize, victim as usize, weight);
+    loads::move_part(ends, sums, loads, thief as usize, victim as usize, step);
 }
 
 // Runs the events from the start on, up to the first that is refused, with the tree's tables.

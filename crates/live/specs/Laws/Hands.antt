@@ -2,7 +2,7 @@
 -- and that they leave every other.
 use Prim.Native.Nat.{ℕ, suc, _+_, _%_, _≤_, _<_}
 use mathlib.Core.Path.{_≡_, refl, sym, ap, _∙_}
-use mathlib.Core.Bool.{Bool, true, true≢false, false, cond, _||_, or-assoc, or-true, or-false}
+use mathlib.Core.Bool.{Bool, true, true≢false, false, cond, _||_, or-true, or-false}
 use mathlib.Core.List.{List, [], _∷_, map, dropLast, head?, cons-ne-nil}
 use mathlib.Core.Option.{Option, none, some, Option·none-ne-some}
 use native.Mathlib.Decide.{ℕ-discrete, decLt}
@@ -16,15 +16,15 @@ use Rattle.rules.specs.Tree.{kindAt, isEnd, ordinal, taskEnd, cont}
 use Rattle.rules.specs.Scheduling.{workFirst, holds, pushes, pop, afterRun, Worker, oldest}
 use Rattle.tasks.specs.Laws.Shape.{Shape}
 use Rattle.tasks.specs.Laws.Frames.{endAt, sizeAt}
-use Rattle.tasks.specs.Laws.Places.{ordinal-child, ordinal-cont}
-use Rattle.runs.specs.Laws.Counts.{has-head}
-use Rattle.runs.specs.Laws.Phase.{first-holds, first-pushes}
+use Rattle.tasks.specs.Laws.Places.{ordinal-child, ordinal-cont, ordinal-most}
+use Rattle.runs.specs.Laws.Counts.{has-head, any-one}
+use Rattle.runs.specs.Laws.Phase.{first-holds, first-pushes, oldest-last, after-ended, after-kept}
 use Rattle.runs.specs.Laws.Weights.{end-within, nested-end, holds-inside, pushes-inside}
 use Rattle.moves.specs.Answers.{find, marked, newestMark, oldestMark, childrenBetween, popped, robbed}
 use Rattle.state.specs.Answers.{ordinalFrom}
 use Rattle.live.specs.Tie.{Line, Hops, Linked, HandShown}
 use Rattle.live.specs.Laws.Scans.{newest-found, newest-nothing, oldest-found, oldest-nothing}
-use Rattle.live.specs.Laws.Hops.{hops-more, hops-ordinal, hops-children, ordinal-most}
+use Rattle.live.specs.Laws.Hops.{hops-more, hops-ordinal, hops-children}
 
 -- ---- the oldest of a list
 
@@ -43,11 +43,8 @@ rest-map f x [] = refl
 rest-map f x (y ∷ ys) = ap (λ (l : List ℕ). f x ∷ l) (rest-map f y ys)
 
 any-oldest : (j x : ℕ) (xs : List ℕ) → any (eqb j) (x ∷ xs) ≡ any (eqb j) (dropLast (x ∷ xs)) || eqb j (oldest (x ∷ xs))
-unfolding any oldest
-any-oldest j x [] = or-false (eqb j x)
-any-oldest j x (y ∷ ys) =
-    ap (λ (b : Bool). eqb j x || b) (any-oldest j y ys)
-    ∙ sym (or-assoc (eqb j x) (any (eqb j) (dropLast (y ∷ ys))) (eqb j (oldest (y ∷ ys))))
+any-oldest j x xs =
+    ap (any (eqb j)) (oldest-last (x ∷ xs) (omega arith)) ∙ any-one (eqb j) (dropLast (x ∷ xs)) (oldest (x ∷ xs))
 
 -- ---- lines
 
@@ -233,16 +230,6 @@ no-pushers : (f : ℕ → ℕ) (qs : List ℕ) → map f qs ≡ [] → qs ≡ []
 no-pushers f [] e = refl
 no-pushers f (q ∷ qs) e = absurd (cons-ne-nil (f q) (map f qs) e)
 
-module _ (p : ℕ) (ks : List ℕ) (i : ℕ) (xs : List ℕ) where
-  opened-hand : isEnd (kindAt ks i) ≡ false
-      → afterRun (λ x. false) p ks i xs ≡ record { held = some (holds p ks i); deque = pushes p ks i ∷ xs }
-  unfolding afterRun
-  opened-hand e = rw e refl
-
-  ended-hand : isEnd (kindAt ks i) ≡ true → afterRun (λ x. false) p ks i xs ≡ pop xs
-  unfolding afterRun
-  ended-hand e = rw e refl
-
 module _ (p : ℕ) (ks : List ℕ) (sh : Shape (length ks) (endAt ks) (sizeAt ks)) (most : length ks ≤ 4095)
     (place : List ℕ) (places : length place ≡ 4095) where
   -- The worker that moves. It holds step i, which has not run.
@@ -282,9 +269,9 @@ module _ (p : ℕ) (ks : List ℕ) (sh : Shape (length ks) (endAt ks) (sizeAt ks
     pub opened-shown : isEnd (kindAt ks i) ≡ false
         → HandShown p ks (set place i w) w (holds p ks i) low base phase
         (record { hand = afterRun (λ x. false) p ks i (worker .hand .deque); phase = worker .phase })
-    unfolding any
+    unfolding any pop
     opened-shown e =
-        rw (opened-hand p ks i (worker .hand .deque) e) (record {
+        rw (← after-kept (λ x. false) p ks i (worker .hand .deque) e refl) (record {
           pushers = i ∷ shown .pushers;
           deque = ap (λ (l : List ℕ). pushes p ks i ∷ l) (shown .deque);
           marks = λ j h. mark-set place i w w j (any (eqb j) (i ∷ shown .pushers)) (omega arith)
@@ -316,7 +303,7 @@ module _ (p : ℕ) (ks : List ℕ) (sh : Shape (length ks) (endAt ks) (sizeAt ks
         (record { hand = afterRun (λ x. false) p ks i (worker .hand .deque); phase = worker .phase })
     unfolding pop any
     ended-idle-shown e d =
-        rw (ended-hand p ks i (worker .hand .deque) e, d) (record {
+        rw (← after-ended (λ x. false) p ks i (worker .hand .deque) e, d) (record {
           pushers = [];
           deque = refl;
           marks = λ j h. pop-mark place w low i w j false (omega arith) (λ s. no-worker) (λ t. no-worker)
@@ -341,7 +328,7 @@ module _ (p : ℕ) (ks : List ℕ) (sh : Shape (length ks) (endAt ks) (sizeAt ks
             let h = line-step ks sh low qs r (l .3) in
             let inside = pushes-inside ks sh p r h (l .0) in
             let others = line-past ks low qs r (l .3) in
-            rw (found, popped, ended-hand p ks i (worker .hand .deque) e, d, ← s) (record {
+            rw (found, popped, ← after-ended (λ x. false) p ks i (worker .hand .deque) e, d, ← s) (record {
               pushers = qs;
               deque = refl;
               marks = λ j b. mark-set (set place i 16) r 16 w j (any (eqb j) qs) (lt-length-set place i 16 (omega arith))

@@ -3,16 +3,15 @@ use Prim.Native.Nat.{ℕ, zero, suc, pred, _+_, _-_, _≤_, _<_}
 use mathlib.Core.Path.{_≡_, refl, ap, _∙_}
 use mathlib.Core.Bool.{true, false, cond}
 use mathlib.Core.List.{List}
-use mathlib.Core.Logic.{⊎-elim}
 use native.Mathlib.Omega.{arith}
 use lib.ListN.{length, take, drop}
 use lib.Seq.{drop-cons}
 use lib.Dec.{eqb}
 use borrow.Author.Tests.{ne-eqb}
-use Rattle.rules.specs.Tree.{kindAt, isEnd, root, innermost, openTasks, taskAt, ordinal, cont}
+use Rattle.rules.specs.Tree.{kindAt, isEnd, ordinal, cont}
 use Rattle.tasks.specs.Laws.Shape.{after, Shape, child-inside, after-end, tree-ind}
 use Rattle.tasks.specs.Laws.Frames.{endAt, sizeAt, cont-after}
-use Rattle.tasks.specs.Laws.Places.{part, ordinal-child, ordinal-cont}
+use Rattle.tasks.specs.Laws.Places.{ordinal-cont}
 use Rattle.runs.specs.Laws.Weights.{cont-inside}
 use Rattle.moves.specs.Answers.{childrenIn, childrenBetween}
 use Rattle.live.specs.Tie.{Hops}
@@ -89,25 +88,3 @@ module _ (ks : List ℕ) (sh : Shape (length ks) (endAt ks) (sizeAt ks)) where
   pub hops-children : (k a x : ℕ) → Hops ks k a x → childrenBetween ks a x ≡ k
   unfolding childrenBetween scan
   hops-children = hops-scan
-
-  -- ---- ordinals
-
-  most-step : (i : ℕ) → i < length ks → ((j : ℕ) → j < i → j < length ks → ordinal ks j ≤ j) → ordinal ks i ≤ i
-  unfolding ordinal taskAt innermost openTasks root endAt
-  most-step zero h smaller = omega arith
-  most-step (suc i) h smaller =
-      let p = part ks sh (suc i) (omega arith) h in
-      ⊎-elim (λ s. rw s (omega (arith, ordinal-child ks sh (p .of) (p .within) (p .opens))))
-      (λ s.
-      let past = cont-inside ks sh (p .of) (p .within) (p .opens) in
-      let one = ordinal-cont ks sh (p .of) (p .within) (p .opens) in
-      rw s (omega (arith, smaller (p .of) (omega arith) (p .within))))
-      (p .which)
-
-  most-by : (m i : ℕ) → i < m → i < length ks → ordinal ks i ≤ i
-  most-by zero i l h = absurd (omega arith)
-  most-by (suc m) i l h = most-step i h (λ j s. most-by m j (omega arith))
-
-  -- A step's ordinal is at most its serial number.
-  pub ordinal-most : (i : ℕ) → i < length ks → ordinal ks i ≤ i
-  ordinal-most i h = most-by (suc i) i (omega arith) h

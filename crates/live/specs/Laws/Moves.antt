@@ -10,13 +10,14 @@ use lib.ListN.{length, getD, set, length-set, length-append}
 use lib.Seq.{set-getD}
 use borrow.Author.Tests.{eq-eqb, ne-eqb, eqb-true}
 use Rattle.rules.specs.Tree.{kindAt, isEnd, ordinal}
-use Rattle.rules.specs.Scheduling.{workFirst, mostWorkers, holds, pushes, afterRun, Worker, Steal, Run, workerAt, runStep, holdsStep, oldest, steal}
+use Rattle.rules.specs.Scheduling.{workFirst, mostWorkers, holds, pushes, afterRun, Worker, Steal, Run, workerAt, runStep, oldest, steal}
 use Rattle.tasks.specs.Laws.Shape.{Shape}
 use Rattle.tasks.specs.Laws.Frames.{endAt, sizeAt}
-use Rattle.runs.specs.Invariant.{stack, pending, Chained, Invariant}
+use Rattle.runs.specs.Invariant.{stack, Chained, Invariant}
 use Rattle.runs.specs.Laws.Counts.{Has, has-head}
 use Rattle.runs.specs.Laws.Phase.{held-within, oldest-within}
 use Rattle.runs.specs.Laws.Waiting.{run-more}
+use Rattle.runs.specs.Laws.Moves.{some-stack, holds-some, rich-holds, held-facts}
 use Rattle.runs.specs.Laws.Consequences.{steals-most, phases-count, pending-unrun}
 use Rattle.moves.specs.Answers.{marked, newestMark, oldestMark, popped, robbed}
 use Rattle.state.specs.declared.RunState.{RunState}
@@ -56,19 +57,8 @@ module _ {p : ℕ} {ks : List ℕ} {s : RunState} {r : Run} (known : Known p ks 
   held-none w few e = rw e at (shows .hands w few .holding) .0
 
   module _ (w i : ℕ) (few : w < mostWorkers) (holding : workerAt r w .hand .held ≡ some i) where
-    holds-it : holdsStep (workerAt r w) ≡ true
-    unfolding holdsStep
-    holds-it = rw (holding, holdsStep) refl
-
-    own-stack : pending r (workerAt r w .phase) ≡ i ∷ workerAt r w .hand .deque
-    unfolding pending stack
-    own-stack =
-        let own : pending r (workerAt r w .phase) ≡ stack (workerAt r w .hand) =
-        rw (inv .workers w .own holds-it, eq-eqb (workerAt r w .phase) (workerAt r w .phase) refl) refl in
-        own ∙ rw (holding, stack) refl
-
     chained : Chained p ks (i ∷ workerAt r w .hand .deque)
-    chained = rw own-stack at (inv .phases (workerAt r w .phase) (inv .workers w .phase holds-it) .chain)
+    chained = held-facts p ks r inv w i holding .chain
 
     within : i < length ks
     within = held-within p ks sh i (workerAt r w .hand .deque) chained
@@ -77,9 +67,9 @@ module _ {p : ℕ} {ks : List ℕ} {s : RunState} {r : Run} (known : Known p ks 
     held-some = (rw holding at (shows .hands w few .holding) .0, within)
 
     unrun : getD (s .place) i 0 ≡ 17
-    unfolding stack
     unrun =
-        let queued : Has (stack (workerAt r w .hand)) i = rw (holding, stack) (has-head i (workerAt r w .hand .deque)) in
+        let queued : Has (stack (workerAt r w .hand)) i =
+        rw (some-stack (workerAt r w) i holding) (has-head i (workerAt r w .hand .deque)) in
         eqb-true (getD (s .place) i 0) 17
         (shows .unrun i within ∙ ap not (pending-unrun p ks some-step sh r inv w i queued))
 
@@ -261,19 +251,18 @@ module _ {p : ℕ} {ks : List ℕ} {s : RunState} {r : Run} (known : Known p ks 
 
     -- A worker with steps in its deque holds one.
     pub steal-shows : (q : ℕ) × Stolen p ks s r t v q
-    unfolding holdsStep step
-    steal-shows = by (workerAt r v .hand .held) refl
-      where
-        by : (o : Option ℕ) → workerAt r v .hand .held ≡ o → (q : ℕ) × Stolen p ks s r t v q
-        by none e = absurd (full (rw (inv .workers v .idle (rw (e, holdsStep) refl)) refl))
-        by (some i) e =
-            let found = oldest-pusher p ks sh most _ (shows .places) v _ _ _ _ _ few (shows .hands v few) i e (unrun v i few e)
-            full in (
-              found .0,
-              record {
-                found = found .1;
-                taken = found .2;
-                numbered = taken-ordinal i e (found .0) (found .1) (found .2);
-                next = shows-stolen i e (found .0) (found .1) (found .2);
-              },
-            )
+    unfolding step
+    steal-shows =
+        let held = holds-some (workerAt r v) (rich-holds r v (inv .workers v) full) in
+        let i = held .0 in
+        let e = held .1 in
+        let found = oldest-pusher p ks sh most _ (shows .places) v _ _ _ _ _ few (shows .hands v few) i e (unrun v i few e)
+        full in (
+          found .0,
+          record {
+            found = found .1;
+            taken = found .2;
+            numbered = taken-ordinal i e (found .0) (found .1) (found .2);
+            next = shows-stolen i e (found .0) (found .1) (found .2);
+          },
+        )

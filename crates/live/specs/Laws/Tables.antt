@@ -10,10 +10,10 @@ use lib.Seq.{getD-set-same, getD-set-other}
 use lib.Dec.{eqb}
 use borrow.Author.Tests.{ne-eqb}
 use Rattle.rules.specs.Bytes.{any}
-use Rattle.rules.specs.Tree.{root, innermost, openTasks, taskAt, ordinal}
 use Rattle.rules.specs.Scheduling.{mostWorkers, Worker, Run, idleWorker, workerAt, start, hasRun}
 use Rattle.tasks.specs.Laws.Shape.{Shape}
 use Rattle.tasks.specs.Laws.Frames.{endAt, sizeAt}
+use Rattle.tasks.specs.Laws.Places.{root-first}
 use Rattle.moves.specs.Answers.{marked}
 use Rattle.state.specs.declared.RunState.{RunState}
 use Rattle.live.specs.Tie.{HandShown, Shows}
@@ -60,10 +60,6 @@ module _ (p : ℕ) (ks : List ℕ) (s : RunState) (r : Run) where
 
 -- ---- the start
 
-first-ordinal : (ks : List ℕ) → ordinal ks 0 ≡ 0
-unfolding ordinal taskAt openTasks innermost root
-first-ordinal ks = refl
-
 module _ (p : ℕ) (ks place : List ℕ) (places : length place ≡ 4095) (some-step : 1 ≤ length ks)
     (unrun : (j : ℕ) → j < length ks → getD place j 0 ≡ 17) where
   unmarked : (u : ℕ) → u < 16 → (j : ℕ) → j < length ks → marked place u j ≡ any (eqb j) []
@@ -80,7 +76,7 @@ module _ (p : ℕ) (ks place : List ℕ) (places : length place ≡ 4095) (some-
         deque = refl;
         marks = unmarked 0 few;
         holding = (refl, (omega arith, some-step));
-        numbered = λ first. (some-step, sym (first-ordinal ks), (0, refl));
+        numbered = λ first. (some-step, sym (root-first ks .1), (0, refl));
         latest = refl;
       }
   start-hands (suc u) few =

@@ -55,7 +55,7 @@ module _ (buffer : List ℕ) (k a b n : ℕ) where
   unfolding recordPut
   put-length = simp length-set
 
-  put-sets : recordPut buffer k a b n ≡ sets buffer (4 * k) (a ∷ b ∷ twoBytes n)
+  pub put-sets : recordPut buffer k a b n ≡ sets buffer (4 * k) (a ∷ b ∷ twoBytes n)
   unfolding recordPut twoBytes
   put-sets =
       let one : 4 * k + 1 ≡ suc (4 * k) = omega arith in

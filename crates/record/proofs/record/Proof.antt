@@ -25,7 +25,7 @@ begun c =
 
 -- Past the events' length.
 listed : (c : tie.Else2) → wholeRecords 2 8192 (entry (c .before .before) .args .events .now) ≡ true
-listed c = sym (c .before .listed .ensures) ∙ not-false _ (c .if2 .left)
+listed c = sym (c .before .whole-records .ensures) ∙ not-false _ (c .if2 .left)
 
 steps-within : (c : tie.After-steps) → (1 ≤ c .steps .result) × (c .steps .result ≤ 4095)
 steps-within c = begun-steps (begun (c .before .before .before)) (c .steps .result) (c .steps .ensures)
@@ -85,8 +85,8 @@ returns c =
     let a = at .before .before .before .before .before .args in
     start-refusal (a .policy) (a .tree .now) (a .events .now) (a .log .now) (a .trace .now) (c .refused .result) (at .start .result) (at .start .ensures) (c .before .if1 .taken) (c .refused .ensures)
 
-listed-requires : tie.Need-listed-requires
-listed-requires c κs = search needs
+whole-records-requires : tie.Need-whole-records-requires
+whole-records-requires c κs = search needs
 
 refused-requires-2 : tie.Need-refused-requires-2
 refused-requires-2 c κs = search needs
@@ -95,7 +95,7 @@ returns-2 : tie.Need-returns-2
 returns-2 c =
     let at = c .before .before in
     let a = entry (at .before) .args in
-    let unlisted = sym (at .listed .ensures) ∙ not-true _ (c .before .if2 .taken) in
+    let unlisted = sym (at .whole-records .ensures) ∙ not-true _ (c .before .if2 .taken) in
     list-refusal (a .policy) (a .tree .now) (a .events .now) (a .log .now) (a .trace .now) (c .refused2 .result) (begun (at .before) .fine) unlisted (c .refused2 .ensures)
 
 steps-requires : tie.Need-steps-requires
@@ -181,7 +181,7 @@ record-spec =
     start-requires
     refused-requires
     returns
-    listed-requires
+    whole-records-requires
     refused-requires-2
     returns-2
     steps-requires

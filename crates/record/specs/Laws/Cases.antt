@@ -3,7 +3,6 @@ use Prim.Native.Nat.{ℕ, _-_, _*_, _≤_}
 use mathlib.Core.Path.{_≡_, refl, sym, ap, _∙_}
 use mathlib.Core.Bool.{true, false}
 use mathlib.Core.List.{List, [], _∷_}
-use native.Mathlib.Decide.{ℕ-discrete}
 use native.Mathlib.Omega.{arith}
 use lib.ListN.{length}
 use lib.Dec.{eqb, ltb}
@@ -11,12 +10,13 @@ use borrow.Author.Tests.{eq-eqb, ne-eqb, ltb-false}
 use Rattle.rules.specs.Bytes.{records, wholeRecords, Verdict, accepted, refusedIf, firstRefused}
 use Rattle.rules.specs.Tree.{kinds}
 use Rattle.rules.specs.Calls.{startVerdict, recordWalk, recordVerdict, recordOf, recordRefused, recordCall}
+use Rattle.tasks.specs.Laws.Admission.{start-tree-accepts}
+use Rattle.tree.specs.Laws.Verdicts.{first-accepts}
 use Rattle.tasks.specs.Laws.Frames.{accepted-frame}
 use Rattle.runs.specs.Laws.Counts.{or-none}
 use Rattle.state.specs.declared.RunState.{RunState}
 use Rattle.state.specs.declared.Started.{Started}
 use Rattle.state.specs.Answers.{fresh, startAnswer}
-use Rattle.state.specs.Laws.Cases.{start-tree-accepts}
 use Rattle.record.specs.Answers.{tooShort}
 
 -- ---- the start
@@ -58,15 +58,6 @@ module _ {p : ℕ} {tree : List ℕ} {s : RunState} (begun : Begun p tree s) whe
       rw e (frame .some, frame .most)
 
 -- ---- the verdict
-
--- If none of the conditions refuses, the first does not, nor do the others.
-first-accepts : (x : Verdict) (xs : List Verdict) → firstRefused (x ∷ xs) .number ≡ 0 → (x .number ≡ 0) × (firstRefused xs .number ≡ 0)
-unfolding firstRefused
-first-accepts x xs e =
-    elim (ℕ-discrete (x .number) 0) [
-      | yes z ↦ (z, rw (eq-eqb (x .number) 0 z) at e)
-      | no n ↦ absurd (n (rw (ne-eqb (x .number) 0 n) at e))
-    ]
 
 module _ (w p : ℕ) (tree events log trace : List ℕ) where
   -- An accepted call has accepted its start and its events.

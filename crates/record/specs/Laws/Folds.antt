@@ -14,11 +14,11 @@ use Rattle.rules.specs.Tree.{kinds}
 use Rattle.rules.specs.Scheduling.{Run, start, isRun, steal, judgeEvent, nextRun}
 use Rattle.rules.specs.Calls.{eventCall, afterEvents, recordWalk, recordOf, recordVerdict, recordCall}
 use Rattle.tree.specs.Laws.Walks.{walk-on, walk-stop, walk-end}
+use Rattle.tasks.specs.Laws.Admission.{start-tree-accepts}
 use Rattle.tasks.specs.Laws.Frames.{accepted-frame}
 use Rattle.runs.specs.Laws.Moves.{ran, run-is, run-held, event-runs}
 use Rattle.runs.specs.Laws.Always.{always}
 use Rattle.runs.specs.Laws.Consequences.{runs-most, steals-most}
-use Rattle.state.specs.Laws.Cases.{start-tree-accepts}
 use Rattle.record.specs.Laws.Cases.{accepts-both, by-accepted}
 
 -- ---- one event more
@@ -125,7 +125,7 @@ module _ (w p : ℕ) (ks : List ℕ) (es : List (List ℕ)) where
       (λ r. rw (refused-walks (r .0) (r .1 .0) (r .1 .1) (r .1 .2)) (r .1 .0, r .1 .1, refl)) (either (length es) (omega arith))
 
   -- Each accepted event is in the log or among the steals.
-  counts : (k : ℕ) → k ≤ length es → AcceptedTo k → length (before k .log) + length (before k .steals) ≡ k
+  pub counts : (k : ℕ) → k ≤ length es → AcceptedTo k → length (before k .log) + length (before k .steals) ≡ k
   unfolding afterEvents start
   counts zero h fine = refl
   counts (suc k) h fine =

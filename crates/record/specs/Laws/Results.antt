@@ -14,18 +14,18 @@ use Rattle.rules.specs.Tree.{kinds, weights}
 use Rattle.rules.specs.Scheduling.{mostWorkers, Run}
 use Rattle.rules.specs.Traces.{traceBytes, entryBytes, loads, heaviest}
 use Rattle.rules.specs.Calls.{written, startVerdict, recordWalk, finished, recordOf, recordRefused, recordCall, Recorded as Call}
+use Rattle.tasks.specs.Laws.Admission.{start-tree-accepts}
 use Rattle.tasks.specs.Laws.Frames.{Frame, accepted-frame}
 use Rattle.state.specs.declared.RunState.{RunState}
 use Rattle.state.specs.declared.Started.{Started}
 use Rattle.state.specs.Answers.{startAnswer}
-use Rattle.state.specs.Laws.Cases.{start-tree-accepts}
 use Rattle.runs.specs.Laws.Consequences.{runs-most, steals-most, finished-runs, runs-finished}
 use Rattle.outputs.specs.Laws.Records.{length-entries, length-trace}
 use Rattle.record.specs.declared.Recorded.{Recorded}
 use Rattle.walks.specs.declared.Ended.{Ended}
 use Rattle.record.specs.Answers.{answers, refusal, tooShort}
 use Rattle.record.specs.Laws.Cases.{start-judged, record-start, record-list, record-short, record-event, record-all, room-both}
-use Rattle.walks.specs.Laws.Loads.{loads-length}
+use Rattle.loads.specs.Laws.Loads.{loads-length}
 use Rattle.walks.specs.Laws.Recording.{Recording, recording-done, Walks}
 
 -- What a return is to meet: the call's answers, and the lent buffers as it leaves them.
@@ -130,7 +130,7 @@ module _ {p : ℕ} {tree events log trace : List ℕ} {w : Ended} {own-log own-t
   trace-copies = (omega (arith, bytes-most, so .traceRoom), omega (arith, steals-fit, room))
 
   pub loads-many : length (w .loads) ≡ 16
-  loads-many = rw (so .loaded) (loads-length 16 (kinds tree) _ (so .run))
+  loads-many = rw (so .loaded) (loads-length 16 (kinds tree) _ (so .run .phases))
 
   -- Every step has run exactly when more than n - 1 have.
   all-run : ltb (length (kinds tree) - 1) (w .logs) ≡ finished (kinds tree) (so .run)

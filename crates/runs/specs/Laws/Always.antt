@@ -1,7 +1,7 @@
 -- The invariant: so at the start, kept by each move, so true after every list of events, refused ones included.
 use Prim.Native.Nat.{ℕ, zero, suc, _≤_, _<_}
 use mathlib.Core.Path.{_≡_, refl, sym, ap, _∙_}
-use mathlib.Core.Bool.{Bool, true, false, true≢false}
+use mathlib.Core.Bool.{false, true≢false}
 use mathlib.Core.List.{List, [], _∷_, _++_, dropLast}
 use mathlib.Core.Option.{some}
 use native.Mathlib.Decide.{ℕ-discrete}
@@ -16,7 +16,7 @@ use Rattle.tasks.specs.Laws.Frames.{endAt, sizeAt}
 use Rattle.runs.specs.Invariant.{logOf, stack, pending, self, opening, Pushed, PhaseFacts, WorkerFacts, Invariant}
 use Rattle.runs.specs.Laws.Phase.{phase-begins, phase-runs, phase-robbed, oldest-pushed, oldest-within}
 use Rattle.runs.specs.Laws.Waiting.{waited-more}
-use Rattle.runs.specs.Laws.Moves.{sum-one, sum-replicate, getD-alike, map-one, length-dropLast, log-own, log-other, pending-latest, pending-past, pending-idle, pending-same, some-holds, some-stack, holds-some, none-stack, worker-facts, after-idle, after-deque, onward, ran, run-is, ran-here, ran-other, ran-sum, robbed, begin-length, begin-new, begin-robbed, begin-other, begin-same, begin-map, enriched, lightened, steal-thief, steal-other, steal-victim, steal-sum, thief-idle, victim-rich, first-within, second-within, run-held, run-free, event-runs, event-steals}
+use Rattle.runs.specs.Laws.Moves.{sum-one, sum-replicate, getD-alike, map-one, length-dropLast, log-own, log-other, pending-latest, pending-past, pending-idle, pending-same, some-holds, some-stack, holds-some, none-stack, worker-facts, after-idle, after-deque, onward, ran, run-is, ran-here, ran-other, ran-sum, robbed, begin-length, begin-new, begin-robbed, begin-other, begin-same, begin-map, enriched, lightened, steal-thief, steal-other, steal-victim, steal-sum, thief-idle, victim-rich, first-within, second-within, run-held, run-free, event-runs, event-steals, rich-holds, held-facts}
 
 -- The number of worker w's latest phase, its deque, and what would be stolen from it.
 abbrev phaseOf : Run → ℕ → ℕ
@@ -74,9 +74,7 @@ module _ (p : ℕ) (ks : List ℕ) (some-step : 1 ≤ length ks) (sh : Shape (le
     own = inv .workers w .own (some-holds (workerAt s w) i e)
 
     facts : PhaseFacts p ks (phaseAt (s .phases) (phaseOf s w)) (logOf (phaseOf s w) (s .log)) (i ∷ dequeOf s w)
-    facts =
-        phase-facts refl refl (sym (pending-latest s (phaseOf s w) w own refl ∙ some-stack (workerAt s w) i e))
-        (inv .phases (phaseOf s w) begun)
+    facts = held-facts p ks s inv w i e
 
     -- ---- it runs the step
 
@@ -313,13 +311,10 @@ module _ (p : ℕ) (ks : List ℕ) (some-step : 1 ≤ length ks) (sh : Shape (le
 
   pub steal-keeps : (s : Run) → Invariant p ks s → (thief victim : ℕ) → thief < length (s .workers) → victim < length (s .workers)
       → (thief ≡ victim → ⊥) → judgeSteal s thief victim ≡ 0 → Invariant p ks (steal s thief victim)
-  steal-keeps s inv thief victim t v n j = by (holdsStep (workerAt s victim)) refl
-    where
-      by : (b : Bool) → holdsStep (workerAt s victim) ≡ b → Invariant p ks (steal s thief victim)
-      by true h =
-          let held = holds-some (workerAt s victim) h in
-          stolen-keeps s inv victim (held .0) (held .1) thief t v n (thief-idle s thief victim j) (victim-rich s thief victim j)
-      by false h = absurd (victim-rich s thief victim j (ap (λ (xs : List ℕ). length xs) (inv .workers victim .idle h)))
+  steal-keeps s inv thief victim t v n j =
+      let rich = victim-rich s thief victim j in
+      let held = holds-some (workerAt s victim) (rich-holds s victim (inv .workers victim) rich) in
+      stolen-keeps s inv victim (held .0) (held .1) thief t v n (thief-idle s thief victim j) rich
 
   -- ---- events
 

@@ -1,84 +1,42 @@
 -- What follows from the invariant, in document 01's words.
 use Prim.Native.Nat.{ℕ, suc, pred, _+_, _-_, _/_, _≤_, _<_}
 use mathlib.Core.Path.{_≡_, refl, sym, ap, _∙_}
-use mathlib.Core.Bool.{Bool, true, false, cond, true≢false}
+use mathlib.Core.Bool.{Bool, true, false, true≢false}
 use mathlib.Core.List.{List, [], _∷_, _++_}
-use mathlib.Core.Logic.{_⊎_, inl, inr, ⊎-elim}
 use mathlib.Core.Option.{Option, none, some}
-use native.Mathlib.Decide.{ℕ-discrete, decLt}
+use native.Mathlib.Decide.{ℕ-discrete}
 use native.Mathlib.Omega.{arith}
 use lib.ListN.{length, take, length-map}
 use lib.Dec.{eqb, ltb}
-use borrow.Author.Tests.{lt-ltb, le-ltb, le-leb, eq-eqb, ne-eqb}
+use borrow.Author.Tests.{lt-ltb, le-ltb, ne-eqb}
 use Rattle.rules.specs.Bytes.{any, sum}
 use Rattle.rules.specs.Scheduling.{workFirst, pop, Phase, phaseAt, Worker, Entry, Steal, Run, idleWorker, workerAt, holdsStep, hasRun, oldest}
-use Rattle.rules.specs.Traces.{fromStep, lastStolen, frontier, runAlone, runningOrder}
+use Rattle.rules.specs.Traces.{lastStolen, frontier, runAlone, runningOrder}
 use Rattle.rules.specs.Tree.{taskEnd, task}
 use Rattle.rules.specs.Calls.{finished}
-use Rattle.tree.specs.Laws.Bools.{and-false}
 use Rattle.tasks.specs.Laws.Shape.{Shape, odd}
 use Rattle.tasks.specs.Laws.Frames.{endAt, sizeAt}
 use Rattle.tasks.specs.Laws.Places.{last-step}
 use Rattle.runs.specs.Invariant.{Weighs, self, opening, stack, logOf, pending, Chain, Chained, Ends, frontierEnd, PhaseFacts, Invariant}
-use Rattle.runs.specs.Laws.Counts.{all-count, count-all, Has, has-head, has-cases, has-none, has-sum, all-members, no-members, kept-members, sum-ones, sum-at, sum-below, sum-none, any-sum}
-use Rattle.runs.specs.Laws.Weights.{sum-append, span, openings, end-size, end-within, span-weighs, size-weighs, openings-weigh, pushes-inside}
+use Rattle.runs.specs.Laws.Counts.{all-count, count-all, Has, has-head, has-cases, has-none, has-sum, all-members, no-members, kept-members, sum-ones, sum-at, sum-below, sum-none, any-sum, not-so}
+use Rattle.runs.specs.Laws.Weights.{sum-append, span, openings, end-size, end-within, span-weighs, size-weighs, openings-weigh, span-most, span-in, span-inside, span-self, self-same, pushed-within}
 use Rattle.runs.specs.Laws.Phase.{held-within, oldest-within}
+use Rattle.runs.specs.Laws.Moves.{some-stack, holds-some, none-stack, rich-holds, held-facts}
 
--- ---- steps and parts
-
-self-same : (x : ℕ) → self x x ≡ 1
-unfolding self
-self-same x = rw (eq-eqb x x refl)
+-- ---- steps that have run
 
 run-counts : (log : List Entry) (j : ℕ) → hasRun log j ≡ ltb 0 (sum (λ e. self j (e .step)) log)
 unfolding hasRun self
 run-counts log j = any-sum (λ e. eqb (e .step) j) log
 
-at-most-one : (b : Bool) → cond b 1 0 ≤ 1
-at-most-one true = omega arith
-at-most-one false = omega arith
-
-span-most : (ks : List ℕ) (j i : ℕ) → span ks j i ≤ 1
-unfolding span
-span-most ks j i = at-most-one (fromStep ks i j)
-
-span-in : (ks : List ℕ) (j i : ℕ) → i ≤ j → j < taskEnd ks i → span ks j i ≡ 1
-unfolding span fromStep
-span-in ks j i l u = rw (le-leb i j l, lt-ltb j (taskEnd ks i) u)
-
-span-before : (ks : List ℕ) (j i : ℕ) → 1 ≤ span ks j i → j < taskEnd ks i
-unfolding span fromStep
-span-before ks j i h =
-    elim (decLt j (taskEnd ks i)) [
-      | yes u ↦ u
-      | no n ↦ let z : 1 ≤ 0 = rw (le-ltb j (taskEnd ks i) (omega arith), and-false) at h in absurd (omega arith)
-    ]
-
--- A worker is idle and has no pending step, or holds one.
-abbrev IdleOrNot : Worker → Type 0
-IdleOrNot w =
-    ((holdsStep w ≡ false) × (stack (w .hand) ≡ [])) ⊎ ((i : ℕ) × (holdsStep w ≡ true) × (stack (w .hand) ≡ i ∷ w .hand .deque))
-
-idle-or-not : (w : Worker) → IdleOrNot w
-unfolding holdsStep stack
-idle-or-not w = by (w .hand .held) refl
-  where
-    by : (o : Option ℕ) → w .hand .held ≡ o → IdleOrNot w
-    by none e = inl (rw (e, holdsStep) refl, rw (e, stack) refl)
-    by (some i) e = inr (i, rw (e, holdsStep) refl, rw (e, stack) refl)
-
 -- ---- one phase
 
 module _ (p : ℕ) (ks : List ℕ) (sh : Shape (length ks) (endAt ks) (sizeAt ks)) where
-  span-self : (x : ℕ) → x < length ks → span ks x x ≡ 1
-  span-self x h = span-in ks x x (omega arith) (end-within ks sh x h .0)
-
   -- Pending steps are steps of the tree.
   deque-within : (r : List ℕ) (x : ℕ) → Chain p ks x r → (y : ℕ) → Has r y → y < length ks
   deque-within [] x c y m = has-none y m
   deque-within (s ∷ r) x c y m =
-      let h = held-within p ks sh (c .0) r (c .5) in
-      has-cases y s r m (λ e. omega (arith, c .1, pushes-inside ks sh p (c .0) h (c .2), end-within ks sh (c .0) h))
+      has-cases y s r m (λ e. rw e (pushed-within ks sh p s (c .0, held-within p ks sh (c .0) r (c .5), c .2, c .1)))
       (deque-within r (c .0) (c .5) y)
 
   stack-within : (l : List ℕ) → Chained p ks l → (y : ℕ) → Has l y → y < length ks
@@ -90,7 +48,7 @@ module _ (p : ℕ) (ks : List ℕ) (sh : Shape (length ks) (endAt ks) (sizeAt ks
   unfolding self
   self-inside j x h =
       elim (ℕ-discrete x j) [
-        | yes e ↦ rw (← e) (omega (arith, self-same x, span-self x h))
+        | yes e ↦ rw (← e) (omega (arith, self-same x, span-self ks sh x h))
         | no n ↦ rw (ne-eqb x j n) (omega arith)
       ]
 
@@ -132,15 +90,12 @@ module _ (p : ℕ) (ks : List ℕ) (sh : Shape (length ks) (endAt ks) (sizeAt ks
 
     unstolen : (x : ℕ) → 1 ≤ sum (self x) log + sum (span ks x) stack → gone x ≡ false
     unfolding gone
-    unstolen x h = by (any (eqb x) (ph .stolen)) refl
-      where
-        by : (b : Bool) → any (eqb x) (ph .stolen) ≡ b → any (eqb x) (ph .stolen) ≡ false
-        by true m =
-            let parts = f .cover (span ks x) (self x) (span-weighs ks sh x) in
-            let before = span-before ks x (ph .first) (omega arith) in
-            let within = end-within ks sh (ph .first) (f .begins) in
-            absurd (omega (arith, has-sum (span ks x) x (ph .stolen) m, span-self x (omega arith), span-most ks x (ph .first)))
-        by false m = m
+    unstolen x h =
+        not-so (any (eqb x) (ph .stolen)) (λ m.
+        let parts = f .cover (span ks x) (self x) (span-weighs ks sh x) in
+        let before = span-inside ks x (ph .first) (omega arith) in
+        let within = end-within ks sh (ph .first) (f .begins) in
+        omega (arith, has-sum (span ks x) x (ph .stolen) m, span-self ks sh x (omega arith), span-most ks x (ph .first)))
 
     run-or-held : (x : ℕ) → Has (log ++ take 1 stack) x → gone x ≡ false
     run-or-held x m =
@@ -154,7 +109,7 @@ module _ (p : ℕ) (ks : List ℕ) (sh : Shape (length ks) (endAt ks) (sizeAt ks
         ))
 
     queued : (x : ℕ) → Has stack x → gone x ≡ false
-    queued x m = unstolen x (omega (arith, has-sum (span ks x) x stack m, span-self x (stack-within stack (f .chain) x m)))
+    queued x m = unstolen x (omega (arith, has-sum (span ks x) x stack m, span-self ks sh x (stack-within stack (f .chain) x m)))
 
     goes-on : log ++ runAlone (λ x. any (eqb x) (ph .stolen)) p ks (length ks - length log) (pop stack) ≡ runningOrder p ks ph
     unfolding gone runningOrder
@@ -165,17 +120,14 @@ module _ (p : ℕ) (ks : List ℕ) (sh : Shape (length ks) (endAt ks) (sizeAt ks
 -- ---- the run
 
 module _ (p : ℕ) (ks : List ℕ) (some-step : 1 ≤ length ks) (sh : Shape (length ks) (endAt ks) (sizeAt ks)) (s : Run) (inv : Invariant p ks s) where
-  -- The steps of a worker that holds one are its phase's.
-  stack-own : (w : ℕ) → holdsStep (workerAt s w) ≡ true → pending s (workerAt s w .phase) ≡ stack (workerAt s w .hand)
-  unfolding pending
-  stack-own w t = rw (inv .workers w .own t, eq-eqb (workerAt s w .phase) (workerAt s w .phase) refl) refl
-
-  facts : (w : ℕ) → holdsStep (workerAt s w) ≡ true
-      → PhaseFacts p ks (phaseAt (s .phases) (workerAt s w .phase)) (logOf (workerAt s w .phase) (s .log)) (stack (workerAt s w .hand))
-  facts w t = rw (stack-own w t) at (inv .phases (workerAt s w .phase) (inv .workers w .phase t))
-
   chained : (w : ℕ) → Chained p ks (stack (workerAt s w .hand))
-  chained w = ⊎-elim (λ l. rw (l .1) (omega arith)) (λ r. facts w (r .1) .chain) (idle-or-not (workerAt s w))
+  chained w = by (holdsStep (workerAt s w)) refl
+    where
+      by : (b : Bool) → holdsStep (workerAt s w) ≡ b → Chained p ks (stack (workerAt s w .hand))
+      by true h =
+          let held = holds-some (workerAt s w) h in
+          rw (some-stack (workerAt s w) (held .0) (held .1)) (held-facts p ks s inv w (held .0) (held .1) .chain)
+      by false h = rw (none-stack (workerAt s w) h) (omega arith)
 
   pending-within : (w x : ℕ) → Has (stack (workerAt s w .hand)) x → x < length ks
   pending-within w x m = stack-within p ks sh (stack (workerAt s w .hand)) (chained w) x m
@@ -194,7 +146,9 @@ module _ (p : ℕ) (ks : List ℕ) (some-step : 1 ≤ length ks) (sh : Shape (le
 
   idle-by : (w : ℕ) → ((x : ℕ) → Has (stack (workerAt s w .hand)) x → ⊥) → holdsStep (workerAt s w) ≡ false
   idle-by w n =
-      ⊎-elim (λ l. l .0) (λ r. absurd (n (r .0) (rw (r .2) (has-head (r .0) (workerAt s w .hand .deque))))) (idle-or-not (workerAt s w))
+      not-so (holdsStep (workerAt s w)) (λ h.
+      let held = holds-some (workerAt s w) h in
+      n (held .0) (rw (some-stack (workerAt s w) (held .0) (held .1)) (has-head (held .0) (workerAt s w .hand .deque))))
 
   idle-weighs : ((w : ℕ) → holdsStep (workerAt s w) ≡ false) → (whole each : ℕ → ℕ) → Weighs ks whole each
       → sum (λ e. each (e .step)) (s .log) ≡ whole 0
@@ -204,7 +158,7 @@ module _ (p : ℕ) (ks : List ℕ) (some-step : 1 ≤ length ks) (sh : Shape (le
         arith,
         inv .total whole each v,
         sum-none (λ (u : Worker). sum whole (stack (u .hand))) idleWorker (s .workers)
-            (λ w. ⊎-elim (λ l. rw (l .1) refl) (λ r. absurd (true≢false (sym (r .1) ∙ f w))) (idle-or-not (workerAt s w))),
+            (λ w. rw (none-stack (workerAt s w) (f w)) refl),
       )
 
   -- A step that is held, or is in a deque, has not run.
@@ -216,7 +170,7 @@ module _ (p : ℕ) (ks : List ℕ) (some-step : 1 ≤ length ks) (sh : Shape (le
         arith,
         pending-weighs w x m (span ks x) (self x) (span-weighs ks sh x),
         span-most ks x 0,
-        span-self p ks sh x (pending-within w x m),
+        span-self ks sh x (pending-within w x m),
       ))
 
   -- Cover, step by step: what is in the part from a phase's first step has run once in it, or is in the part from one of its
@@ -311,7 +265,6 @@ module _ (p : ℕ) (ks : List ℕ) (some-step : 1 ≤ length ks) (sh : Shape (le
   pub oldest-frontier : p ≡ workFirst → (w : ℕ) → (length (workerAt s w .hand .deque) ≡ 0 → ⊥)
       → task ks (oldest (workerAt s w .hand .deque)) ≡ frontier ks (phaseAt (s .phases) (workerAt s w .phase))
   oldest-frontier e w n =
-      ⊎-elim (λ l. absurd (n (rw (inv .workers w .idle (l .0)) refl)))
-      (λ r. oldest-task p ks sh (phaseAt (s .phases) (workerAt s w .phase)) (logOf (workerAt s w .phase) (s .log)) (r .0)
-      (workerAt s w .hand .deque) (rw (r .2) at (facts w (r .1))) e n)
-      (idle-or-not (workerAt s w))
+      let held = holds-some (workerAt s w) (rich-holds s w (inv .workers w) n) in
+      oldest-task p ks sh (phaseAt (s .phases) (workerAt s w .phase)) (logOf (workerAt s w .phase) (s .log)) (held .0)
+      (workerAt s w .hand .deque) (held-facts p ks s inv w (held .0) (held .1)) e n

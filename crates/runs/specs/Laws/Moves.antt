@@ -1,8 +1,8 @@
 -- What a run or a steal changes in a run's state, and what it leaves.
 use Prim.Native.Nat.{ℕ, zero, suc, _+_, _≤_, _<_}
 use mathlib.Core.Path.{_≡_, refl, sym, ap, _∙_}
-use mathlib.Core.Bool.{Bool, true, false, cond, true≢false}
-use mathlib.Core.List.{List, [], _∷_, _++_, map, dropLast, append-nil}
+use mathlib.Core.Bool.{Bool, true, false, cond, true≢false, or-true}
+use mathlib.Core.List.{List, [], _∷_, _++_, map, dropLast, append-nil, map-append}
 use mathlib.Core.Option.{Option, none, some}
 use native.Mathlib.Decide.{ℕ-discrete, decLt}
 use native.Mathlib.Omega.{arith}
@@ -13,8 +13,8 @@ use borrow.Author.Tests.{eq-eqb, ne-eqb, le-leb, lt-leb}
 use Rattle.rules.specs.Bytes.{sum}
 use Rattle.rules.specs.Tree.{kindAt, isEnd}
 use Rattle.rules.specs.Scheduling.{Hand, holds, pushes, pop, afterRun, Phase, phaseAt, begin, Worker, Entry, Run, idleWorker, workerAt, waits, isRun, judgeRun, runStep, holdsStep, judgeSteal, oldest, steal, judgeEvent}
-use Rattle.tree.specs.Laws.Bools.{or-true}
-use Rattle.runs.specs.Invariant.{logOf, stack, pending, opening, WorkerFacts}
+use Rattle.runs.specs.Invariant.{logOf, stack, pending, opening, WorkerFacts, PhaseFacts, Invariant}
+use Rattle.runs.specs.Laws.Counts.{not-so}
 use Rattle.runs.specs.Laws.Weights.{sum-append}
 
 -- ---- lists
@@ -42,8 +42,7 @@ module _ {A : Type 0} where
   getD-alike (suc n) (suc i) x = getD-alike n i x
 
   pub map-one : {B : Type 0} (f : A → B) (xs : List A) (x : A) → map f (xs ++ (x ∷ [])) ≡ map f xs ++ (f x ∷ [])
-  map-one f [] x = refl
-  map-one {B} f (y ∷ ys) x = ap (λ (zs : List B). f y ∷ zs) (map-one f ys x)
+  map-one f xs x = map-append f xs (x ∷ [])
 
   pub length-dropLast : (xs : List A) → (length xs ≡ 0 → ⊥) → length xs ≡ suc (length (dropLast xs))
   length-dropLast [] n = absurd (n refl)
@@ -56,7 +55,7 @@ cond-append : (b : Bool) (x : ℕ) (xs ys : List ℕ) → cond b (x ∷ (xs ++ y
 cond-append true x xs ys = refl
 cond-append false x xs ys = refl
 
-log-append : (k : ℕ) (log new : List Entry) → logOf k (log ++ new) ≡ logOf k log ++ logOf k new
+pub log-append : (k : ℕ) (log new : List Entry) → logOf k (log ++ new) ≡ logOf k log ++ logOf k new
 unfolding logOf
 log-append k [] new = refl
 log-append k (e ∷ log) new = rw (log-append k log new) (cond-append (eqb (e .phase) k) (e .step) (logOf k log) (logOf k new))
@@ -124,6 +123,24 @@ module _ (x : Worker) where
         phase = λ h. rw e (own (rw e at h) .0);
         own = λ h. rw e (own (rw e at h) .1);
       }
+
+-- A worker with steps in its deque holds one.
+pub rich-holds : (s : Run) (w : ℕ) → WorkerFacts s w → (length (workerAt s w .hand .deque) ≡ 0 → ⊥)
+    → holdsStep (workerAt s w) ≡ true
+rich-holds s w facts rich = by (holdsStep (workerAt s w)) refl
+  where
+    by : (b : Bool) → holdsStep (workerAt s w) ≡ b → holdsStep (workerAt s w) ≡ true
+    by true h = h
+    by false h = absurd (rich (ap (λ (xs : List ℕ). length xs) (facts .idle h)))
+
+-- What is so of the phase of a worker that holds a step.
+pub held-facts : (p : ℕ) (ks : List ℕ) (s : Run) → Invariant p ks s → (w i : ℕ) → workerAt s w .hand .held ≡ some i
+    → PhaseFacts p ks (phaseAt (s .phases) (workerAt s w .phase)) (logOf (workerAt s w .phase) (s .log))
+    (i ∷ workerAt s w .hand .deque)
+held-facts p ks s inv w i e =
+    let holds = some-holds (workerAt s w) i e in
+    let own = pending-latest s (workerAt s w .phase) w (inv .workers w .own holds) refl in
+    rw (own ∙ some-stack (workerAt s w) i e) at (inv .phases (workerAt s w .phase) (inv .workers w .phase holds))
 
 -- ---- a run
 
@@ -271,20 +288,12 @@ module _ (ks : List ℕ) (s : Run) (w : ℕ) (j : judgeRun ks s w ≡ 0) where
 
   pub run-free : (i : ℕ) → workerAt s w .hand .held ≡ some i → waits ks (s .log) i ≡ false
   unfolding judgeRun
-  run-free i h = by (waits ks (s .log) i) refl
-    where
-      by : (b : Bool) → waits ks (s .log) i ≡ b → waits ks (s .log) i ≡ false
-      by true t = absurd (omega (arith, rw (judgeRun, h, t) at j))
-      by false t = t
+  run-free i h = not-so (waits ks (s .log) i) (λ t. omega (arith, rw (judgeRun, h, t) at j))
 
 module _ (s : Run) (t v : ℕ) (j : judgeSteal s t v ≡ 0) where
   pub thief-idle : holdsStep (workerAt s t) ≡ false
   unfolding judgeSteal
-  thief-idle = by (holdsStep (workerAt s t)) refl
-    where
-      by : (b : Bool) → holdsStep (workerAt s t) ≡ b → holdsStep (workerAt s t) ≡ false
-      by true h = absurd (omega (arith, rw h at j))
-      by false h = h
+  thief-idle = not-so (holdsStep (workerAt s t)) (λ h. omega (arith, rw h at j))
 
   pub victim-rich : length (workerAt s v .hand .deque) ≡ 0 → ⊥
   unfolding judgeSteal

@@ -15,7 +15,7 @@ use Rattle.tasks.specs.Laws.Shape.{Shape}
 use Rattle.tasks.specs.Laws.Frames.{endAt, sizeAt}
 use Rattle.runs.specs.Invariant.{stack, Weighs, Chain, Pushed, Chained, Ends, frontierEnd, kept, PhaseFacts}
 use Rattle.runs.specs.Laws.Counts.{and-both, or-none, sum-ones}
-use Rattle.runs.specs.Laws.Weights.{sum-append, end-within, cont-inside, size-weighs, run-weighs, holds-inside, pushes-inside, nested-end}
+use Rattle.runs.specs.Laws.Weights.{sum-append, end-within, cont-inside, size-weighs, run-weighs, holds-inside, pushes-inside, nested-end, pushed-within}
 
 -- ---- lists
 
@@ -41,14 +41,14 @@ module _ (gone : ℕ → Bool) where
   kept-last [] o g = rw g
   kept-last (x ∷ xs) o g = rw (kept-last xs o g)
 
-last-stolen : (xs : List ℕ) (o : ℕ) → lastStolen (xs ++ (o ∷ [])) ≡ some o
+pub last-stolen : (xs : List ℕ) (o : ℕ) → lastStolen (xs ++ (o ∷ [])) ≡ some o
 unfolding lastStolen
 last-stolen [] o = refl
 last-stolen (x ∷ []) o = refl
 last-stolen (x ∷ y ∷ xs) o = last-stolen (y ∷ xs) o
 
 -- A deque that is not empty ends with its oldest step.
-oldest-last : (deque : List ℕ) → (length deque ≡ 0 → ⊥) → deque ≡ dropLast deque ++ (oldest deque ∷ [])
+pub oldest-last : (deque : List ℕ) → (length deque ≡ 0 → ⊥) → deque ≡ dropLast deque ++ (oldest deque ∷ [])
 unfolding oldest
 oldest-last [] n = absurd (n refl)
 oldest-last (x ∷ []) n = refl
@@ -67,24 +67,29 @@ module _ (ks : List ℕ) (e : ℕ) where
   ends-robbed x [] o h = h .0
   ends-robbed x (y ∷ front) o h = (h .0, ends-robbed y front o (h .1))
 
-module _ (p : ℕ) (ks : List ℕ) where
-  -- What a run step leaves pending.
-  stack-end : (i : ℕ) (deque : List ℕ) → isEnd (kindAt ks i) ≡ true → stack (afterRun (λ x. false) p ks i deque) ≡ deque
-  unfolding stack afterRun pop
-  stack-end i [] e = rw e
-  stack-end i (x ∷ r) e = rw e
+stack-pop : (deque : List ℕ) → stack (pop deque) ≡ deque
+unfolding stack pop
+stack-pop [] = refl
+stack-pop (x ∷ r) = refl
 
-  stack-opens : (i : ℕ) (deque : List ℕ) → isEnd (kindAt ks i) ≡ false
-      → stack (afterRun (λ x. false) p ks i deque) ≡ holds p ks i ∷ pushes p ks i ∷ deque
-  unfolding stack afterRun
-  stack-opens i deque e = rw e
-
-  -- A phase that runs alone does the same to what it has kept.
-  kept-end : (gone : ℕ → Bool) (i : ℕ) (deque : List ℕ) → isEnd (kindAt ks i) ≡ true
-      → pop (kept gone deque) ≡ afterRun gone p ks i (kept gone deque)
+-- What running a step leaves: an end, an opening step whose pushed part is gone, and one whose pushed part is not.
+module _ (gone : ℕ → Bool) (p : ℕ) (ks : List ℕ) (i : ℕ) (deque : List ℕ) where
+  pub after-ended : isEnd (kindAt ks i) ≡ true → pop deque ≡ afterRun gone p ks i deque
   unfolding afterRun
-  kept-end gone i deque e = rw e
+  after-ended e = rw e
 
+  pub after-dropped : isEnd (kindAt ks i) ≡ false → gone (pushes p ks i) ≡ true
+      → pop (holds p ks i ∷ deque) ≡ afterRun gone p ks i deque
+  unfolding afterRun pop
+  after-dropped e g = rw (e, g)
+
+  pub after-kept : isEnd (kindAt ks i) ≡ false → gone (pushes p ks i) ≡ false
+      → pop (holds p ks i ∷ pushes p ks i ∷ deque) ≡ afterRun gone p ks i deque
+  unfolding afterRun pop
+  after-kept e g = rw (e, g)
+
+module _ (p : ℕ) (ks : List ℕ) where
+  -- A phase that runs alone does the same to what it has kept.
   kept-opens : (gone : ℕ → Bool) (i : ℕ) (deque : List ℕ) → isEnd (kindAt ks i) ≡ false → gone (holds p ks i) ≡ false
       → pop (kept gone (holds p ks i ∷ pushes p ks i ∷ deque)) ≡ afterRun gone p ks i (kept gone deque)
   unfolding afterRun kept pop
@@ -118,9 +123,7 @@ module _ (p : ℕ) (ks : List ℕ) (sh : Shape (length ks) (endAt ks) (sizeAt ks
   oldest-pushed i deque n c = last-pushed i (dropLast deque) (oldest deque) (rw (oldest-last deque n) at c)
 
   pub oldest-within : (i : ℕ) (deque : List ℕ) → (length deque ≡ 0 → ⊥) → Chained p ks (i ∷ deque) → oldest deque < length ks
-  oldest-within i deque n c =
-      let by = oldest-pushed i deque n c in
-      omega (arith, by .3, pushes-inside ks sh p (by .0) (by .1) (by .2), end-within ks sh (by .0) (by .1))
+  oldest-within i deque n c = pushed-within ks sh p (oldest deque) (oldest-pushed i deque n c)
 
   -- A step inside the part from q is chained as q is.
   chain-inside : (q s : ℕ) (r : List ℕ) → q ≤ s → s < taskEnd ks q → Chain p ks q r → Chain p ks s r
@@ -194,12 +197,12 @@ module _ (p : ℕ) (ks : List ℕ) (sh : Shape (length ks) (endAt ks) (sizeAt ks
     runs-by : (b : Bool) → isEnd (kindAt ks i) ≡ b → PhaseFacts p ks ph (log ++ (i ∷ [])) (stack (afterRun (λ x. false) p ks i deque))
     unfolding any sum cont
     runs-by true e =
-        rw (stack-end p ks i deque e)
+        rw (← after-ended (λ x. false) p ks i deque e, stack-pop deque)
         (runs-into deque (λ whole each v. omega (arith, v .end i here e)) (chain-rest i deque (f .chain))
-        (λ gone n. kept-end p ks gone i deque e) (λ w. ends-rest ks (frontierEnd ks ph) i deque (f .frontier w)))
+        (λ gone n. after-ended gone p ks i (kept gone deque) e) (λ w. ends-rest ks (frontierEnd ks ph) i deque (f .frontier w)))
     runs-by false e =
         let inside = holds-inside ks sh p i here e in
-        rw (stack-opens p ks i deque e)
+        rw (← after-kept (λ x. false) p ks i deque e refl, stack-pop)
         (runs-into (holds p ks i ∷ pushes p ks i ∷ deque) (λ whole each v. omega (arith, run-weighs ks sh p whole each v i here e))
         (i, refl, e, inside .0, inside .1, f .chain)
         (λ gone n. kept-opens p ks gone i deque e (or-none (gone (holds p ks i)) false n .0))

@@ -7,15 +7,16 @@ use native.Mathlib.Decide.{ℕ-discrete, decLt}
 use native.Mathlib.Numerals.{add-one}
 use native.Mathlib.Omega.{arith}
 use lib.ListN.{length}
-use lib.Dec.{ltb}
-use borrow.Author.Tests.{lt-ltb, le-ltb, le-leb, lt-leb, eq-eqb, ne-eqb}
+use lib.Dec.{ltb, leb}
+use borrow.Author.Tests.{lt-ltb, le-ltb, le-leb, lt-leb, eq-eqb, ne-eqb, ltb-true, leb-true}
 use Rattle.rules.specs.Bytes.{sum}
 use Rattle.rules.specs.Tree.{kindAt, isEnd, taskEnd, cont}
 use Rattle.rules.specs.Scheduling.{pushesChild, holds, pushes}
 use Rattle.rules.specs.Traces.{fromStep}
 use Rattle.tasks.specs.Laws.Shape.{after, Shape, child-inside, nested, odd}
 use Rattle.tasks.specs.Laws.Frames.{endAt, sizeAt, cont-after}
-use Rattle.runs.specs.Invariant.{Weighs, self, opening}
+use Rattle.runs.specs.Invariant.{Weighs, self, opening, Pushed}
+use Rattle.runs.specs.Laws.Counts.{and-both, not-so, at-most-one, one-true}
 
 -- ---- sums of lists
 
@@ -25,11 +26,54 @@ module _ {A : Type 0} where
   sum-append f [] ys = omega arith
   sum-append f (x ∷ xs) ys = omega (arith, sum-append f xs ys)
 
--- ---- the parts of an opening step
+-- ---- steps inside a part
+
+module _ (ks : List ℕ) (i j : ℕ) where
+  pub inside-from : i ≤ j → j < taskEnd ks i → fromStep ks i j ≡ true
+  unfolding fromStep
+  inside-from l u = rw (le-leb i j l, lt-ltb j (taskEnd ks i) u)
+
+  pub from-inside : fromStep ks i j ≡ true → (i ≤ j) × (j < taskEnd ks i)
+  unfolding fromStep
+  from-inside e =
+      let both = and-both (leb i j) (ltb j (taskEnd ks i)) e in
+      (leb-true i j (both .0), ltb-true j (taskEnd ks i) (both .1))
+
+  pub outside-from : (i ≤ j → j < taskEnd ks i → ⊥) → fromStep ks i j ≡ false
+  outside-from n = not-so (fromStep ks i j) (λ e. n (from-inside e .0) (from-inside e .1))
 
 -- 1 where step j is in the part from i, else 0.
 unfoldable pub span : List ℕ → ℕ → ℕ → ℕ
 span ks j i = cond (fromStep ks i j) 1 0
+
+module _ (ks : List ℕ) (j i : ℕ) where
+  pub span-one : fromStep ks i j ≡ true → span ks j i ≡ 1
+  unfolding span
+  span-one e = rw e
+
+  pub span-some : 1 ≤ span ks j i → fromStep ks i j ≡ true
+  unfolding span
+  span-some h = one-true (fromStep ks i j) h
+
+  pub span-most : span ks j i ≤ 1
+  unfolding span
+  span-most = at-most-one (fromStep ks i j)
+
+  pub span-in : i ≤ j → j < taskEnd ks i → span ks j i ≡ 1
+  span-in l u = span-one (inside-from ks i j l u)
+
+  pub span-inside : 1 ≤ span ks j i → (i ≤ j) × (j < taskEnd ks i)
+  span-inside h = from-inside ks i j (span-some h)
+
+  pub span-out : (i ≤ j → j < taskEnd ks i → ⊥) → span ks j i ≡ 0
+  unfolding span
+  span-out n = rw (outside-from ks i j n)
+
+pub self-same : (j : ℕ) → self j j ≡ 1
+unfolding self
+self-same j = rw (eq-eqb j j refl)
+
+-- ---- the parts of an opening step
 
 -- How many steps of the part from i open a task.
 unfoldable pub openings : List ℕ → ℕ → ℕ
@@ -88,6 +132,13 @@ module _ (ks : List ℕ) (sh : Shape (length ks) (endAt ks) (sizeAt ks)) where
 
   pub end-within : (i : ℕ) → i < length ks → (i < taskEnd ks i) × (taskEnd ks i ≤ length ks)
   end-within i h = omega (arith, end-size i h, sh .at i h .some, sh .at i h .fits)
+
+  -- A step is in the part from it.
+  pub from-self : (i : ℕ) → i < length ks → fromStep ks i i ≡ true
+  from-self i h = inside-from ks i i (omega arith) (end-within i h .0)
+
+  pub span-self : (i : ℕ) → i < length ks → span ks i i ≡ 1
+  span-self i h = span-one ks i i (from-self i h)
 
   -- The continuation is a step past the child's first, and its task ends with the opening step's.
   pub cont-inside : (i : ℕ) → i < length ks → isEnd (kindAt ks i) ≡ false
@@ -160,6 +211,10 @@ module _ (ks : List ℕ) (sh : Shape (length ks) (endAt ks) (sizeAt ks)) where
 
   pub pushes-inside : (p i : ℕ) → i < length ks → isEnd (kindAt ks i) ≡ false → (i < pushes p ks i) × (pushes p ks i < taskEnd ks i)
   pushes-inside p i h e = inside-both p i h e .1
+
+  -- So what was pushed is a step of the tree.
+  pub pushed-within : (p s : ℕ) → Pushed p ks s → s < length ks
+  pushed-within p s by = omega (arith, by .3, pushes-inside p (by .0) (by .1) (by .2), end-within (by .0) (by .1))
 
   -- Nesting, by ends of tasks.
   pub nested-end : (i j : ℕ) → i < length ks → i ≤ j → j < taskEnd ks i → taskEnd ks j ≤ taskEnd ks i

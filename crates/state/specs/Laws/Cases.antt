@@ -1,24 +1,22 @@
 -- Each answer of each call, in the terms of the code: one law for each return.
 use Prim.Native.Nat.{ℕ, suc, _+_, _%_, _≤_, _<_}
 use mathlib.Core.Path.{_≡_, refl, sym, ap, _∙_}
-use mathlib.Core.Bool.{Bool, true, false, cond, _||_, not}
-use mathlib.Core.List.{List, [], _∷_}
+use mathlib.Core.Bool.{Bool, true, false, cond, or-true}
+use mathlib.Core.List.{List, []}
 use mathlib.Core.Option.{Option, none, some}
-use native.Mathlib.Decide.{ℕ-discrete}
 use native.Mathlib.Numerals.{add-one}
 use native.Mathlib.Omega.{arith}
 use lib.ListN.{length, getD, set}
-use lib.Dec.{eqb, leb}
+use lib.Dec.{leb}
 use borrow.Author.Tests.{eq-eqb, ne-eqb, lt-ltb, le-ltb, le-leb, lt-leb}
-use Rattle.rules.specs.Bytes.{Verdict, accepted, refusedIf, firstRefused}
-use Rattle.rules.specs.Tree.{kinds, kindAt, isEnd, taskEnd, cont, treeVerdict}
+use Rattle.rules.specs.Tree.{kinds, kindAt, isEnd, taskEnd, cont}
 use Rattle.rules.specs.Scheduling.{pushesChild, holds, pushes}
 use Rattle.rules.specs.Calls.{startVerdict}
 use Rattle.tree.specs.declared.Step.{Step}
 use Rattle.tree.specs.declared.Ordinal.{Ordinal}
 use Rattle.tree.specs.declared.Accepted.{Accepted}
-use Rattle.tree.specs.Answers.{acceptance}
-use Rattle.tree.specs.Laws.Bools.{or-true}
+use Rattle.tasks.specs.Answers.{admission}
+use Rattle.tasks.specs.Laws.Admission.{admitted-position}
 use Rattle.moves.specs.Answers.{Climbs, newestMark, oldestMark, pusherOf, waitsFor, childrenBetween, popped, robbed}
 use Rattle.moves.specs.declared.Pusher.{Pusher}
 use Rattle.moves.specs.declared.Pusher.the-variants.{At, Nothing as NoPusher}
@@ -252,51 +250,19 @@ module _ (s : RunState) (tree : List ℕ) (a b : ℕ) where
 
 -- ---- the start
 
-module _ (p : ℕ) (tree : List ℕ) where
-  -- What stands beside a verdict.
-  started : (v : Verdict) → startVerdict p tree ≡ v
-      → _≡_ {A = Started} (record { number = v .number; position = v .position; state = cond (eqb (v .number) 0) (fresh p) zeros })
-      (startAnswer p tree)
-  unfolding startAnswer
-  started v e = rw e refl
+module _ (p : ℕ) (tree : List ℕ) (r : Accepted) (judged : r ≡ admission p tree) where
+  number : startVerdict p tree .number ≡ r .number
+  unfolding admission
+  number = sym (ap (λ (x : Accepted). x .number) judged)
 
-  pub start-policy : (p ≡ 1 → ⊥) → (p ≡ 2 → ⊥) → (s : RunState) → s ≡ zeros
-      → _≡_ {A = Started} (record { number = 1; position = 0; state = s }) (startAnswer p tree)
-  unfolding startVerdict firstRefused refusedIf
-  start-policy n m s z = rw z (started (record { number = 1; position = 0 }) (rw (ne-eqb p 1 n, ne-eqb p 2 m) refl))
-
-  -- The policy is one of the two, so the tree decides.
-  by-tree : (1 ≤ p) × (p ≤ 2) → startVerdict p tree ≡ firstRefused (treeVerdict tree ∷ [])
-  unfolding startVerdict firstRefused refusedIf accepted
-  by-tree h =
-      elim (ℕ-discrete p 1) [
-        | yes e ↦ rw (eq-eqb p 1 e) refl
-        | no n ↦ rw (eq-eqb p 2 (omega arith), or-true (eqb p 1)) refl
-      ]
-
-  pub start-tree : (1 ≤ p) × (p ≤ 2) → (r : Accepted) → r ≡ acceptance tree → (r .number ≡ 0 → ⊥) → (s : RunState) → s ≡ zeros
+  pub start-refused : (r .number ≡ 0 → ⊥) → (s : RunState) → s ≡ zeros
       → _≡_ {A = Started} (record { number = r .number; position = r .position; state = s }) (startAnswer p tree)
-  unfolding firstRefused acceptance
-  start-tree h r e n s z =
-      let number : r .number ≡ treeVerdict tree .number = ap (λ (x : Accepted). x .number) e in
-      let position : r .position ≡ treeVerdict tree .position = ap (λ (x : Accepted). x .position) e in
-      let bad : treeVerdict tree .number ≡ 0 → ⊥ = λ x. n (number ∙ x) in
-      rw (z, number, position)
-      (rw (ne-eqb (treeVerdict tree .number) 0 bad) at (started (treeVerdict tree) (by-tree h ∙ rw (ne-eqb (treeVerdict tree .number) 0 bad) refl)))
+  unfolding startAnswer admission
+  start-refused n s z =
+      let position : startVerdict p tree .position ≡ r .position = sym (ap (λ (x : Accepted). x .position) judged) in
+      rw (z, number, position, ne-eqb (r .number) 0 n) refl
 
-  pub start-accepts : (1 ≤ p) × (p ≤ 2) → (r : Accepted) → r ≡ acceptance tree → r .number ≡ 0 → (s : RunState) → s ≡ fresh p
+  pub start-accepts : r .number ≡ 0 → (s : RunState) → s ≡ fresh p
       → _≡_ {A = Started} (record { number = 0; position = 0; state = s }) (startAnswer p tree)
-  unfolding firstRefused acceptance accepted
-  start-accepts h r e z s f =
-      let fine : treeVerdict tree .number ≡ 0 = sym (ap (λ (x : Accepted). x .number) e) ∙ z in
-      rw f (started accepted (by-tree h ∙ rw (eq-eqb (treeVerdict tree .number) 0 fine) refl))
-
--- A start that is accepted has accepted the tree.
-second-accepts : (bad : Bool) (v : Verdict) → firstRefused (refusedIf bad 1 0 ∷ v ∷ []) .number ≡ 0 → v .number ≡ 0
-unfolding firstRefused refusedIf accepted
-second-accepts true v e = absurd (omega arith)
-second-accepts false v e = elim (ℕ-discrete (v .number) 0) [ yes z ↦ z | no n ↦ rw (ne-eqb (v .number) 0 n) at e ]
-
-pub start-tree-accepts : (p : ℕ) (tree : List ℕ) → startVerdict p tree .number ≡ 0 → treeVerdict tree .number ≡ 0
-unfolding startVerdict
-start-tree-accepts p tree e = second-accepts (not (eqb p 1 || eqb p 2)) (treeVerdict tree) e
+  unfolding startAnswer
+  start-accepts e s f = rw (f, number ∙ e, admitted-position p tree (number ∙ e)) refl

@@ -3,7 +3,7 @@ use Prim.Native.Nat.{ℕ, suc, pred, _+_, _-_, _*_, _≤_, _<_}
 use mathlib.Core.Path.{_≡_, refl, sym, ap, _∙_}
 use mathlib.Core.Bool.{true, false, true≢false}
 use mathlib.Core.List.{List, [], _∷_, _++_}
-use mathlib.Core.Logic.{⊎-elim}
+use mathlib.Core.Logic.{inl, inr, ⊎-elim}
 use native.Mathlib.Decide.{ℕ-discrete}
 use native.Mathlib.Numerals.{add-one}
 use native.Mathlib.Omega.{arith}
@@ -73,6 +73,8 @@ module _ (ks : List ℕ) (sh : Shape (length ks) (endAt ks) (sizeAt ks)) where
     unfolding endAt
     opener-child =
         record {
+          opens = e;
+          which = inl refl;
           before = omega arith;
           nearest = λ k a b. absurd (omega arith);
           finish = rw e (finish-child ks sh q e);
@@ -83,6 +85,8 @@ module _ (ks : List ℕ) (sh : Shape (length ks) (endAt ks) (sizeAt ks)) where
     opener-cont =
         let last : endAt ks (pred (cont ks q)) ≡ true = rw (cont-after ks q h) (last-step ks sh (suc q) (child-inside sh q h e) .0) in
         record {
+          opens = e;
+          which = inr refl;
           before = omega (arith, cont-after ks q h);
           nearest = between;
           finish = rw last (finish-cont ks sh q h e);

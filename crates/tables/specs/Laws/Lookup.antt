@@ -1,13 +1,13 @@
 -- What is looked up, case by case, in the terms of the code.
 use Prim.Native.Nat.{ℕ, pred, _+_, _-_, _<_}
 use mathlib.Core.Path.{_≡_, refl, _∙_}
+use mathlib.Core.Bool.{and-false}
 use mathlib.Core.List.{List}
 use native.Mathlib.Numerals.{add-one}
 use native.Mathlib.Omega.{arith}
 use lib.ListN.{getD}
 use borrow.Author.Tests.{ne-eqb}
 use Rattle.rules.specs.Tree.{kindAt, isEnd, isFinish, cont, finishBefore}
-use Rattle.tree.specs.Laws.Bools.{and-false}
 use Rattle.tasks.specs.declared.FinishChild.the-variants.{From, Nothing}
 use Rattle.tasks.specs.Answers.{childOf}
 use Rattle.tasks.specs.Laws.Steps.{child-none, child-some}

@@ -1,6 +1,6 @@
 -- Where a step stands: its task, its ordinal and the finish child before it, from the opening step that it is a part of. Every
 -- step but the first is the child of an opening step or its continuation.
-use Prim.Native.Nat.{ℕ, suc, pred, _+_, _<_}
+use Prim.Native.Nat.{ℕ, suc, pred, _+_, _<_, zero, _≤_}
 use mathlib.Core.Path.{_≡_, refl, sym, ap, _∙_}
 use mathlib.Core.Bool.{true, false, cond}
 use mathlib.Core.List.{List, _∷_}
@@ -9,7 +9,7 @@ use mathlib.Core.Option.{none, some}
 use native.Mathlib.Decide.{ℕ-discrete}
 use native.Mathlib.Omega.{arith}
 use lib.ListN.{length}
-use Rattle.rules.specs.Tree.{isFinish, kindAt, Task, innermost, leave, enter, taskAt, task, ordinal, cont, finishChild, finishBefore}
+use Rattle.rules.specs.Tree.{isFinish, kindAt, Task, innermost, leave, enter, taskAt, task, ordinal, cont, finishChild, finishBefore, root, openTasks}
 use Rattle.tasks.specs.Laws.Scans.{openAt, open-step}
 use Rattle.tasks.specs.Laws.Shape.{after, Inside, Shape, child-inside, after-end, tree-ind, inside-end, inside-parts, inside-first}
 use Rattle.tasks.specs.Laws.Frames.{endAt, sizeAt, cont-after}
@@ -32,6 +32,11 @@ task-open ks i = refl
 ordinal-open : (ks : List ℕ) (i : ℕ) → ordinal ks i ≡ innermost (openAt ks i) .children
 unfolding ordinal taskAt openAt
 ordinal-open ks i = refl
+
+-- Step 0 is the root's first.
+pub root-first : (ks : List ℕ) → (task ks 0 ≡ 0) × (ordinal ks 0 ≡ 0)
+unfolding task ordinal taskAt openTasks innermost root
+root-first ks = (refl, refl)
 
 module _ (ks : List ℕ) (sh : Shape (length ks) (endAt ks) (sizeAt ks)) where
   -- ---- open tasks
@@ -153,3 +158,21 @@ module _ (ks : List ℕ) (sh : Shape (length ks) (endAt ks) (sizeAt ks)) where
   pub part : (j : ℕ) → 0 < j → j < length ks → Part ks j
   unfolding Parts
   part j p h = tree-ind sh Parts parts-end parts-open 0 (omega arith) j (inside-first sh j h) (λ z. absurd (omega arith))
+
+  most-step : (i : ℕ) → i < length ks → ((j : ℕ) → j < i → j < length ks → ordinal ks j ≤ j) → ordinal ks i ≤ i
+  unfolding after
+  most-step zero h smaller = omega (arith, root-first ks .1)
+  most-step (suc i) h smaller =
+      let p = part (suc i) (omega arith) h in
+      let past = cont-after ks (p .of) (p .within) in
+      ⊎-elim (λ s. rw s (omega (arith, ordinal-child (p .of) (p .within) (p .opens))))
+      (λ s. rw s (omega (arith, ordinal-cont (p .of) (p .within) (p .opens), smaller (p .of) (omega arith) (p .within))))
+      (p .which)
+
+  most-by : (m i : ℕ) → i < m → i < length ks → ordinal ks i ≤ i
+  most-by zero i l h = absurd (omega arith)
+  most-by (suc m) i l h = most-step i h (λ j s. most-by m j (omega arith))
+
+  -- A step's ordinal is at most its serial number.
+  pub ordinal-most : (i : ℕ) → i < length ks → ordinal ks i ≤ i
+  ordinal-most i h = most-by (suc i) i (omega arith) h

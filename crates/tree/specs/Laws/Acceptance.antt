@@ -2,7 +2,7 @@
 -- verdict from what the loop finds. Laws are in the terms of the code.
 use Prim.Native.Nat.{ℕ, zero, suc, _+_, _-_, _*_, _/_, _%_, _≤_, _<_}
 use mathlib.Core.Path.{_≡_, refl, sym, ap, _∙_}
-use mathlib.Core.Bool.{Bool, true, false, _&&_, _||_, true≢false}
+use mathlib.Core.Bool.{Bool, true, false, _&&_, _||_, true≢false, and-false, or-true}
 use mathlib.Core.List.{List, []}
 use native.Mathlib.Decide.{ℕ-discrete, decLe}
 use native.Mathlib.Nat.{lt-of-not-le}
@@ -15,7 +15,6 @@ use Rattle.rules.specs.Bytes.{Verdict, accepted, Walked, walk, wholeRecords, re
 use Rattle.rules.specs.Tree.{treeRecords, kind, isAsync, isFinish, isEnd, kinds, openAfter, wellFormed, judgeTreeRecord, nextOpen, treeWalk, wrongLength, treeVerdict}
 use Rattle.tree.specs.declared.Accepted.{Accepted}
 use Rattle.tree.specs.Answers.{acceptance}
-use Rattle.tree.specs.Laws.Bools.{and-false, or-true}
 use Rattle.tree.specs.Laws.Records.{length-records, length-kinds, field-at}
 use Rattle.tree.specs.Laws.Walks.{walk-on, walk-stop, walk-end}
 

@@ -1,5 +1,5 @@
--- Laws of records, over their width: how many a list of bytes has, and which byte of the list a field is. Then of the tree's
--- records: kinds and weights.
+-- Laws of records, over their width: how many a list of bytes has, and which byte of the list a field is; and of fields of two
+-- bytes. Then of the tree's records: kinds and weights.
 use Prim.Native.Nat.{ℕ, zero, suc, _+_, _*_, _/_, _≤_, _<_}
 use mathlib.Core.Path.{_≡_, refl, ap, _∙_}
 use mathlib.Core.List.{List, [], _∷_}
@@ -7,7 +7,7 @@ use native.Mathlib.Nat.{mul-zero, mul-suc}
 use native.Mathlib.Omega.{arith}
 use lib.ListN.{length, take, drop, getD, length-take, length-drop, length-map, drop-of-length-le, List·getD-map, List·getD-eq-default}
 use lib.Seq.{getD-take, getD-drop, drop-drop, drop-cons}
-use Rattle.rules.specs.Bytes.{cut, records, littleEndian}
+use Rattle.rules.specs.Bytes.{cut, records, littleEndian, twoBytes}
 use Rattle.rules.specs.Tree.{treeRecords, kind, weight, kinds, weights, kindAt}
 
 -- ---- records of any width
@@ -40,6 +40,11 @@ pub length-record : (w : ℕ) (bytes : List ℕ) (i : ℕ) → i < length bytes 
     → length (getD (records w bytes) i []) ≡ w
 unfolding records
 length-record w bytes i h fits = rw (cut-at w (length bytes / w) bytes i h) (simp (length-take, length-drop) (omega arith))
+
+-- The number of two bytes is the one that they were made of.
+pub number-back : (x : ℕ) → x < 65536 → littleEndian (twoBytes x) ≡ x
+unfolding littleEndian twoBytes
+number-back x h = omega arith
 
 -- ---- the tree's records
 

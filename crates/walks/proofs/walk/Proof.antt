@@ -11,7 +11,7 @@ use Rattle.state.specs.declared.RunState.{RunState}
 use Rattle.state.specs.Answers.{stateOf}
 use Rattle.live.specs.Laws.Hints.{shows-hints}
 use Rattle.walks.specs.Laws.Recording.{Recording}
-use Rattle.walks.specs.Laws.Tables.{start-frame}
+use Rattle.tables.specs.Laws.Fronts.{start-frame}
 use Rattle.walks.specs.Laws.Turns.{turn-start, turn-done, turn-refused, ran-fits, ran-turn, stole-fits, stole-movable, stole-turn}
 use Rattle.walks.proofs.walk.Statement.{statement}
 use Rattle.walks.proofs.walk.Tie as tie

@@ -1,6 +1,6 @@
 -- What the loop over the events holds: after the first k of them, none of them refused, the state shows the rules' run, and the
 -- log, the trace and the loads so far are that run's. One law for the start, for each kind of turn, and for the end.
-use Prim.Native.Nat.{ℕ, _+_, _-_, _*_, _/_, _%_, _≤_, _<_}
+use Prim.Native.Nat.{ℕ, _+_, _*_, _/_, _%_, _≤_, _<_}
 use mathlib.Core.Path.{_≡_, refl, sym, ap, _∙_}
 use mathlib.Core.Bool.{Bool, true, false, cond}
 use mathlib.Core.List.{List, [], _∷_, flatten}
@@ -11,27 +11,27 @@ use lib.ListN.{length, take, drop, getD, set, replicate, length-append}
 use lib.Dec.{eqb}
 use borrow.Author.Tests.{eqb-true, eqb-false}
 use Rattle.rules.specs.Bytes.{records, Verdict, accepted, sum, Walked, walk}
-use Rattle.rules.specs.Tree.{kinds, weights, taskEnd}
-use Rattle.rules.specs.Scheduling.{mostWorkers, Worker, Run, start, workerAt, isRun, oldest, steal, judgeEvent, nextRun}
+use Rattle.rules.specs.Tree.{kinds, weights}
+use Rattle.rules.specs.Scheduling.{mostWorkers, phaseAt, Worker, Run, start, workerAt, isRun, holdsStep, oldest, steal, judgeEvent, nextRun}
 use Rattle.rules.specs.Traces.{traceNumber, traceBytes, entryBytes, loads}
 use Rattle.rules.specs.Calls.{startVerdict, eventCall, recordWalk}
 use Rattle.tree.specs.declared.Phase.{Phase}
 use Rattle.tree.specs.declared.Step.{Step}
 use Rattle.tree.specs.Laws.Records.{length-records, field-at}
 use Rattle.tree.specs.Laws.Walks.{walk-on, walk-stop, walk-end}
+use Rattle.tasks.specs.Laws.Admission.{start-tree-accepts}
 use Rattle.tasks.specs.Laws.Frames.{Frame, accepted-frame}
-use Rattle.tables.specs.Answers.{weightBefore}
+use Rattle.tables.specs.Answers.{Ends, Sums, weightBefore}
 use Rattle.runs.specs.Invariant.{Invariant}
-use Rattle.runs.specs.Laws.Weights.{end-within}
-use Rattle.runs.specs.Laws.Moves.{ran as ranBy, run-is, enriched, steal-thief, victim-rich, first-within, second-within, run-held, event-runs, event-steals}
+use Rattle.runs.specs.Laws.Weights.{span}
+use Rattle.runs.specs.Laws.Moves.{sum-one, ran as ranBy, run-is, begin-length, begin-robbed, enriched, steal-thief, victim-rich, first-within, second-within, run-held, event-runs, event-steals}
 use Rattle.runs.specs.Laws.Always.{start-invariant, event-keeps}
-use Rattle.runs.specs.Laws.Consequences.{runs-most, steals-most}
+use Rattle.runs.specs.Laws.Consequences.{covered-once, runs-most, steals-most}
 use Rattle.state.specs.declared.RunState.{RunState}
 use Rattle.state.specs.declared.TraceNumber.{TraceNumber}
 use Rattle.state.specs.declared.Outcome.{Outcome}
 use Rattle.state.specs.declared.Outcome.the-variants.{Ran, Stole, Refused}
 use Rattle.state.specs.Answers.{fresh, numberValue, eventAnswer}
-use Rattle.state.specs.Laws.Cases.{start-tree-accepts}
 use Rattle.walks.specs.declared.Ended.{Ended}
 use Rattle.live.specs.Tie.{Shows, heldStep, told}
 use Rattle.live.specs.Follows.{number-traced}
@@ -39,7 +39,8 @@ use Rattle.live.specs.Laws.Moves.{Known, held-some}
 use Rattle.live.specs.Laws.Events.{start-shows, event-tells, event-shows}
 use Rattle.outputs.specs.Answers.{recordPut, loadMoved}
 use Rattle.outputs.specs.Laws.Records.{length-entries, entries-one, length-trace, trace-one, put-length, put-front}
-use Rattle.walks.specs.Laws.Loads.{partWeight, weight-rises, moved-sum, two-most, loads-length, start-loads, steal-fits, steal-loads}
+use Rattle.loads.specs.Answers.{Movable}
+use Rattle.loads.specs.Laws.Loads.{partWeight, start-loads, Takes, begin-loads, begin-whole, begin-movable}
 
 -- The bytes stand at the front of an array.
 abbrev pub Front : List ℕ → List ℕ → Type 0
@@ -172,7 +173,7 @@ module _ (p : ℕ) (tree events : List ℕ) (accepts : startVerdict p tree .numb
         stealCount = refl;
         logged = refl;
         traced = refl;
-        loaded = sym (start-loads p tree frame (weights tree));
+        loaded = sym (start-loads (kinds tree) (weights tree) (frame .some) (frame .shape));
         whole = omega arith;
       }
 
@@ -306,39 +307,70 @@ module _ (p : ℕ) (tree events : List ℕ) (accepts : startVerdict p tree .numb
             let both = held-some stole-known a taken small thief in
             (held ∙ both .0, both .1)
 
-        pub stole-room : (a < mostWorkers) × (b < mostWorkers) × (2 * steals + 2 < length (kinds tree))
-            × (step < length (kinds tree)) × (step < taskEnd (kinds tree) step) × (taskEnd (kinds tree) step ≤ length (kinds tree))
-        stole-room =
-            let within : step < length (kinds tree) = omega (arith, taken-held) in
-            let end = end-within (kinds tree) (frame .shape) step within in (
-              small,
-              few,
-              omega (arith, stole-count, steals-most p (kinds tree) (frame .some) (frame .shape) stole-run (stole-known .inv)),
-              within,
-              end .0,
-              end .1,
-            )
-
-        sized : length ls ≡ mostWorkers
-        sized = rw (so .loaded) (loads-length mostWorkers (kinds tree) (weights tree) (so .run))
-
-        -- What the thief takes is all in the victim's load.
-        fits : partWeight (kinds tree) (weights tree) step ≤ getD ls b 0
-        fits =
-            rw (taken-held .0, so .loaded)
-            (steal-fits p tree frame (weights tree) (so .run) (so .invariant) a b small few (theft .other) (theft .full))
-
-        -- The weight that moves: it leaves the one load and fits the other.
-        pub stole-weight : (weightBefore (weights tree) step ≤ weightBefore (weights tree) (taskEnd (kinds tree) step))
-            × (partWeight (kinds tree) (weights tree) step ≤ getD ls b 0)
-            × (getD ls a 0 + partWeight (kinds tree) (weights tree) step ≤ weightBefore (weights tree) (length (kinds tree)))
-            × (a ≡ b → ⊥)
-        stole-weight = (
-          weight-rises (weights tree) step (taskEnd (kinds tree) step) (omega (arith, stole-room)),
-          fits,
-          omega (arith, fits, two-most ls a b (omega (arith, sized, small)) (omega (arith, sized, few)) (theft .other), so .whole),
+        pub stole-room : (a < mostWorkers) × (b < mostWorkers) × (a ≡ b → ⊥) × (2 * steals + 2 < length (kinds tree))
+            × (step < length (kinds tree))
+        stole-room = (
+          small,
+          few,
           theft .other,
+          omega (arith, stole-count, steals-most p (kinds tree) (frame .some) (frame .shape) stole-run (stole-known .inv)),
+          omega (arith, taken-held),
         )
+
+        -- The victim's deque is not empty, so it holds a step and is in a phase of its own.
+        victim-holds : holdsStep (workerAt (so .run) b) ≡ true
+        victim-holds = by (holdsStep (workerAt (so .run) b)) refl
+          where
+            by : (x : Bool) → holdsStep (workerAt (so .run) b) ≡ x → holdsStep (workerAt (so .run) b) ≡ true
+            by true e = e
+            by false e = absurd (theft .full (rw (so .invariant .workers b .idle e) refl))
+
+        abbrev from : ℕ
+        from = workerAt (so .run) b .phase
+
+        begun : from < length (so .run .phases)
+        begun = so .invariant .workers b .phase victim-holds
+
+        -- The cover after the steal says that what is taken is apart from what was stolen before.
+        takes : Takes (kinds tree) (so .run .phases) a from b taken
+        unfolding steal
+        takes =
+            let more = begin-length (so .run .phases) a from taken in
+            let within : from < length (stole-run .phases) = omega (arith, begun) in
+            let after = covered-once p (kinds tree) (frame .some) (frame .shape) stole-run (stole-known .inv) from within in
+            record {
+              begun = begun;
+              own = so .invariant .workers b .own victim-holds;
+              other = theft .other;
+              thief = small;
+              victim = few;
+              within = taken-held .1;
+              apart = λ j. omega (
+                arith,
+                rw (begin-robbed (so .run .phases) a from taken begun) at (after j),
+                sum-one (span (kinds tree) j) (phaseAt (so .run .phases) from .stolen) taken,
+              );
+            }
+
+        -- By the tables its weight can leave the victim's load for the thief's,
+        pub stole-weight : (ends sums : List ℕ) → length (kinds tree) ≤ length ends → Ends (kinds tree) ends (length (kinds tree))
+            → length (kinds tree) < length sums → Sums (weights tree) sums (length (kinds tree))
+            → weightBefore (weights tree) (length (kinds tree)) < 18446744073709551616 → Movable ends sums ls a b step
+        stole-weight ends sums long right longer added light =
+            rw (taken-held .0, so .loaded)
+            (begin-movable (kinds tree) (weights tree) (frame .shape) takes ends sums long right longer added
+            (rw (so .loaded) at (so .whole)) light)
+
+        -- and then the loads are the next run's.
+        stole-loads : loadMoved ls a b (partWeight (kinds tree) (weights tree) step)
+            ≡ loads mostWorkers (kinds tree) (weights tree) (stole-run .phases)
+        unfolding steal
+        stole-loads = rw (taken-held .0, so .loaded) (sym (begin-loads (kinds tree) (weights tree) (frame .shape) takes))
+
+        stole-whole : sum (λ x. x) (loads mostWorkers (kinds tree) (weights tree) (stole-run .phases))
+            ≡ weightBefore (weights tree) (length (kinds tree))
+        unfolding steal
+        stole-whole = begin-whole (kinds tree) (weights tree) (frame .shape) takes ∙ rw (so .loaded) at (so .whole)
 
         pub stole-next : Recording p tree events (k + 1) (eventAnswer s tree a b .state) log
             (recordPut trace steals a b (numberValue number))
@@ -346,7 +378,6 @@ module _ (p : ℕ) (tree events : List ℕ) (accepts : startVerdict p tree .numb
         unfolding steal
         stole-next =
             let ss = so .run .steals in
-            let x = partWeight (kinds tree) (weights tree) step in
             record {
               run = stole-run;
               walked = next-walked (theft .fine) stole-run (theft .next);
@@ -360,11 +391,9 @@ module _ (p : ℕ) (tree events : List ℕ) (accepts : startVerdict p tree .numb
               traced = rw (trace-one p (kinds tree) ss a b taken, ← theft .numbered)
                   (put-front trace steals a b (numberValue number) (traceBytes p (kinds tree) ss)
                   (omega (arith, length-trace p (kinds tree) ss, so .stealCount))
-                  (omega (arith, so .traceRoom, stole-room .2, frame .most)) (so .traced));
-              loaded = rw (taken-held .0, so .loaded)
-                  (sym (steal-loads p tree frame (weights tree) (so .run) (so .invariant) a b small few (theft .other) (theft .full)));
-              whole =
-                  moved-sum ls a b x (omega (arith, sized, small)) (omega (arith, sized, few)) fits ∙ so .whole;
+                  (omega (arith, so .traceRoom, stole-room .3, frame .most)) (so .traced));
+              loaded = stole-loads;
+              whole = rw stole-loads stole-whole;
             }
 
 -- ---- the whole walk

@@ -1,11 +1,11 @@
 -- The loop over the events in the terms of the code: what a call on the arrays ensures, and what is stored then.
 use Prim.Native.Nat.{ℕ, _+_, _*_, _/_, _%_, _≤_, _<_}
-use mathlib.Core.Path.{_≡_, refl, sym, ap, subst, _∙_}
+use mathlib.Core.Path.{_≡_, sym, ap, subst, _∙_}
 use mathlib.Core.List.{List}
 use native.Mathlib.Omega.{arith}
 use lib.ListN.{length, getD, set, replicate}
 use Rattle.rules.specs.Bytes.{accepted, Walked}
-use Rattle.rules.specs.Tree.{kinds, weights, taskEnd}
+use Rattle.rules.specs.Tree.{kinds, weights}
 use Rattle.rules.specs.Scheduling.{Run}
 use Rattle.rules.specs.Calls.{startVerdict}
 use Rattle.tables.specs.Answers.{Ends, Sums, weightBefore}
@@ -18,9 +18,9 @@ use Rattle.state.specs.Answers.{answerOf, fresh, numberValue, eventAnswer}
 use Rattle.outputs.specs.Answers.{recordPut, loadMoved}
 use Rattle.tree.specs.declared.Phase.{Phase}
 use Rattle.tree.specs.declared.Step.{Step}
-use Rattle.walks.specs.Answers.{weightBetween, Movable}
-use Rattle.walks.specs.Laws.Loads.{partWeight}
-use Rattle.walks.specs.Laws.Tables.{start-frame}
+use Rattle.loads.specs.Answers.{weightBetween, Movable}
+use Rattle.loads.specs.Laws.Loads.{part-between}
+use Rattle.tables.specs.Laws.Fronts.{start-frame}
 use Rattle.walks.specs.Laws.Recording.{Recording, Walks, recording-start, recording-done, event-refused, ran-room, ran-next, stole-room, stole-weight, stole-next}
 
 -- What holds of a state holds of an equal one, and the count of steals is the state's.
@@ -86,43 +86,28 @@ module _ (p : ℕ) (tree events : List ℕ) (accepts : startVerdict p tree .numb
         taken : step ≡ getD (eventAnswer s tree a b .state .held) a 0
         taken = held ∙ ap (λ (x : RunState). getD (x .held) a 0) (sym state)
 
-        room : (a < 16) × (b < 16) × (2 * s .steals + 2 < length (kinds tree))
-            × (step < length (kinds tree)) × (step < taskEnd (kinds tree) step) × (taskEnd (kinds tree) step ≤ length (kinds tree))
+        room : (a < 16) × (b < 16) × (a ≡ b → ⊥) × (2 * s .steals + 2 < length (kinds tree)) × (step < length (kinds tree))
         room = stole-room p tree events accepts k s log trace ls logs (s .steals) so more a b first second number (outcome ∙ stole) step taken
 
-        weight : (weightBefore (weights tree) step ≤ weightBefore (weights tree) (taskEnd (kinds tree) step))
-            × (partWeight (kinds tree) (weights tree) step ≤ getD ls b 0)
-            × (getD ls a 0 + partWeight (kinds tree) (weights tree) step ≤ weightBefore (weights tree) (length (kinds tree)))
-            × (a ≡ b → ⊥)
-        weight = stole-weight p tree events accepts k s log trace ls logs (s .steals) so more a b first second number (outcome ∙ stole) step taken
-
         pub stole-fits : (4 * s .steals + 4 ≤ length trace) × (a < 16) × (b < 16) × (a ≡ b → ⊥)
-        stole-fits = (omega (arith, room, so .traceRoom, start-frame p tree accepts .most), room .0, room .1, weight .3)
+        stole-fits = (omega (arith, room, so .traceRoom, start-frame p tree accepts .most), room .0, room .1, room .2)
 
         module _ (ends sums : List ℕ) (sized : length ends ≡ length (kinds tree)) (right : Ends (kinds tree) ends (length ends))
             (longer : length (kinds tree) < length sums) (added : Sums (weights tree) sums (length (kinds tree)))
-            (small : weightBefore (weights tree) (length (kinds tree)) < 18446744073709551616) where
-          end : getD ends step 0 ≡ taskEnd (kinds tree) step
-          end = right step (omega (arith, room .3, sized))
-
-          between : weightBetween ends sums step ≡ partWeight (kinds tree) (weights tree) step
-          unfolding weightBetween partWeight
-          between = rw (end, added step (omega (arith, room .3)), added (taskEnd (kinds tree) step) (room .5)) refl
+            (light : weightBefore (weights tree) (length (kinds tree)) < 18446744073709551616) where
+          filled : Ends (kinds tree) ends (length (kinds tree))
+          filled = rw sized at right
 
           pub stole-movable : Movable ends sums ls a b step
           stole-movable =
-              record {
-                inTable = omega (arith, room .3, sized);
-                inSums = (omega (arith, room .3), omega (arith, end, room .5));
-                rises = rw (end, added step (omega (arith, room .3)), added (taskEnd (kinds tree) step) (room .5)) (weight .0);
-                leaves = rw between (weight .1);
-                fits = rw between (omega (arith, weight .2));
-              }
+              stole-weight p tree events accepts k s log trace ls logs (s .steals) so more a b first second number (outcome ∙ stole) step taken
+              ends sums (omega arith) filled longer added light
 
           pub stole-turn : (further : List ℕ) → further ≡ recordPut trace (s .steals) a b (numberValue number)
               → (moved : List ℕ) → moved ≡ loadMoved ls a b (weightBetween ends sums step)
               → Recording p tree events (k + 1) after log further moved logs (after .steals)
           stole-turn further e moved f =
-              rw (e, f, between)
+              let frame = start-frame p tree accepts in
+              rw (e, f, part-between (kinds tree) (weights tree) (frame .shape) ends sums filled added step (room .4))
               (at-state after state
               (stole-next p tree events accepts k s log trace ls logs (s .steals) so more a b first second number (outcome ∙ stole) step taken))

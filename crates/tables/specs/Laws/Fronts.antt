@@ -1,4 +1,4 @@
--- The tables of a tree, as the walk is lent them: the front of an array that is longer than the tree.
+-- The tables of a tree, as a walk is lent them: the front of an array that is longer than the tree.
 use Prim.Native.Nat.{ℕ, _≤_}
 use mathlib.Core.Path.{_≡_, _∙_}
 use mathlib.Core.List.{List}
@@ -6,9 +6,9 @@ use native.Mathlib.Omega.{arith}
 use lib.ListN.{length, take}
 use lib.Seq.{getD-take, length-take-le}
 use Rattle.rules.specs.Calls.{startVerdict}
-use Rattle.tables.specs.Answers.{Ends, Openers}
+use Rattle.tasks.specs.Laws.Admission.{start-tree-accepts}
 use Rattle.tasks.specs.Laws.Frames.{Frame, accepted-frame}
-use Rattle.state.specs.Laws.Cases.{start-tree-accepts}
+use Rattle.tables.specs.Answers.{Ends, Openers}
 
 -- The tree of an accepted start.
 pub start-frame : (p : ℕ) (tree : List ℕ) → startVerdict p tree .number ≡ 0 → Frame tree

@@ -1,36 +1,31 @@
--- How a steal moves weight from one worker's load to another's.
+-- The loads of phases, and how a steal moves weight from one worker's load to another's. Of phases alone: a run's and a
+-- replayed trace's alike.
 use Prim.Native.Nat.{ℕ, zero, suc, _+_, _-_, _≤_, _<_}
 use mathlib.Core.Path.{_≡_, refl, sym, ap, _∙_}
 use mathlib.Core.Bool.{Bool, true, false, cond, _&&_, _||_, not, and-true, or-false}
-use mathlib.Core.List.{List, [], _∷_, map}
+use mathlib.Core.List.{List, [], map}
 use native.Mathlib.Decide.{ℕ-discrete, decLt}
 use native.Mathlib.Nat.{zero-add, add-zero}
 use native.Mathlib.Omega.{arith}
-use lib.ListN.{length, getD, set, replicate, length-set}
+use lib.ListN.{length, getD, set, replicate, length-set, length-map}
 use lib.Seq.{ext-getD, lt-length-set, getD-set-same, getD-set-other}
 use lib.Dec.{eqb, ltb, leb}
 use borrow.Author.Tests.{lt-ltb, le-ltb, le-leb, lt-leb, eq-eqb, ne-eqb}
 use Rattle.rules.specs.Bytes.{count, any, sum}
-use Rattle.rules.specs.Tree.{kinds, taskEnd}
-use Rattle.rules.specs.Scheduling.{mostWorkers, Phase, firstPhases, phaseAt, begin, Run, workerAt, holdsStep, oldest, steal}
+use Rattle.rules.specs.Tree.{taskEnd}
+use Rattle.rules.specs.Scheduling.{mostWorkers, Phase, firstPhases, phaseAt, begin}
 use Rattle.rules.specs.Traces.{fromStep, covers, phaseLoad, workerLoad, loads}
+use Rattle.tree.specs.Laws.Counts.{length-count}
 use Rattle.tasks.specs.Laws.Shape.{Shape}
-use Rattle.tasks.specs.Laws.Frames.{Frame, endAt, sizeAt}
-use Rattle.tables.specs.Answers.{weightBefore}
-use Rattle.runs.specs.Invariant.{self, logOf, PhaseFacts, Invariant}
-use Rattle.runs.specs.Laws.Counts.{any-one, any-sum, sum-at}
-use Rattle.runs.specs.Laws.Weights.{span, end-within, span-weighs}
-use Rattle.runs.specs.Laws.Phase.{oldest-within, phase-robbed}
-use Rattle.runs.specs.Laws.Moves.{sum-one, sum-set, pending-latest, holds-some, some-stack, robbed}
+use Rattle.tasks.specs.Laws.Frames.{endAt, sizeAt}
+use Rattle.tables.specs.Answers.{Ends, Sums, weightBefore}
+use Rattle.runs.specs.Laws.Counts.{any-one, any-sum, sum-plus, sum-two}
+use Rattle.runs.specs.Laws.Weights.{span, end-within}
+use Rattle.runs.specs.Laws.Moves.{sum-one, sum-set, robbed}
 use Rattle.outputs.specs.Answers.{loadMoved}
+use Rattle.loads.specs.Answers.{weightBetween, Movable}
 
 -- ---- sums
-
--- A sum that is two sums member by member.
-sum-plus : {A : Type 0} (f g h : A → ℕ) → ((x : A) → f x ≡ g x + h x) → (l : List A) → sum f l ≡ sum g l + sum h l
-unfolding sum
-sum-plus f g h e [] = refl
-sum-plus f g h e (x ∷ l) = omega (arith, e x, sum-plus f g h e l)
 
 -- A longer interval from the same number on sums no less.
 sum-rises : (f : ℕ → ℕ) (a m n : ℕ) → m ≤ n → sum f (count a m) ≤ sum f (count a n)
@@ -57,12 +52,12 @@ sum-below f e (suc n) a h =
           rw (none, le-ltb a e (omega arith), rest, past) refl
     ]
 
-pub weight-rises : (ws : List ℕ) (i j : ℕ) → i ≤ j → weightBefore ws i ≤ weightBefore ws j
+weight-rises : (ws : List ℕ) (i j : ℕ) → i ≤ j → weightBefore ws i ≤ weightBefore ws j
 unfolding weightBefore
 weight-rises ws i j h = sum-rises (λ k. getD ws k 0) 0 i j h
 
 -- Moving weight changes no sum.
-pub moved-sum : (ls : List ℕ) (t v x : ℕ) → t < length ls → v < length ls → x ≤ getD ls v 0
+moved-sum : (ls : List ℕ) (t v x : ℕ) → t < length ls → v < length ls → x ≤ getD ls v 0
     → sum (λ y. y) (loadMoved ls t v x) ≡ sum (λ y. y) ls
 unfolding loadMoved
 moved-sum ls t v x h l fits =
@@ -71,17 +66,6 @@ moved-sum ls t v x h l fits =
       arith,
       sum-set (λ (y : ℕ). y) ls v (getD ls v 0 - x) 0 l,
       sum-set (λ (y : ℕ). y) less t (getD less t 0 + x) 0 (lt-length-set ls v (getD ls v 0 - x) h),
-    )
-
--- Two of the loads are together at most the sum of all.
-pub two-most : (ls : List ℕ) (t v : ℕ) → t < length ls → v < length ls → (t ≡ v → ⊥)
-    → getD ls t 0 + getD ls v 0 ≤ sum (λ y. y) ls
-two-most ls t v h l n =
-    omega (
-      arith,
-      sum-set (λ (y : ℕ). y) ls t 0 0 h,
-      sum-at (λ (y : ℕ). y) 0 refl (set ls t 0) v,
-      getD-set-other ls t v 0 0 (omega arith),
     )
 
 -- A list with the moved weights in both places and the same elsewhere is the list with the weight moved.
@@ -106,12 +90,7 @@ moved-is ls new t v x size h l n more less same =
 
 -- ---- loads as a list
 
--- How many there are, and what stands at place i.
-map-length : (f : ℕ → ℕ) (n a : ℕ) → length (map f (count a n)) ≡ n
-unfolding count
-map-length f zero a = refl
-map-length f (suc n) a = ap suc (map-length f n (suc a))
-
+-- What stands at place i.
 map-at : (f : ℕ → ℕ) (n a i : ℕ) → i < n → getD (map f (count a n)) i 0 ≡ f (a + i)
 unfolding count
 map-at f zero a i h = absurd (omega arith)
@@ -120,9 +99,9 @@ map-at f (suc n) a (suc i) h =
     let place : a + suc i ≡ suc a + i = omega arith in
     rw place (map-at f n (suc a) i (omega arith))
 
-pub loads-length : (w : ℕ) (ks ws : List ℕ) (s : Run) → length (loads w ks ws (s .phases)) ≡ w
+pub loads-length : (w : ℕ) (ks ws : List ℕ) (phs : List Phase) → length (loads w ks ws phs) ≡ w
 unfolding loads
-loads-length w ks ws s = map-length (workerLoad ks ws (s .phases)) w 0
+loads-length w ks ws phs = length-map (count 0 w) (workerLoad ks ws phs) ∙ length-count w 0
 
 loads-at : (w : ℕ) (ks ws : List ℕ) (phs : List Phase) (u : ℕ) → u < w → getD (loads w ks ws phs) u 0 ≡ workerLoad ks ws phs u
 unfolding loads
@@ -142,8 +121,8 @@ from-below i e j x h =
       | no n ↦ rw (le-leb i j (omega arith), le-ltb j i (omega arith)) (sym (zero-add (cond (ltb j e) x 0)))
     ]
 
--- At one step of weight x: where the parts stolen before and the part taken now are apart and inside the first step's part, what
--- was covered is what still is and what is taken.
+-- At one step of weight x: where the parts stolen before and the part taken now are apart and inside the first step's part,
+-- what was covered is what still is and what is taken.
 part-leaves : (first taken : Bool) (gone x : ℕ) → gone + cond taken 1 0 ≤ cond first 1 0
     → cond (first && not (ltb 0 gone)) x 0 ≡ cond (first && not (ltb 0 gone || taken)) x 0 + cond taken x 0
 part-leaves first false gone x h = rw or-false (omega arith)
@@ -194,7 +173,20 @@ module _ (ks ws : List ℕ) where
       (part-leaves (fromStep ks (ph .first) j) (fromStep ks o j) (sum (span ks j) (ph .stolen)) (getD ws j 0) (h j)))
       (count 0 (length ks))
 
--- ---- a steal
+-- By the tables of a tree, for all its steps: a part's weight.
+module _ (ks ws : List ℕ) (sh : Shape (length ks) (endAt ks) (sizeAt ks)) (ends sums : List ℕ) (right : Ends ks ends (length ks))
+    (added : Sums ws sums (length ks)) (o : ℕ) (within : o < length ks) where
+  start-sum : getD sums o 0 ≡ weightBefore ws o
+  start-sum = added o (omega arith)
+
+  end-sum : getD sums (getD ends o 0) 0 ≡ weightBefore ws (taskEnd ks o)
+  end-sum = rw (right o within) (added (taskEnd ks o) (end-within ks sh o within .1))
+
+  pub part-between : weightBetween ends sums o ≡ partWeight ks ws o
+  unfolding weightBetween partWeight
+  part-between = rw (start-sum, end-sum) refl
+
+-- ---- the start, and a steal
 
 module _ (ks ws : List ℕ) where
   -- A phase's share in worker u's load.
@@ -227,132 +219,99 @@ module _ (ks ws : List ℕ) where
         sum-set (share u) phs k more (record { worker = 0; first = 0; stolen = [] }) h,
       )
 
-module _ (p : ℕ) (ks ws : List ℕ) (sh : Shape (length ks) (endAt ks) (sizeAt ks)) (s : Run) (inv : Invariant p ks s) (t v : ℕ)
-    (full : length (workerAt s v .hand .deque) ≡ 0 → ⊥) where
-  taken : ℕ
-  taken = oldest (workerAt s v .hand .deque)
+module _ (ks ws : List ℕ) (some-step : 1 ≤ length ks) (sh : Shape (length ks) (endAt ks) (sizeAt ks)) where
+  first-load : phaseLoad ks ws (record { worker = 0; first = 0; stolen = [] }) ≡ weightBefore ws (length ks)
+  unfolding partWeight weightBefore sum count sizeAt
+  first-load =
+      let end : taskEnd ks 0 ≡ length ks = omega (arith, sh .whole) in
+      omega (arith, fresh-load ks ws 0 0, rw end at (part-is ks ws sh 0 some-step))
 
-  victimPhase : Phase
-  victimPhase = phaseAt (s .phases) (workerAt s v .phase)
+  -- At the start worker 0's phase covers all.
+  pub start-loads : loads mostWorkers ks ws firstPhases ≡ set (replicate mostWorkers 0) 0 (weightBefore ws (length ks))
+  unfolding loads workerLoad firstPhases count sum
+  start-loads = rw (first-load, add-zero (weightBefore ws (length ks))) refl
 
-  -- The victim's deque is not empty, so it holds a step.
-  victim-holds : holdsStep (workerAt s v) ≡ true
-  victim-holds = by (holdsStep (workerAt s v)) refl
-    where
-      by : (b : Bool) → holdsStep (workerAt s v) ≡ b → holdsStep (workerAt s v) ≡ true
-      by true e = e
-      by false e = absurd (full (rw (inv .workers v .idle e) refl))
+-- Worker t takes step o from phase k, which is worker v's.
+pub record Takes (ks : List ℕ) (phs : List Phase) (t k v o : ℕ) : Type 0 where
+  pub begun : k < length phs
+  pub own : phaseAt phs k .worker ≡ v
+  pub other : t ≡ v → ⊥
+  pub thief : t < mostWorkers
+  pub victim : v < mostWorkers
+  pub within : o < length ks
+  -- The parts stolen from the phase before and the part taken now are apart, and inside the part from its first step.
+  pub apart : (j : ℕ) → sum (span ks j) (phaseAt phs k .stolen) + span ks j o ≤ span ks j (phaseAt phs k .first)
 
-  -- It is in a phase of its own, with that step and its deque pending.
-  own : victimPhase .worker ≡ v
-  unfolding victimPhase
-  own = inv .workers v .own victim-holds
-
-  held : ℕ
-  held = holds-some (workerAt s v) victim-holds .0
-
-  victim-facts : PhaseFacts p ks victimPhase (logOf (workerAt s v .phase) (s .log)) (held ∷ workerAt s v .hand .deque)
-  unfolding victimPhase held
-  victim-facts =
-      let some-held = holds-some (workerAt s v) victim-holds in
-      let here = pending-latest s (workerAt s v .phase) v own refl ∙ some-stack (workerAt s v) (some-held .0) (some-held .1) in
-      rw here at (inv .phases (workerAt s v .phase) (inv .workers v .phase victim-holds))
-
-  taken-within : taken < length ks
-  unfolding taken
-  taken-within = oldest-within p ks sh held (workerAt s v .hand .deque) full (victim-facts .chain)
-
-  -- What was stolen before and what is stolen now are together within the part from the phase's first step.
-  taken-apart : (j : ℕ) → sum (span ks j) (victimPhase .stolen) + span ks j taken ≤ span ks j (victimPhase .first)
-  unfolding taken
-  taken-apart j =
-      let after = phase-robbed p ks sh victimPhase (logOf (workerAt s v .phase) (s .log)) held (workerAt s v .hand .deque) full victim-facts in
-      omega (
-        arith,
-        after .cover (span ks j) (self j) (span-weighs ks sh j),
-        sum-one (span ks j) (victimPhase .stolen) taken,
-      )
-
-  -- What the steal does to the shares.
-  steal-load : (u : ℕ)
-      → workerLoad ks ws (steal s t v .phases) u + share ks ws u victimPhase
-      ≡ workerLoad ks ws (s .phases) u + share ks ws u (robbed victimPhase taken)
-      + share ks ws u (record { worker = t; first = taken; stolen = [] })
-  unfolding steal taken victimPhase
-  steal-load u = begin-load ks ws (s .phases) t (workerAt s v .phase) taken u (inv .workers v .phase victim-holds)
-
+module _ (ks ws : List ℕ) (sh : Shape (length ks) (endAt ks) (sizeAt ks)) {phs : List Phase} {t k v o : ℕ}
+    (x : Takes ks phs t k v o) where
   -- The part goes from the victim's load to the thief's.
   load-moves : (u : ℕ)
-      → workerLoad ks ws (steal s t v .phases) u + cond (eqb v u) (partWeight ks ws taken) 0
-      ≡ workerLoad ks ws (s .phases) u + cond (eqb t u) (partWeight ks ws taken) 0
+      → workerLoad ks ws (begin phs t k o) u + cond (eqb v u) (partWeight ks ws o) 0
+      ≡ workerLoad ks ws phs u + cond (eqb t u) (partWeight ks ws o) 0
   load-moves u =
-      let loses = robbed-share ks ws u victimPhase taken (robbed-load ks ws victimPhase taken taken-apart) in
-      rw (← part-is ks ws sh taken taken-within)
+      rw (← part-is ks ws sh o (x .within))
       (omega (
         arith,
-        steal-load u,
-        loses,
-        ap (λ (w : ℕ). cond (eqb w u) (partSum ks ws taken) 0) own,
-        fresh-share ks ws u t taken,
+        begin-load ks ws phs t k o u (x .begun),
+        robbed-share ks ws u (phaseAt phs k) o (robbed-load ks ws (phaseAt phs k) o (x .apart)),
+        ap (λ (w : ℕ). cond (eqb w u) (partSum ks ws o) 0) (x .own),
+        fresh-share ks ws u t o,
       ))
 
   -- By worker.
-  victim-less : (t ≡ v → ⊥) → workerLoad ks ws (steal s t v .phases) v + partWeight ks ws taken ≡ workerLoad ks ws (s .phases) v
-  victim-less n =
+  victim-less : workerLoad ks ws (begin phs t k o) v + partWeight ks ws o ≡ workerLoad ks ws phs v
+  victim-less =
       let moves = load-moves v in
-      omega (arith, rw (eq-eqb v v refl, ne-eqb t v n) at moves)
+      omega (arith, rw (eq-eqb v v refl, ne-eqb t v (x .other)) at moves)
 
-  thief-more : (t ≡ v → ⊥) → workerLoad ks ws (steal s t v .phases) t ≡ workerLoad ks ws (s .phases) t + partWeight ks ws taken
-  thief-more n =
+  thief-more : workerLoad ks ws (begin phs t k o) t ≡ workerLoad ks ws phs t + partWeight ks ws o
+  thief-more =
       let moves = load-moves t in
-      omega (arith, rw (eq-eqb t t refl, ne-eqb v t (omega arith)) at moves)
+      omega (arith, rw (eq-eqb t t refl, ne-eqb v t (λ e. x .other (sym e))) at moves)
 
-  rest-same : (u : ℕ) → (u ≡ t → ⊥) → (u ≡ v → ⊥) → workerLoad ks ws (steal s t v .phases) u ≡ workerLoad ks ws (s .phases) u
+  rest-same : (u : ℕ) → (u ≡ t → ⊥) → (u ≡ v → ⊥) → workerLoad ks ws (begin phs t k o) u ≡ workerLoad ks ws phs u
   rest-same u n m =
       let moves = load-moves u in
       omega (arith, rw (ne-eqb t u (omega arith), ne-eqb v u (omega arith)) at moves)
 
--- ---- the start, and a steal, over all workers
+  -- What is stolen is all in the victim's load,
+  pub begin-fits : partWeight ks ws o ≤ getD (loads mostWorkers ks ws phs) v 0
+  begin-fits = omega (arith, loads-at mostWorkers ks ws phs v (x .victim), victim-less)
 
-module _ (p : ℕ) (tree : List ℕ) (frame : Frame tree) (ws : List ℕ) where
-  first-load : phaseLoad (kinds tree) ws (record { worker = 0; first = 0; stolen = [] }) ≡ weightBefore ws (length (kinds tree))
-  unfolding partWeight weightBefore sum count sizeAt
-  first-load =
-      let end : taskEnd (kinds tree) 0 ≡ length (kinds tree) = omega (arith, frame .shape .whole) in
-      omega (arith, fresh-load (kinds tree) ws 0 0, rw end at (part-is (kinds tree) ws (frame .shape) 0 (frame .some)))
+  -- and goes to the thief's.
+  pub begin-loads : loads mostWorkers ks ws (begin phs t k o) ≡ loadMoved (loads mostWorkers ks ws phs) t v (partWeight ks ws o)
+  begin-loads =
+      let old = loads-at mostWorkers ks ws phs in
+      let new = loads-at mostWorkers ks ws (begin phs t k o) in
+      let size = loads-length mostWorkers ks ws phs in
+      moved-is (loads mostWorkers ks ws phs) (loads mostWorkers ks ws (begin phs t k o)) t v (partWeight ks ws o)
+      (loads-length mostWorkers ks ws (begin phs t k o) ∙ sym size) (omega arith) (omega arith) (x .other)
+      (omega (arith, old t (x .thief), new t (x .thief), thief-more))
+      (omega (arith, old v (x .victim), new v (x .victim), victim-less))
+      (λ u b n m.
+      let h : u < mostWorkers = omega arith in
+      omega (arith, old u h, new u h, rest-same u n m))
 
-  -- At the start worker 0's phase covers all.
-  pub start-loads : loads mostWorkers (kinds tree) ws firstPhases
-      ≡ set (replicate mostWorkers 0) 0 (weightBefore ws (length (kinds tree)))
-  unfolding loads workerLoad firstPhases count sum
-  start-loads = rw (first-load, add-zero (weightBefore ws (length (kinds tree)))) refl
+  -- All loads together stay what they were.
+  pub begin-whole : sum (λ y. y) (loads mostWorkers ks ws (begin phs t k o)) ≡ sum (λ y. y) (loads mostWorkers ks ws phs)
+  begin-whole =
+      let size = loads-length mostWorkers ks ws phs in
+      rw begin-loads (moved-sum (loads mostWorkers ks ws phs) t v (partWeight ks ws o) (omega arith) (omega arith) begin-fits)
 
-  module _ (s : Run) (inv : Invariant p (kinds tree) s) (t v : ℕ) (small : t < mostWorkers) (few : v < mostWorkers)
-      (other : t ≡ v → ⊥) (full : length (workerAt s v .hand .deque) ≡ 0 → ⊥) where
-    -- What is stolen is all in the victim's load,
-    pub steal-fits : partWeight (kinds tree) ws (oldest (workerAt s v .hand .deque)) ≤ getD (loads mostWorkers (kinds tree) ws (s .phases)) v 0
-    unfolding taken
-    steal-fits =
-        omega (
-          arith,
-          loads-at mostWorkers (kinds tree) ws (s .phases) v few,
-          victim-less p (kinds tree) ws (frame .shape) s inv t v full other,
-        )
-
-    -- and goes to the thief's.
-    pub steal-loads : loads mostWorkers (kinds tree) ws (steal s t v .phases)
-        ≡ loadMoved (loads mostWorkers (kinds tree) ws (s .phases)) t v (partWeight (kinds tree) ws (oldest (workerAt s v .hand .deque)))
-    unfolding taken
-    steal-loads =
-        let ks : List ℕ = kinds tree in
-        let old = loads-at mostWorkers ks ws (s .phases) in
-        let new = loads-at mostWorkers ks ws (steal s t v .phases) in
-        let size = loads-length mostWorkers ks ws s in
-        moved-is (loads mostWorkers ks ws (s .phases)) (loads mostWorkers ks ws (steal s t v .phases)) t v
-        (partWeight ks ws (oldest (workerAt s v .hand .deque))) (loads-length mostWorkers ks ws (steal s t v) ∙ sym size)
-        (omega arith) (omega arith) other
-        (omega (arith, old t small, new t small, thief-more p ks ws (frame .shape) s inv t v full other))
-        (omega (arith, old v few, new v few, victim-less p ks ws (frame .shape) s inv t v full other))
-        (λ u b n m.
-        let h : u < mostWorkers = omega arith in
-        omega (arith, old u h, new u h, rest-same p ks ws (frame .shape) s inv t v full u n m))
+  -- By the tables the part can be moved, where all loads together are the tree's weight and that fits 64 bits.
+  pub begin-movable : (ends sums : List ℕ) → length ks ≤ length ends → Ends ks ends (length ks) → length ks < length sums
+      → Sums ws sums (length ks) → sum (λ y. y) (loads mostWorkers ks ws phs) ≡ weightBefore ws (length ks)
+      → weightBefore ws (length ks) < 18446744073709551616 → Movable ends sums (loads mostWorkers ks ws phs) t v o
+  begin-movable ends sums long right longer added whole light =
+      let size = loads-length mostWorkers ks ws phs in
+      let inside = end-within ks sh o (x .within) in
+      let weighs = part-between ks ws sh ends sums right added o (x .within) in
+      let room = sum-two (λ (y : ℕ). y) 0 (loads mostWorkers ks ws phs) t v (omega arith) (omega arith) (x .other) in
+      record {
+        inTable = omega arith;
+        inSums = (omega arith, omega (arith, right o (x .within)));
+        rises = rw (start-sum ks ws sh ends sums right added o (x .within), end-sum ks ws sh ends sums right added o (x .within))
+            (weight-rises ws o (taskEnd ks o) (omega arith));
+        leaves = rw weighs begin-fits;
+        fits = rw weighs (omega (arith, begin-fits));
+      }

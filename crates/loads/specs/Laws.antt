@@ -1,0 +1,3 @@
+-- What need not be believed: everything here is proved from the definitions.
+--     Loads   the loads of phases, and how a steal moves weight from one to another
+pub mod Loads

@@ -1,0 +1,24 @@
+-- Conditions judged one after the other.
+use mathlib.Core.Path.{_≡_, refl}
+use mathlib.Core.List.{List, [], _∷_}
+use native.Mathlib.Decide.{ℕ-discrete}
+use borrow.Author.Tests.{eq-eqb, ne-eqb}
+use Rattle.rules.specs.Bytes.{Verdict, accepted, firstRefused}
+
+-- Where none of them refuses, the first does not, nor do the others,
+pub first-accepts : (x : Verdict) (xs : List Verdict) → firstRefused (x ∷ xs) .number ≡ 0
+    → (x .number ≡ 0) × (firstRefused xs .number ≡ 0)
+unfolding firstRefused
+first-accepts x xs e =
+    elim (ℕ-discrete (x .number) 0) [
+      | yes z ↦ (z, rw (eq-eqb (x .number) 0 z) at e)
+      | no n ↦ absurd (n (rw (ne-eqb (x .number) 0 n) at e))
+    ]
+
+-- and no position is named.
+pub first-position : (vs : List Verdict) → firstRefused vs .number ≡ 0 → firstRefused vs .position ≡ 0
+unfolding firstRefused accepted
+first-position [] e = refl
+first-position (x ∷ xs) e =
+    let both = first-accepts x xs e in
+    rw (eq-eqb (x .number) 0 (both .0)) (first-position xs (both .1))
