@@ -1,0 +1,7 @@
+-- How a trace that replay accepts splits a tree into phases, whether a scheduler made it or not.
+--     Splits      what holds of every accepted trace (to be read); the theorem is `splits` of Laws/Consequences
+--     Invariant   what holds after each record
+--     Laws        the proofs, and that the trace of a run replays to the run's own phases
+pub mod Splits
+pub mod Invariant
+pub mod Laws

@@ -1,0 +1,1 @@
+// What is so of every run, as theorems in specs/. No code.
