@@ -15,6 +15,7 @@ use Rattle.state.specs.declared.Idle.{Idle}
 use Rattle.state.specs.declared.RunState.{RunState}
 use Rattle.state.specs.Answers.{numberValue}
 use Rattle.record.specs.declared.Recorded.{Recorded}
+use Rattle.replay.specs.declared.Replayed.{Replayed}
 use Rattle.host.specs.declared.FrameTree.{FrameTree}
 use Rattle.host.specs.declared.FrameTask.{FrameTask}
 use Rattle.host.specs.declared.FrameRunning.{FrameRunning}
@@ -22,6 +23,7 @@ use Rattle.host.specs.declared.FrameStart.{FrameStart}
 use Rattle.host.specs.declared.FrameEvent.{FrameEvent}
 use Rattle.host.specs.declared.FrameIdle.{FrameIdle}
 use Rattle.host.specs.declared.FrameRecord.{FrameRecord}
+use Rattle.host.specs.declared.FrameReplay.{FrameReplay}
 
 abbrev pub flatTree : Accepted → FrameTree
 flatTree a = record { number = a .number; position = a .position; steps = a .steps }
@@ -64,3 +66,7 @@ flatRecord a =
       loads = a .loads;
       heaviest = a .heaviest;
     }
+
+abbrev pub flatReplay : Replayed → FrameReplay
+flatReplay a =
+    record { number = a .number; position = a .position; phases = a .phases; loads = a .loads; heaviest = a .heaviest }

@@ -6,9 +6,10 @@ ghost use Rattle.rules.specs.Tree.{kinds, weights, kindAt, cont, finishBefore};
 ghost use Rattle.tree.specs.Answers.{acceptance};
 ghost use Rattle.tasks.specs.Answers.{taskOf, childOf, runningOf};
 ghost use Rattle.state.specs.Answers.{startAnswer, eventAnswer, idleAnswer};
-ghost use Rattle.rules.specs.Calls.{recordCall};
+ghost use Rattle.rules.specs.Calls.{recordCall, replayCall};
 ghost use Rattle.record.specs.Answers.{answers};
-ghost use Rattle.host.specs.Answers.{flatTree, flatTask, flatChild, flatRunning, flatStart, flatEvent, flatIdle, flatRecord};
+ghost use Rattle.replay.specs.Answers.{answers as replayAnswers};
+ghost use Rattle.host.specs.Answers.{flatTree, flatTask, flatChild, flatRunning, flatStart, flatEvent, flatIdle, flatRecord, flatReplay};
 use state::Outcome;
 use state::RunState;
 use tree::Step;
@@ -244,5 +245,39 @@ pub extern "C" fn frame_record(
         finished: recorded.finished as usize,
         loads,
         heaviest: recorded.heaviest,
+    }
+}
+
+// A replay's refusal and position, or the count of phases, each worker's load and the heaviest worker. What is not answered is
+// 0.
+#[repr(C)]
+pub struct FrameReplay {
+    pub number: usize,
+    pub position: usize,
+    pub phases: usize,
+    pub loads: [u64; 16],
+    pub heaviest: usize,
+}
+
+// Replays a trace: the run list stands at the front of the lent buffer then, and beyond it its old bytes. A refusal changes no
+// byte.
+#[no_mangle]
+pub extern "C" fn frame_replay(
+    tree: &[u8],
+    policy: u8,
+    trace: &[u8],
+    list: &mut [u8],
+) -> FrameReplay
+    ensures answers { λ r. ⌜ r ≡ flatReplay (replayAnswers (replayCall 16 policy (now (tree .entry)) (now (trace .entry)) (now (list .entry)))) ⌝ }
+    ensures list { λ r. ⌜ now (list .exit) ≡ replayCall 16 policy (now (tree .entry)) (now (trace .entry)) (now (list .entry)) .list ⌝ }
+{
+    let replayed = replay::replay(tree, policy, trace, list);
+    let loads = replayed.loads;
+    FrameReplay {
+        number: replayed.number as usize,
+        position: replayed.position,
+        phases: replayed.phases,
+        loads,
+        heaviest: replayed.heaviest,
     }
 }

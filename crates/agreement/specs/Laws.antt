@@ -1,0 +1,15 @@
+-- What need not be believed: everything here is proved from the rules.
+--     Live       the calls of single events beside the rules: refusals, the accepted events, the steals
+--     Records    records as bytes, read back
+--     Phases     entries of a log or a run list, counted by phase and by step
+--     Leading    the log of a run beside the run list of its phases
+--     Recorded   recording events that the rules accept
+--     Replayed   replaying the trace of a run
+--     Whole      recording the live run and replaying its trace
+pub mod Live
+pub mod Records
+pub mod Phases
+pub mod Leading
+pub mod Recorded
+pub mod Replayed
+pub mod Whole

@@ -1,0 +1,146 @@
+-- Recording events that the rules accept, each where it stands.
+use Prim.Native.Nat.{ℕ, suc, _*_, _/_, _%_, _≤_}
+use mathlib.Core.Path.{_≡_, refl, sym, ap, _∙_}
+use mathlib.Core.Bool.{Bool, true, false, cond}
+use mathlib.Core.List.{List, [], _∷_, _++_, map, flatten}
+use native.Mathlib.Decide.{ℕ-discrete}
+use native.Mathlib.Omega.{arith}
+use lib.ListN.{length, take, getD, length-append, length-map, List·getD-append}
+use lib.Seq.{take-length, take-append-le, take-append-seam, getD-append-seam}
+use borrow.Author.Tests.{eq-eqb, le-leb}
+use Rattle.rules.specs.Bytes.{wholeRecords, Verdict, accepted}
+use Rattle.rules.specs.Tree.{kinds}
+use Rattle.rules.specs.Scheduling.{mostWorkers, Run, start, judgeEvent}
+use Rattle.rules.specs.Calls.{startVerdict, afterEvents, Recorded, recordWalk, recordOf, recordRefused, recordCall}
+use Rattle.tasks.specs.Laws.Admission.{start-tree-accepts}
+use Rattle.tasks.specs.Laws.Frames.{Frame, accepted-frame}
+use Rattle.runs.specs.Laws.Moves.{map-one}
+use Rattle.runs.specs.Laws.Always.{always}
+use Rattle.runs.specs.Laws.Consequences.{runs-most, steals-most}
+use Rattle.record.specs.Answers.{tooShort}
+use Rattle.record.specs.Laws.Cases.{record-short, record-event, record-all}
+use Rattle.record.specs.Laws.Folds.{AcceptedTo, accepted-walks, refused-walks, walk-folds, counts}
+use Rattle.agreement.specs.Agreement.{Event, eventBytes, shortOutputs}
+use Rattle.agreement.specs.Laws.Live.{pair, event-records}
+
+-- ---- bytes
+
+bytes-length : (es : List Event) → length (eventBytes es) ≡ 2 * length es
+unfolding eventBytes flatten
+bytes-length [] = refl
+bytes-length (e ∷ es) = omega (arith, bytes-length es)
+
+bytes-whole : (es : List Event) → length es ≤ 8192 → wholeRecords 2 8192 (eventBytes es) ≡ true
+unfolding wholeRecords
+bytes-whole es h =
+    let bytes = bytes-length es in
+    rw (eq-eqb (length (eventBytes es) % 2) 0 (omega arith), le-leb (length (eventBytes es) / 2) 8192 (omega arith)) refl
+
+-- ---- the walk
+
+-- The rules' number for a last event is the walk's.
+module _ (p : ℕ) (ks : List ℕ) (es : List (List ℕ)) (e : List ℕ) (fine : AcceptedTo mostWorkers p ks es (length es)) where
+  abbrev more : List (List ℕ)
+  more = es ++ (e ∷ [])
+
+  before-last : AcceptedTo mostWorkers p ks more (length es)
+  before-last i h = rw (take-append-le i es (e ∷ []) (omega arith), List·getD-append es (e ∷ []) [] i h) (fine i h)
+
+  last-judged : judgeEvent ks (afterEvents p ks (start mostWorkers) (take (length es) more)) (getD more (length es) [])
+      ≡ judgeEvent ks (afterEvents p ks (start mostWorkers) es) e
+  last-judged = rw (take-append-seam es (e ∷ []), getD-append-seam es e [] []) refl
+
+  walk-last : recordWalk mostWorkers p ks more .verdict .number ≡ judgeEvent ks (afterEvents p ks (start mostWorkers) es) e
+  walk-last =
+      elim (ℕ-discrete (judgeEvent ks (afterEvents p ks (start mostWorkers) es) e) 0) [
+        | yes j ↦ accepted-walks mostWorkers p ks more (all j) ∙ sym j
+        | no n ↦ ap (λ (v : Verdict). v .number)
+            (refused-walks mostWorkers p ks more (length es) (omega (arith, length-append es (e ∷ []))) before-last
+            (λ z. n (sym last-judged ∙ z)))
+            ∙ last-judged
+      ]
+    where
+      all : judgeEvent ks (afterEvents p ks (start mostWorkers) es) e ≡ 0 → AcceptedTo mostWorkers p ks more (length more)
+      all j i h =
+          elim (ℕ-discrete i (length es)) [
+            | yes s ↦ rw s (last-judged ∙ j)
+            | no n ↦ before-last i (omega (arith, length-append es (e ∷ [])))
+          ]
+
+-- ---- the call
+
+module _ (p : ℕ) (tree : List ℕ) (starts : startVerdict p tree .number ≡ 0) where
+  abbrev Fine : List Event → Type 0
+  Fine es = AcceptedTo mostWorkers p (kinds tree) (map pair es) (length (map pair es))
+
+  abbrev runOf : List Event → Run
+  runOf es = afterEvents p (kinds tree) (start mostWorkers) (map pair es)
+
+  -- There are at most n runs and (n - 1) / 2 steals, and n is at most 4,095.
+  few : (es : List Event) → Fine es → suc (length es) ≤ 8192
+  few es fine =
+      let frame : Frame tree = accepted-frame tree (start-tree-accepts p tree starts) in
+      let inv = always p (kinds tree) (frame .some) (frame .shape) mostWorkers (omega arith) (map pair es) in
+      let all = counts mostWorkers p (kinds tree) (map pair es) (length (map pair es)) (omega arith) fine in
+      omega (
+        arith,
+        rw (take-length (map pair es)) at all,
+        length-map es pair,
+        runs-most p (kinds tree) (frame .some) (frame .shape) (runOf es) inv,
+        steals-most p (kinds tree) (frame .some) (frame .shape) (runOf es) inv,
+        frame .most,
+      )
+
+  module _ (log trace : List ℕ) where
+    short-number : (es : List Event) → length es ≤ 8192 → shortOutputs tree log trace ≡ true
+        → recordCall mostWorkers p tree (eventBytes es) log trace .verdict .number ≡ 7
+    unfolding recordRefused shortOutputs tooShort
+    short-number es h short =
+        ap (λ (x : Recorded). x .verdict .number)
+        (sym (record-short p tree (eventBytes es) log trace starts (bytes-whole es h) short))
+
+    -- Past the lent outputs, the rules decide.
+    module _ (room : shortOutputs tree log trace ≡ false) where
+      by-walk : (es : List Event) → length es ≤ 8192
+          → recordCall mostWorkers p tree (eventBytes es) log trace .verdict .number
+          ≡ recordWalk mostWorkers p (kinds tree) (map pair es) .verdict .number
+      unfolding recordOf recordRefused accepted shortOutputs tooShort
+      by-walk es h =
+          let read = event-records es in
+          let walked = recordWalk mostWorkers p (kinds tree) (map pair es) .verdict in
+          elim (ℕ-discrete (walked .number) 0) [
+            | yes z ↦ ap (λ (x : Recorded). x .verdict .number)
+                (sym (record-all p tree (eventBytes es) log trace starts (bytes-whole es h) room (rw read z)))
+                ∙ sym z
+            | no n ↦ ap (λ (x : Recorded). x .verdict .number)
+                (sym (record-event p tree (eventBytes es) log trace starts (bytes-whole es h) room walked (rw read refl) n))
+          ]
+
+      -- What recording answers.
+      pub recorded-is : (es : List Event) → Fine es
+          → recordCall mostWorkers p tree (eventBytes es) log trace ≡ recordOf mostWorkers p tree (runOf es) log trace
+      unfolding shortOutputs tooShort
+      recorded-is es fine =
+          let read = event-records es in
+          let walked = accepted-walks mostWorkers p (kinds tree) (map pair es) fine in
+          let listed = bytes-whole es (omega (arith, few es fine)) in
+          sym (record-all p tree (eventBytes es) log trace starts listed room (rw read walked))
+          ∙ rw (read, walk-folds mostWorkers p (kinds tree) (map pair es) walked .0) refl
+
+      -- One event more is accepted or refused as the rules say.
+      pub recorded-one : (es : List Event) → Fine es → (e : Event)
+          → recordCall mostWorkers p tree (eventBytes (es ++ (e ∷ []))) log trace .verdict .number
+          ≡ judgeEvent (kinds tree) (runOf es) (pair e)
+      recorded-one es fine e =
+          by-walk (es ++ (e ∷ [])) (omega (arith, few es fine, length-append es (e ∷ [])))
+          ∙ rw (map-one pair es e) (walk-last p (kinds tree) (map pair es) (pair e) fine)
+
+    pub recorded-number : (es : List Event) → Fine es
+        → recordCall mostWorkers p tree (eventBytes es) log trace .verdict .number ≡ cond (shortOutputs tree log trace) 7 0
+    recorded-number es fine = by (shortOutputs tree log trace) refl
+      where
+        by : (b : Bool) → shortOutputs tree log trace ≡ b
+            → recordCall mostWorkers p tree (eventBytes es) log trace .verdict .number ≡ cond b 7 0
+        by true short = short-number es (omega (arith, few es fine)) short
+        by false room =
+            by-walk room es (omega (arith, few es fine)) ∙ accepted-walks mostWorkers p (kinds tree) (map pair es) fine

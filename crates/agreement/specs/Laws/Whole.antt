@@ -1,0 +1,183 @@
+-- The theorem: recording the live run, replaying its trace, and what both leave, by the rules' run.
+use Prim.Native.Nat.{ℕ, suc, _-_, _*_, _/_, _≤_}
+use mathlib.Core.Path.{_≡_, refl, sym, ap, _∙_}
+use mathlib.Core.Bool.{false, cond}
+use mathlib.Core.List.{List, [], map, append-nil}
+use native.Mathlib.Omega.{arith}
+use lib.ListN.{length, take}
+use lib.Seq.{drop-nil}
+use Rattle.rules.specs.Bytes.{records}
+use Rattle.rules.specs.Tree.{kinds}
+use Rattle.rules.specs.Scheduling.{mostWorkers, Entry, Steal, Run, judgeEvent}
+use Rattle.rules.specs.Traces.{traceBytes, runList}
+use Rattle.rules.specs.Calls.{startVerdict, written, finished, Recorded, recordOf, Replayed, replayOf, replayCall}
+use Rattle.tasks.specs.Laws.Admission.{start-tree-accepts, admitted-policy}
+use Rattle.tasks.specs.Laws.Frames.{Frame, accepted-frame}
+use Rattle.runs.specs.Invariant.{Invariant}
+use Rattle.runs.specs.Laws.Always.{always}
+use Rattle.runs.specs.Laws.Consequences.{steals-most, phases-count}
+use Rattle.splits.specs.Invariant.{Split}
+use Rattle.splits.specs.Laws.Always.{always-split}
+use Rattle.splits.specs.Laws.Traces.{trace-replays}
+use Rattle.splits.specs.Laws.Consequences.{list-none, list-length, list-once, list-within}
+use Rattle.state.specs.Answers.{startAnswer}
+use Rattle.agreement.specs.Agreement.{Event, entriesOf, replayedWorkers, liveWorkers, shortOutputs, shortList, live, steals, recorded, traced, logged, replayed, listed, Same, Agreement}
+use Rattle.agreement.specs.Laws.Live.{pair, runAfter, call-number, live-same, live-accepted, live-runs, live-steals}
+use Rattle.agreement.specs.Laws.Records.{Small, entries-back, trace-back, workers-back}
+use Rattle.agreement.specs.Laws.Phases.{PhasesBelow, StepsBelow, below-small}
+use Rattle.agreement.specs.Laws.Leading.{log-steps, first-leads, log-leading, finished-whole, whole-finished, finished-counts}
+use Rattle.agreement.specs.Laws.Recorded.{recorded-is, recorded-one, recorded-number}
+use Rattle.agreement.specs.Laws.Replayed.{replayed-is, replayed-number}
+
+module _ (p : ℕ) (tree : List ℕ) (starts : startVerdict p tree .number ≡ 0) (es : List Event) where
+  -- The rules' run of the events.
+  abbrev run : Run
+  run = runAfter p tree starts es
+
+  abbrev ks : List ℕ
+  ks = kinds tree
+
+  frame : Frame tree
+  frame = accepted-frame tree (start-tree-accepts p tree starts)
+
+  inv : Invariant p ks run
+  unfolding runAfter
+  inv = always p ks (frame .some) (frame .shape) mostWorkers (omega arith) (map pair es)
+
+  -- Its trace replays to its phases, so they split the tree.
+  split : Split p ks (run .phases)
+  unfolding runAfter
+  split =
+      let either = admitted-policy p tree starts in
+      let f = frame in
+      let trace = records 4 (traceBytes p ks (run .steals)) in
+      rw (trace-replays p either ks (f .some) (f .most) (f .shape) (f .kind) mostWorkers (omega arith) (map pair es))
+      at (always-split p either ks (f .some) (f .shape) mostWorkers trace)
+
+  -- The run list of its phases.
+  abbrev ran-list : List Entry
+  ran-list = runList p ks (run .phases)
+
+  steals-are : steals p tree es ≡ run .steals
+  unfolding steals
+  steals-are = live-steals p tree starts es
+
+  -- Its phases and its steals are few.
+  few-steals : length (run .steals) ≤ (length ks - 1) / 2
+  few-steals = steals-most p ks (frame .some) (frame .shape) run inv
+
+  phases-are : length (run .phases) ≡ suc (length (run .steals))
+  phases-are = phases-count p ks (frame .some) (frame .shape) run inv
+
+  -- So what is written fits its bytes.
+  small : (entries : List Entry) → PhasesBelow (length (run .phases)) entries → StepsBelow (length ks) entries → Small entries
+  small =
+      below-small (length (run .phases)) (length ks) (omega (arith, phases-are, few-steals, frame .most))
+      (omega (arith, frame .most))
+
+  log-small : Small (run .log)
+  log-small = small (run .log) (inv .logged) (log-steps p ks (frame .some) (frame .shape) run inv split)
+
+  list-small : Small ran-list
+  list-small =
+      small ran-list (list-none p ks (run .phases)) (list-within p ks (frame .some) (frame .shape) (run .phases) split)
+
+  module _ (log trace : List ℕ) (room : shortOutputs tree log trace ≡ false) where
+    recorded-run : recorded p tree es log trace ≡ recordOf mostWorkers p tree run log trace
+    unfolding recorded live runAfter
+    recorded-run =
+        recorded-is p tree starts log trace room (live p tree es) (live-accepted p tree starts es)
+        ∙ ap {B = Recorded} (λ (r : Run). recordOf mostWorkers p tree r log trace) (live-same p tree starts es)
+
+    log-count : recorded p tree es log trace .logCount ≡ length (run .log)
+    unfolding recordOf
+    log-count = ap (λ (x : Recorded). x .logCount) recorded-run
+
+    trace-count : recorded p tree es log trace .traceCount ≡ length (run .steals)
+    unfolding recordOf
+    trace-count = ap (λ (x : Recorded). x .traceCount) recorded-run
+
+    finished-is : recorded p tree es log trace .finished ≡ finished ks run
+    unfolding recordOf
+    finished-is = ap (λ (x : Recorded). x .finished) recorded-run
+
+    traced-is : traced p tree es log trace ≡ traceBytes p ks (run .steals)
+    unfolding traced recordOf
+    traced-is =
+        ap (λ (x : Recorded). take (4 * x .traceCount) (x .trace)) recorded-run ∙ trace-back p ks (run .steals) trace
+
+    logged-is : logged p tree es log trace ≡ run .log
+    unfolding logged recordOf
+    logged-is =
+        ap {B = List Entry} (λ (x : Recorded). entriesOf (x .logCount) (x .log)) recorded-run
+        ∙ entries-back (run .log) log-small log
+
+    workers-are : replayedWorkers (recorded p tree es log trace .traceCount) (traced p tree es log trace)
+        ≡ liveWorkers (steals p tree es)
+    unfolding written
+    workers-are =
+        let bytes = traceBytes p ks (run .steals) in
+        let alone : written bytes [] ≡ bytes = rw (drop-nil {A = ℕ} (length bytes)) (append-nil bytes) in
+        rw (trace-count, traced-is, steals-are) (rw alone at (workers-back p ks (run .steals) []))
+
+    module _ (list : List ℕ) where
+      replayed-with : replayed p tree es log trace list ≡ replayCall mostWorkers p tree (traceBytes p ks (run .steals)) list
+      unfolding replayed
+      replayed-with = ap {B = Replayed} (λ (bytes : List ℕ). replayCall mostWorkers p tree bytes list) traced-is
+
+      replaying-is : replayed p tree es log trace list .verdict .number ≡ cond (shortList tree list) 7 0
+      unfolding runAfter
+      replaying-is =
+          ap (λ (x : Replayed). x .verdict .number) replayed-with ∙ replayed-number p tree starts (map pair es) list
+
+      module _ (fits : shortList tree list ≡ false) where
+        replayed-run : replayed p tree es log trace list ≡ replayOf mostWorkers p tree (run .phases) list
+        unfolding runAfter
+        replayed-run = replayed-with ∙ replayed-is p tree starts (map pair es) list fits
+
+        phase-count : replayed p tree es log trace list .phaseCount ≡ length (run .phases)
+        unfolding replayOf
+        phase-count = ap (λ (x : Replayed). x .phaseCount) replayed-run
+
+        listed-is : listed p tree es log trace list ≡ ran-list
+        unfolding listed replayOf
+        listed-is =
+            ap {B = List Entry} (λ (x : Replayed). entriesOf (length ks) (x .list)) replayed-run
+            ∙ (rw (list-length p ks (frame .some) (frame .shape) (run .phases) split) at (entries-back ran-list list-small list))
+
+        all-same : Same p tree es log trace list
+        unfolding live
+        all-same =
+            record {
+              logCount = log-count ∙ sym (live-runs p tree starts es);
+              traceCount = trace-count ∙ ap (λ (l : List Steal). length l) (sym steals-are);
+              fewSteals = rw steals-are few-steals;
+              phaseCount = rw steals-are (phase-count ∙ phases-are);
+              workers = workers-are;
+              firsts = λ k h.
+                  rw (listed-is, steals-are)
+                  (first-leads p ks (frame .some) (frame .shape) run inv split k (rw phase-count at h));
+              leads = λ k. rw (logged-is, listed-is) (log-leading p ks (frame .some) (frame .shape) run inv split k);
+              finished = finished-is
+                  ∙ (finished-counts p ks (frame .some) (frame .shape) run inv split ∙ rw (live-runs p tree starts es) refl);
+              whole = λ f k.
+                  rw (logged-is, listed-is)
+                  (finished-whole p ks (frame .some) (frame .shape) run inv split (sym finished-is ∙ f) k);
+              only = λ same.
+                  finished-is
+                  ∙ whole-finished p ks (frame .some) (frame .shape) run inv split (rw (logged-is, listed-is) at same);
+              once = λ j h. rw listed-is (list-once p ks (frame .some) (frame .shape) (run .phases) split j h);
+            }
+
+pub agrees : (p : ℕ) (tree : List ℕ) → startAnswer p tree .number ≡ 0 → (es : List Event) → Agreement p tree es
+unfolding startAnswer recorded live runAfter
+agrees p tree starts es =
+    record {
+      number = λ before after e split log trace room.
+          call-number p tree starts before e
+          ∙ (ap (λ (r : Run). judgeEvent (kinds tree) r (pair e)) (sym (live-same p tree starts before))
+          ∙ sym (recorded-one p tree starts log trace room (live p tree before) (live-accepted p tree starts before) e));
+      recording = λ log trace. recorded-number p tree starts log trace (live p tree es) (live-accepted p tree starts es);
+      replaying = λ log trace list room. replaying-is p tree starts es log trace room list;
+      same = λ log trace list room fits. all-same p tree starts es log trace room list fits;
+    }

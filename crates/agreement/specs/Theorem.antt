@@ -1,0 +1,10 @@
+-- Demand 3: for every tree and policy that start accepts, and every list of events.
+use Prim.Native.Nat.{ℕ}
+use mathlib.Core.Path.{_≡_}
+use mathlib.Core.List.{List}
+use Rattle.state.specs.Answers.{startAnswer}
+use Rattle.agreement.specs.Agreement.{Event, Agreement}
+use Rattle.agreement.specs.Laws.Whole.{agrees}
+
+pub same-phases : (p : ℕ) (tree : List ℕ) → startAnswer p tree .number ≡ 0 → (es : List Event) → Agreement p tree es
+same-phases = agrees

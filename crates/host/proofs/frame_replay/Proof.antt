@@ -1,0 +1,24 @@
+-- `host::frame_replay` meets its contract: it flattens what `replay` answers. Assumes nothing.
+use mathlib.Core.Path.{ap}
+use Rattle.host.specs.declared.FrameReplay.{FrameReplay}
+use Rattle.host.specs.Answers.{flatReplay}
+use borrow.Author.Needs.{needs}
+use Rattle.host.proofs.frame_replay.Statement.{statement}
+use Rattle.host.proofs.frame_replay.Tie as tie
+
+replay-requires : tie.Need-replay-requires
+replay-requires c κs = search needs
+
+cast-t9 : tie.Need-cast-t9
+cast-t9 c = search needs
+
+same-length : tie.Need-same-length
+same-length c = search needs
+
+returns : tie.Need-returns
+returns c =
+    let e = c .before .before .before .before .replay .ensures in
+    (ap {B = FrameReplay} flatReplay (e .0), e .1)
+
+pub frame-replay-spec : {M : Type 1} → statement M
+frame-replay-spec = tie.close (tie.spec replay-requires cast-t9 same-length returns)

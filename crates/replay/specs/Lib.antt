@@ -1,0 +1,5 @@
+-- Replay: a trace to the run list.
+--     Answers   what the call answers, by the rules (to be believed)
+--     Laws      each of its answers (proved)
+pub mod Answers
+pub mod Laws
