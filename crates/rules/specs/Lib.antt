@@ -4,13 +4,17 @@
 --     Scheduling   "Scheduling"
 --     Traces       "Trace, log, run list"
 --     Calls        "Refusals": what a whole call answers and writes
+--     Program      what program `phases` prints
 -- Proved from these, so not to be believed:
 --     Cases        "Tree S and its schedules": P1 to P12, one theorem
 --     NearMisses   cases that tell the rules from near misses, one theorem
+--     Listing      the worked example of program `phases`, and refusals that it prints
 pub mod Bytes
 pub mod Tree
 pub mod Scheduling
 pub mod Traces
 pub mod Calls
+pub mod Program
 pub mod Cases
 pub mod NearMisses
+pub mod Listing

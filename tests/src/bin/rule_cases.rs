@@ -4,6 +4,7 @@
 use std::fmt::Write;
 
 use frame_tests::random::{accepted_bytes, damaged_tree, drive, trace, tree, Plan, Rng};
+use frame_tests::phases::phases;
 use frame_tests::{record, replay, Policy, Run, Tree};
 
 /// How many rows a theorem has. antt computes each theorem within a fixed count of steps.
@@ -11,6 +12,9 @@ const ROWS: u64 = 10;
 
 /// A damaged tree is at most so long here: antt computes with lists of tens of records.
 const LONGEST: usize = 600;
+
+/// The rules' names of what program `phases` prints. `answer` of their table of cases has all others.
+const PROGRAM: &str = "inputPolicy inputCount inputTree inputTrace digits decimal line heading phaseLines refusedLine phasesText printed";
 
 /// Bytes as the rules' tables write them: a hexadecimal numeral.
 fn bytes(list: &[u8]) -> String {
@@ -86,16 +90,21 @@ fn record_row(out: &mut String, seed: u64) {
     .expect("a string takes all");
 }
 
+/// A few trace records for the scene, some of them bad.
+fn steals(rng: &mut Rng, policy: u8, tree: &[u8]) -> Vec<u8> {
+    match (Policy::parse(policy), Tree::parse(tree)) {
+        (Ok(policy), Ok(tree)) => {
+            let (most, bad) = (rng.below(6), rng.pick(&[0, 0, 10, 40]));
+            trace(rng, policy, &tree, most, bad)
+        }
+        _ => vec![1, 0, 1, 0],
+    }
+}
+
 fn replay_row(out: &mut String, seed: u64) {
     let mut rng = Rng::new(seed);
     let (policy, bytes_of_tree) = scene(&mut rng);
-    let records = match (Policy::parse(policy), Tree::parse(&bytes_of_tree)) {
-        (Ok(policy), Ok(tree)) => {
-            let (most, bad) = (rng.below(6), rng.pick(&[0, 0, 10, 40]));
-            trace(&mut rng, policy, &tree, most, bad)
-        }
-        _ => vec![1, 0, 1, 0],
-    };
+    let records = steals(&mut rng, policy, &bytes_of_tree);
     let n = bytes_of_tree.len() / 8;
     let mut list = lent(&mut rng, 4 * n);
     let call = format!("replayCall 16 {policy} {} {} {}", bytes(&bytes_of_tree), bytes(&records), bytes(&list));
@@ -112,6 +121,21 @@ fn replay_row(out: &mut String, seed: u64) {
         bytes(&list)
     )
     .expect("a string takes all");
+}
+
+/// What program `phases` prints: mostly for a whole input, sometimes with another count of records, or cut anywhere.
+fn print_row(out: &mut String, seed: u64) {
+    let mut rng = Rng::new(seed);
+    let (policy, tree) = scene(&mut rng);
+    let n = if rng.percent(15) { rng.below(20) } else { tree.len() / 8 };
+    let mut input = vec![policy];
+    input.extend((n as u16).to_le_bytes());
+    input.extend(&tree);
+    input.extend(steals(&mut rng, policy, &tree));
+    if rng.percent(15) {
+        input.truncate(rng.below(input.len()));
+    }
+    write!(out, "record {{ got = printed 16 {}; says = {} }} ∷ ", bytes(&input), bytes(&phases(&input))).expect("a string takes all");
 }
 
 /// The idle workers after some accepted events, against the simulator's.
@@ -144,26 +168,32 @@ fn tables(out: &mut String, name: &str, row: &str, from: u64, theorems: u64, wri
         }
         writeln!(out, "unfoldable {name}-{t} : List {row}\n{name}-{t} = {rows}[]\n").expect("a string takes all");
         writeln!(out, "{name}-{t}-holds : map (λ r. r .got) {name}-{t} ≡ map (λ r. r .says) {name}-{t}").expect("a string takes all");
-        writeln!(out, "unfolding answer bytes {name}-{t}\n{name}-{t}-holds = refl\n").expect("a string takes all");
+        writeln!(out, "unfolding answer bytes {PROGRAM} {name}-{t}\n{name}-{t}-holds = refl\n").expect("a string takes all");
     }
 }
 
 fn main() {
+    let names = PROGRAM.replace(' ', ", ");
     let mut args = std::env::args().skip(1).map(|a| a.parse::<u64>().expect("a number"));
     let (from, theorems) = (args.next().unwrap_or(0), args.next().unwrap_or(10));
     let mut out = String::from(
         "-- Random calls and the simulator's answers.\n\
+         use Prim.Native.Nat.{ℕ}\n\
          use mathlib.Core.Path.{_≡_, refl}\n\
          use mathlib.Core.Bool.{true, false}\n\
          use mathlib.Core.List.{List, [], _∷_, map}\n\
          use Rattle.rules.specs.Calls.{Recorded, recordCall, Replayed, replayCall}\n\
+         use Rattle.rules.specs.Program.{NAMES}\n\
          use Rattle.rules.specs.Cases.{idling, Answer, idle, answer, bytes}\n\n\
          record RecordRow : Type 0 where\n  got : Recorded\n  says : Recorded\n\n\
          record ReplayRow : Type 0 where\n  got : Replayed\n  says : Replayed\n\n\
-         record IdleRow : Type 0 where\n  got : Answer\n  says : Answer\n\n",
-    );
+         record IdleRow : Type 0 where\n  got : Answer\n  says : Answer\n\n\
+         record TextRow : Type 0 where\n  got : List ℕ\n  says : List ℕ\n\n",
+    )
+    .replace("NAMES", &names);
     tables(&mut out, "recorded", "RecordRow", from, theorems, record_row);
     tables(&mut out, "replayed", "ReplayRow", from, theorems, replay_row);
     tables(&mut out, "idled", "IdleRow", from, theorems, idle_row);
+    tables(&mut out, "listed", "TextRow", from, theorems, print_row);
     print!("{out}");
 }

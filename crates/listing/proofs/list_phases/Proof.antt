@@ -1,0 +1,184 @@
+-- `listing::list_phases` meets its contract: laws say what the parts of the input are, and what is printed of a refused and of
+-- an accepted replay. Assumes nothing.
+use Prim.Native.Nat.{ℕ}
+use mathlib.Core.Path.{_≡_, refl, ap, _∙_}
+use mathlib.Core.List.{List}
+use native.Mathlib.Omega.{arith}
+use lib.ListN.{length}
+use borrow.Author.Needs.{needs}
+use Rattle.rules.specs.Tree.{kinds}
+use Rattle.rules.specs.Program.{inputTree}
+use Rattle.listing.specs.Laws.Texts.{text-is}
+use Rattle.listing.specs.Laws.Inputs.{Parts, input-parts}
+use Rattle.listing.specs.Laws.Phases.{Called, parts-called, called-refused, called-steps, called-room, called-phases, called-listed}
+use Rattle.listing.proofs.list_phases.Statement.{statement}
+use Rattle.listing.proofs.list_phases.Tie as tie
+
+-- ---- what is known past the call
+
+abbrev entry : tie.After-place2 → tie.Start
+entry c = c .before .before .before .before .before .before .before
+
+parts : (c : tie.After-place2)
+    → let policy = c .before .before .before .before .byte in
+    Parts (entry c .args .input .now) (policy .result) (c .before .place .result) (c .place2 .result)
+parts c =
+    let policy = c .before .before .before .before .byte in
+    let low = c .before .before .before .byte2 in
+    let high = c .before .before .byte3 in
+    let start = c .before .place in
+    let end = c .place2 in
+    input-parts (entry c .args .input .now) (policy .result) (low .result) (high .result) (start .result) (end .result)
+    (policy .ensures) (low .ensures) (high .ensures) (start .ensures) (end .ensures)
+
+abbrev read : tie.After-replay → tie.After-place2
+read c = c .before .before .before .before
+
+called : (c : tie.After-replay)
+    → Called (entry (read c) .args .input .now) (c .replay .result) (c .replay .last .1 .1 .1 .0)
+called c =
+    let replay = c .replay in
+    parts-called (parts (read c)) _ (replay .result) (replay .last .1 .1 .1 .0) (replay .ensures .0) (replay .ensures .1) refl
+
+-- Past an accepted call.
+abbrev replay-at : tie.After-steps → tie.After-replay
+replay-at c = c .before .before .before .before .before .before
+
+steps-are : (c : tie.After-steps) → c .steps .result ≡ length (kinds (inputTree (entry (read (replay-at c)) .args .input .now)))
+steps-are c = c .steps .ensures ∙ ap (λ (l : List ℕ). length (kinds l)) (parts (read (replay-at c)) .tree-is)
+
+-- ---- the needs
+
+byte-requires : tie.Need-byte-requires
+byte-requires c κs = search needs
+
+byte-requires-2 : tie.Need-byte-requires-2
+byte-requires-2 c κs = search needs
+
+cast-n : tie.Need-cast-n
+cast-n c = search needs
+
+byte-requires-3 : tie.Need-byte-requires-3
+byte-requires-3 c κs = search needs
+
+cast-n-2 : tie.Need-cast-n-2
+cast-n-2 c = search needs
+
+mul-n : tie.Need-mul-n
+mul-n c = search needs
+
+add-n : tie.Need-add-n
+add-n c = search needs
+
+place-requires : tie.Need-place-requires
+place-requires c κs = search needs
+
+mul-place : tie.Need-mul-place
+mul-place c = search needs
+
+add-place : tie.Need-add-place
+add-place c = search needs
+
+place-requires-2 : tie.Need-place-requires-2
+place-requires-2 c κs = search needs
+
+sub-tree : tie.Need-sub-tree
+sub-tree c = search needs
+
+part-tree-start : tie.Need-part-tree-start
+part-tree-start c = search needs
+
+part-tree-end : tie.Need-part-tree-end
+part-tree-end c = search needs
+
+sub-trace : tie.Need-sub-trace
+sub-trace c = search needs
+
+part-trace-start : tie.Need-part-trace-start
+part-trace-start c = search needs
+
+part-trace-end : tie.Need-part-trace-end
+part-trace-end c = search needs
+
+slice-aggregate-replay : tie.Need-slice-aggregate-replay
+slice-aggregate-replay c = search needs
+
+replay-requires : tie.Need-replay-requires
+replay-requires c κs = search needs
+
+cast-put-refusal : tie.Need-cast-put-refusal
+cast-put-refusal c = search needs
+
+put-refusal-requires : tie.Need-put-refusal-requires
+put-refusal-requires c κs = search needs
+
+same-length : tie.Need-same-length
+same-length c = search needs
+
+returns : tie.Need-returns
+returns c =
+    let put = c .before .before .put-refusal in
+    let at = c .before .before .before .before .before in
+    let replay = at .before .before .before in
+    let text = entry (read replay) .args .text .now in
+    let all = called-refused (called replay) (at .if1 .taken) in
+    text-is text (put .last .0) (put .result) all (put .ensures)
+
+slice-aggregate-put-listing : tie.Need-slice-aggregate-put-listing
+slice-aggregate-put-listing c = search needs
+
+steps-requires : tie.Need-steps-requires
+steps-requires c κs = search needs
+
+put-listing-requires : tie.Need-put-listing-requires
+put-listing-requires c κs =
+    let known = called (replay-at c) in
+    let none = c .before .before .before .if1 .left in
+    let same = steps-are c in
+    let phases = rw (← same, ← parts (read (replay-at c)) .trace-is) at (called-phases known none) in
+    (omega (arith, called-room known none), omega (arith, called-steps known none, entry (read (replay-at c)) .pre), phases)
+
+same-length-2 : tie.Need-same-length-2
+same-length-2 c = search needs
+
+returns-2 : tie.Need-returns-2
+returns-2 c =
+    let put = c .before .before .put-listing in
+    let at = c .before .before .before in
+    let text = entry (read (replay-at at)) .args .text .now in
+    let listed = called-listed (called (replay-at at)) (at .before .before .before .if1 .left) in
+    let all = rw (← steps-are at, ← parts (read (replay-at at)) .trace-is) at listed in
+    text-is text (put .last .0) (put .result) all (put .ensures)
+
+pub list-phases-spec : {M : Type 1} → statement M
+list-phases-spec =
+    tie.close
+    (tie.spec
+    byte-requires
+    byte-requires-2
+    cast-n
+    byte-requires-3
+    cast-n-2
+    mul-n
+    add-n
+    place-requires
+    mul-place
+    add-place
+    place-requires-2
+    sub-tree
+    part-tree-start
+    part-tree-end
+    sub-trace
+    part-trace-start
+    part-trace-end
+    slice-aggregate-replay
+    replay-requires
+    cast-put-refusal
+    put-refusal-requires
+    same-length
+    returns
+    slice-aggregate-put-listing
+    steps-requires
+    put-listing-requires
+    same-length-2
+    returns-2)

@@ -1,0 +1,41 @@
+-- Document 01's worked example of program `phases`, and refusals that it prints, one theorem closed by computation.
+use Prim.Native.Nat.{ℕ}
+use mathlib.Core.Path.{_≡_, refl}
+use mathlib.Core.List.{List, [], _∷_, _++_, map, flatten}
+use lib.ListN.{take}
+use Rattle.rules.specs.Scheduling.{mostWorkers}
+use Rattle.rules.specs.Program.{inputPolicy, inputCount, inputTree, inputTrace, digits, decimal, line, heading, phaseLines, refusedLine, phasesText, printed}
+use Rattle.rules.specs.Cases.{answer, bytes, ofKinds, S}
+
+-- Policy and n in front of a tree and a trace.
+unfoldable fed : List ℕ → List ℕ → List ℕ → List ℕ
+fed head tree trace = head ++ (tree ++ trace)
+
+-- "For 01 07 00, S and P1's trace". Then P8 and P12, an empty input, and S cut to five records.
+unfoldable inputs : List (List ℕ)
+inputs =
+    fed (bytes 3 0x01_0700) S (bytes 12 0x0100_0100_0201_0200_0001_0100)
+    ∷ fed (bytes 3 0x01_0700) S (bytes 8 0x0100_0100_0201_0100)
+    ∷ fed (bytes 3 0x02_0700) S (bytes 4 0x0001_0100)
+    ∷ []
+    ∷ fed (bytes 3 0x01_0500) (take 40 S) []
+    ∷ []
+
+-- In ASCII: the heading and seven lines, three to a numeral; then `refused 15 1`, `refused 14 0`, `refused 1 0`, `refused 5 5`.
+unfoldable texts : List (List ℕ)
+texts =
+    flatten
+    (bytes 18 0x7068_6173_6520_776f_726b_6572_2073_7465_700a
+    ∷ bytes 18 0x3020_3020_300a_3020_3020_310a_3120_3120_320a
+    ∷ bytes 18 0x3120_3120_330a_3120_3120_340a_3220_3220_360a
+    ∷ bytes 6 0x3320_3020_350a
+    ∷ [])
+    ∷ bytes 13 0x7265_6675_7365_6420_3135_2031_0a
+    ∷ bytes 13 0x7265_6675_7365_6420_3134_2030_0a
+    ∷ bytes 12 0x7265_6675_7365_6420_3120_300a
+    ∷ bytes 12 0x7265_6675_7365_6420_3520_350a
+    ∷ []
+
+printed-as-shown : map (printed mostWorkers) inputs ≡ texts
+unfolding answer bytes ofKinds S fed inputs texts inputPolicy inputCount inputTree inputTrace digits decimal line heading phaseLines refusedLine phasesText printed flatten
+printed-as-shown = refl
