@@ -15,7 +15,10 @@ mod stack;
 use frame_tests::record::{record, EVENT_BYTES};
 use frame_tests::Run;
 use library::FrameRecord;
-use shared::{geometric_mean, medians, round, schedule, tree, Shape, BALANCED, DEEP, FLAT, POLICIES, RANDOM, WORKERS};
+use shared::{
+    divided, geometric_mean, growth, least, medians, round, schedule, tree, Shape, BALANCED, DEEP, FLAT, POLICIES, RANDOM,
+    WORKERS,
+};
 
 const COUNTS: [usize; 4] = [63, 255, 1_023, 4_095];
 const LARGEST: usize = COUNTS[COUNTS.len() - 1];
@@ -79,18 +82,6 @@ impl Case {
     }
 }
 
-/// Case by case, how many times as much.
-fn divided(times: &[f64], by: &[f64]) -> Vec<f64> {
-    times.iter().zip(by).map(|(time, by)| time / by).collect()
-}
-
-/// The geometric mean, and the most of a case.
-fn growth(times: &[f64], smallest: &[f64]) -> String {
-    let growth = divided(times, smallest);
-    let most = growth.iter().copied().fold(0.0, f64::max);
-    format!("{:.2} ({most:.2})", geometric_mean(&growth))
-}
-
 fn main() {
     if !shared::asked_for() {
         return;
@@ -127,8 +118,7 @@ fn main() {
         print!("{:>14.1}{:>13}", geometric_mean(simulator), growth(simulator, &sizes[0][1]));
         println!("{:>7.1}", geometric_mean(&ratio));
         if *n == LARGEST {
-            let smallest = ratio.iter().copied().fold(f64::INFINITY, f64::min);
-            println!("ratio simulator / library, the smallest at n = {n}: {smallest:.1}");
+            println!("ratio simulator / library, the smallest at n = {n}: {:.1}", least(&ratio));
         }
         ratios.extend(ratio);
     }

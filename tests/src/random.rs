@@ -3,7 +3,7 @@
 use crate::cover::WORKERS;
 use crate::record::MAX_EVENTS;
 use crate::replay::{Replay, MAX_TRACE};
-use crate::run::{Policy, Run};
+use crate::run::{Policy, Run, TraceRecord};
 use crate::tree::{Tree, MAX_OPEN, TREE_RECORD};
 
 /// splitmix64.
@@ -555,4 +555,307 @@ pub fn trace(rng: &mut Rng, policy: Policy, tree: &Tree, most: usize, bad: usize
         }
     }
     bytes
+}
+
+/// Help-first: the steps behind the phase's first one that could be stolen if
+/// they were alone, each with how many steps of its range are in the phase no
+/// more.
+fn ranges(replay: &Replay, phase: usize) -> Vec<(usize, usize)> {
+    let tree = &replay.tree;
+    let from = &replay.phases[phase];
+    // For each step how many of those before it are not in the phase.
+    let mut gone = vec![0];
+    for (step, covered) in from.covers(tree).into_iter().enumerate() {
+        gone.push(gone[step] + usize::from(!covered));
+    }
+    let may =
+        |&step: &usize| tree.first_of_async_child(step) || tree.finish_child_before(step).is_some();
+    let steps = tree.to_end_of_task(from.first).skip(1).filter(may);
+    steps.map(|step| (step, gone[tree.end_of(tree.task_of(step)) + 1] - gone[step])).collect()
+}
+
+/// The numbers that a steal from this phase may have now.
+pub fn numbers_left(replay: &Replay, phase: usize) -> Vec<u16> {
+    let tree = &replay.tree;
+    let from = &replay.phases[phase];
+    let numbers: Vec<usize> = match replay.policy {
+        Policy::WorkFirst => {
+            let above = if from.stolen.is_empty() { tree.ordinal(from.first) } else { 0 };
+            (above + 1..=tree.child_count(replay.frontier(phase))).collect()
+        }
+        Policy::HelpFirst => {
+            let whole = ranges(replay, phase).into_iter().filter(|&(_, gone)| gone == 0);
+            whole.map(|(step, _)| step).collect()
+        }
+    };
+    numbers.into_iter().map(|number| number as u16).collect()
+}
+
+/// How an accepted trace is made.
+#[derive(Clone, Copy, Debug)]
+pub struct Steals {
+    /// Workers 0 to workers - 1 take part.
+    pub workers: usize,
+    /// So many records at most.
+    pub most: usize,
+    /// In so many of a hundred cases the victim is one that has the least left
+    /// to steal, and so is the thief, whose latest phase is out of reach from
+    /// then on: so there are many steals.
+    pub careful: usize,
+    /// In so many of a hundred cases the number is the lowest there is,
+    /// under help-first often the longest range.
+    pub lowest: usize,
+}
+
+impl Steals {
+    pub fn any(rng: &mut Rng) -> Steals {
+        Steals {
+            workers: rng.between(2, WORKERS),
+            most: MAX_TRACE,
+            careful: rng.pick(&[0, 50, 90, 100]),
+            lowest: rng.pick(&[0, 50, 90, 100]),
+        }
+    }
+}
+
+/// An accepted trace that goes on until nothing is left to steal or the
+/// plan's count of records is reached. Hardly any scheduler makes it: thieves
+/// may be busy, and any number that is accepted is taken.
+pub fn accepted_trace(rng: &mut Rng, policy: Policy, tree: &Tree, plan: &Steals) -> Vec<u8> {
+    let mut replay = Replay::new(policy, tree.clone());
+    // For each worker the numbers that a steal from it may have.
+    let mut left = vec![Vec::new(); plan.workers];
+    left[0] = numbers_left(&replay, 0);
+    let mut bytes = Vec::new();
+    for _ in 0..plan.most.min(MAX_TRACE) {
+        let careful = rng.percent(plan.careful);
+        let pick = |rng: &mut Rng, mut workers: Vec<usize>| {
+            let least = workers.iter().map(|&w| left[w].len()).min()?;
+            workers.retain(|&w| !careful || left[w].len() == least);
+            Some(rng.pick(&workers))
+        };
+        let victims = (0..plan.workers).filter(|&w| !left[w].is_empty()).collect();
+        let Some(victim) = pick(rng, victims) else {
+            break;
+        };
+        let thieves = (0..plan.workers).filter(|&w| w != victim).collect();
+        let thief = pick(rng, thieves).expect("there are two workers");
+        let number =
+            if rng.percent(plan.lowest) { left[victim][0] } else { rng.pick(&left[victim]) };
+        replay.steal(thief as u8, victim as u8, number).expect("the number is left");
+        bytes.extend_from_slice(&trace_record(thief as u8, victim as u8, number));
+        for worker in [thief, victim] {
+            let phase = replay.latest[worker].expect("both have had a phase");
+            left[worker] = numbers_left(&replay, phase);
+        }
+    }
+    bytes
+}
+
+/// The trace that a random run of the tree leaves, finished or not.
+pub fn recorded_trace(rng: &mut Rng, policy: Policy, tree: &Tree) -> Vec<u8> {
+    let mut run = Run::new(policy, tree.clone());
+    let some = rng.below(2 * tree.count());
+    let plan = Plan { events: rng.pick(&[MAX_EVENTS, some]), ..Plan::any(rng) };
+    drive(rng, &mut run, &plan);
+    let record = |r: &TraceRecord| trace_record(r.thief as u8, r.victim as u8, r.number as u16);
+    run.trace.iter().flat_map(record).collect()
+}
+
+/// A record that may stand behind these accepted ones or not: thief and
+/// victim are in order, and the number is one of those that are refused for
+/// this or that reason.
+pub fn doubtful_record(rng: &mut Rng, policy: Policy, tree: &Tree, before: &[[u8; 4]]) -> [u8; 4] {
+    let mut replay = Replay::new(policy, tree.clone());
+    for record in before {
+        let number = u16::from_le_bytes([record[2], record[3]]);
+        replay.steal(record[0], record[1], number).expect("the record is accepted");
+    }
+    let victims: Vec<usize> = (0..WORKERS).filter(|&w| replay.latest[w].is_some()).collect();
+    let victim = rng.pick(&victims);
+    let thief = (victim + rng.between(1, WORKERS - 1)) % WORKERS;
+    let phase = replay.latest[victim].expect("the victim has had a phase");
+    let from = &replay.phases[phase];
+    let number = match (policy, rng.below(8)) {
+        (_, 0) => rng.pick(&[0, 1, 2, 255, 256, 4_094, 4_095, 4_096, 65_534, 65_535]),
+        (Policy::WorkFirst, 1) => tree.ordinal(from.first),
+        (Policy::WorkFirst, 2) => tree.child_count(replay.frontier(phase)) + 1,
+        (Policy::WorkFirst, _) => rng.between(0, tree.child_count(replay.frontier(phase)) + 2),
+        (Policy::HelpFirst, 1) => from.first,
+        (Policy::HelpFirst, 2) => tree.count() + rng.below(2),
+        // A range of which something is gone, if there is one.
+        (Policy::HelpFirst, 3 | 4) => {
+            let parts: Vec<(usize, usize)> =
+                ranges(&replay, phase).into_iter().filter(|&(_, gone)| gone > 0).collect();
+            if parts.is_empty() {
+                from.first
+            } else {
+                rng.pick(&parts).0
+            }
+        }
+        // A step of the phase's stretch, gone or not, then any step.
+        (Policy::HelpFirst, 5 | 6) => {
+            rng.between(from.first, tree.end_of(tree.task_of(from.first)))
+        }
+        (Policy::HelpFirst, _) => rng.below(tree.count()),
+    };
+    trace_record(thief as u8, victim as u8, number as u16)
+}
+
+/// The record with one thing about it changed; `before` are those that stand
+/// before it.
+fn damaged_record(rng: &mut Rng, before: &[[u8; 4]], record: [u8; 4]) -> [u8; 4] {
+    let [mut thief, mut victim, ..] = record;
+    let mut number = u16::from_le_bytes([record[2], record[3]]);
+    match rng.below(5) {
+        // Bits of one byte.
+        0 => {
+            let mut flipped = record;
+            flipped[rng.below(4)] ^= rng.between(1, 255) as u8;
+            return flipped;
+        }
+        // The number before or behind.
+        1 => number = if rng.percent(50) { number.wrapping_add(1) } else { number.wrapping_sub(1) },
+        // No worker, as thief, as victim or as both.
+        2 => {
+            let high = rng.pick(&[16, 17, 31, 32, 128, 255]);
+            let both = rng.percent(30);
+            if both || rng.percent(50) {
+                thief = high;
+            }
+            if both || thief != high {
+                victim = high;
+            }
+        }
+        // Equal workers.
+        3 => {
+            thief = rng.below(WORKERS) as u8;
+            victim = thief;
+        }
+        // A victim that has had no phase, if there is one.
+        _ => {
+            let had = |w: u8| w == 0 || w == thief || before.iter().any(|record| record[0] == w);
+            let others: Vec<u8> = (0..WORKERS as u8).filter(|&w| !had(w)).collect();
+            if !others.is_empty() {
+                victim = rng.pick(&others);
+            }
+        }
+    }
+    trace_record(thief, victim, number)
+}
+
+/// An accepted trace, one of a run or one that no scheduler makes; or such a
+/// trace cut short or with something bad in it.
+pub fn trace_to_replay(rng: &mut Rng, policy: Policy, tree: &Tree) -> Vec<u8> {
+    let accepted = if rng.percent(30) {
+        recorded_trace(rng, policy, tree)
+    } else {
+        let plan = Steals::any(rng);
+        accepted_trace(rng, policy, tree, &plan)
+    };
+    let mut list: Vec<[u8; 4]> = accepted.chunks(4).map(|r| [r[0], r[1], r[2], r[3]]).collect();
+    // Any record's place, or the one behind the last record.
+    let at = rng.between(0, list.len());
+    match rng.below(20) {
+        0..=3 => {}
+        4 => list.truncate(at),
+        // A cut in a record.
+        5 => {
+            let mut bytes = list.concat();
+            bytes.truncate(rng.between(0, bytes.len()));
+            return bytes;
+        }
+        // A record that may be refused, in between or at the end.
+        6..=9 => {
+            let doubtful = doubtful_record(rng, policy, tree, &list[..at]);
+            list.insert(at, doubtful);
+        }
+        // A damaged record, which may stand behind all others.
+        10..=14 => {
+            if at == list.len() {
+                list.push(doubtful_record(rng, policy, tree, &list));
+            }
+            list[at] = damaged_record(rng, &list[..at], list[at]);
+        }
+        // Two records exchanged.
+        15 | 16 if list.len() > 1 => {
+            let (a, b) = (rng.below(list.len()), rng.below(list.len()));
+            list.swap(a, b);
+        }
+        // A record twice, or one less.
+        17 if at < list.len() => list.insert(at, list[at]),
+        18 if at < list.len() => {
+            list.remove(at);
+        }
+        // Any records, or any bytes, from here on.
+        _ => {
+            list.truncate(at);
+            let bytes = rng.percent(30);
+            for _ in 0..rng.between(1, 12) {
+                let [thief, victim] = any_event(rng, WORKERS);
+                let near = trace_record(thief, victim, rng.between(0, tree.count() + 1) as u16);
+                list.push(if bytes { (rng.next() as u32).to_le_bytes() } else { near });
+            }
+        }
+    }
+    list.concat()
+}
+
+/// A tree of 2 * (spine + children) + 1 records and an accepted trace of
+/// spine + children steals, most of them of long ranges. So many tasks stand
+/// one in another; the innermost one, or the root, opens so many children of
+/// one step, and each thief is robbed in turn of all but its first child.
+pub fn robbed_in_turn(policy: Policy, spine: usize, children: usize) -> (Vec<u8>, Vec<u8>) {
+    // What is stolen is the rest of a task behind a child, under help-first
+    // behind a finish child.
+    let child = if policy == Policy::WorkFirst { 1 } else { 2 };
+    let kinds = [vec![1; spine], [child, 3].repeat(children), vec![3; spine + 1]].concat();
+    let mut trace = Vec::new();
+    let mut last = 0;
+    for k in 1..=spine + children {
+        let next = (last + 1) % WORKERS as u8;
+        let (thief, number) = match policy {
+            // Down the spine worker 0 loses the last step of each task and
+            // keeps the rest.
+            Policy::WorkFirst if k <= spine => (15, 1),
+            Policy::WorkFirst => (next, k - spine),
+            // Down the spine each thief takes the task in the last one's.
+            Policy::HelpFirst if k <= spine => (next, k),
+            Policy::HelpFirst => (next, spine + 2 * (k - spine)),
+        };
+        trace.extend_from_slice(&trace_record(thief, last, number as u16));
+        if policy == Policy::HelpFirst || k > spine {
+            last = thief;
+        }
+    }
+    (tree_of_kinds(&kinds), trace)
+}
+
+// ---- All small trees ----
+
+/// All trees with so many spawned tasks, all weights 1.
+pub fn all_trees(tasks: usize) -> Vec<Vec<u8>> {
+    fn go(left: usize, open: usize, kinds: &mut Vec<u8>, out: &mut Vec<Vec<u8>>) {
+        if left == 0 && open == 1 {
+            let mut whole = kinds.clone();
+            whole.push(3);
+            out.push(tree_of_kinds(&whole));
+            return;
+        }
+        if left > 0 {
+            for kind in [1, 2] {
+                kinds.push(kind);
+                go(left - 1, open + 1, kinds, out);
+                kinds.pop();
+            }
+        }
+        if open > 1 {
+            kinds.push(3);
+            go(left, open - 1, kinds, out);
+            kinds.pop();
+        }
+    }
+    let mut out = Vec::new();
+    go(tasks, 1, &mut Vec::new(), &mut out);
+    out
 }

@@ -3,9 +3,13 @@
 
 #[path = "library/guarded.rs"]
 mod guarded;
+#[path = "library/lent.rs"]
+mod lent;
 mod library;
 #[path = "library/stack.rs"]
 mod stack;
+#[path = "library/trees.rs"]
+mod trees;
 
 use std::fmt;
 
@@ -15,9 +19,11 @@ use frame_tests::random::{
 };
 use frame_tests::record::{record, MAX_EVENTS};
 use frame_tests::run::{Policy, Run};
-use frame_tests::tree::{Tree, MAX_OPEN};
+use frame_tests::tree::Tree;
 use guarded::Guarded;
+use lent::{about_to_call, put, same_bytes};
 use library::{FrameRecord, RUN};
+use trees::{trees, S};
 
 /// What a record call is given.
 struct Call {
@@ -93,6 +99,7 @@ impl Both {
         let lent_events = put(b, &call.events, call.ends[1]);
         let lent_log = put(c, &call.log, call.ends[2]);
         let lent_trace = put(d, &call.trace, call.ends[3]);
+        about_to_call(case);
         let got = library::record(lent_tree, call.policy, lent_events, lent_log, lent_trace);
         assert_eq!(got, want, "{case}");
         same_bytes(lent_log, &log, "log", case);
@@ -119,20 +126,6 @@ impl Both {
             let most = got.loads[got.heaviest];
             seen.equals += usize::from(got.loads.iter().filter(|&&load| load == most).count() > 1);
         }
-    }
-}
-
-fn put<'a>(room: &'a mut Guarded, bytes: &[u8], end: bool) -> &'a mut [u8] {
-    if end {
-        room.at_end(bytes)
-    } else {
-        room.at_start(bytes)
-    }
-}
-
-fn same_bytes(got: &[u8], want: &[u8], what: &str, case: fmt::Arguments) {
-    if let Some(k) = (0..want.len()).find(|&k| got[k] != want[k]) {
-        panic!("{case}: byte {k} of the {what} is {}, not {}", got[k], want[k]);
     }
 }
 
@@ -320,54 +313,6 @@ fn as_many_events_as_a_list_may_have() {
 }
 
 // ---- Which refusal wins ----
-
-/// Tree S.
-const S: [u8; 7] = [1, 3, 2, 1, 3, 3, 3];
-
-/// The tree of these kinds, with a byte of a record changed.
-fn changed(kinds: &[u8], position: usize, byte: usize, to: u8) -> Vec<u8> {
-    let mut bytes = tree_of_kinds(kinds);
-    bytes[8 * position + byte] = to;
-    bytes
-}
-
-/// Trees with the number and the position of their refusal: S, and every pair of 2 to 5 in one record or in two.
-fn trees() -> Vec<(Vec<u8>, (usize, usize))> {
-    // One child too many, one in the other.
-    let mut chain = vec![1; MAX_OPEN];
-    chain.extend([3; MAX_OPEN + 1]);
-    let open = [1; 70];
-    let s = tree_of_kinds(&S);
-    vec![
-        (s.clone(), (0, 0)),
-        // 2 alone, and where each of the others would follow.
-        (vec![], (2, 0)),
-        (s[..55].to_vec(), (2, 0)),
-        (flat_tree(2_048), (2, 0)),
-        (vec![9; 9], (2, 0)),
-        ([tree_of_kinds(&chain), vec![3]].concat(), (2, 0)),
-        (tree_of_kinds(&[3; 4_096]), (2, 0)),
-        // 3, alone and before or with 4 and 5.
-        (changed(&S, 0, 0, 0), (3, 0)),
-        (changed(&S, 6, 3, 1), (3, 6)),
-        (changed(&chain, 62, 1, 1), (3, 62)),
-        (changed(&chain, 63, 0, 4), (3, 63)),
-        (changed(&chain, 63, 2, 255), (3, 63)),
-        (tree_of_kinds(&[7, 3, 3]), (3, 0)),
-        (tree_of_kinds(&[3, 7, 3]), (3, 1)),
-        (tree_of_kinds(&[1, 0]), (3, 1)),
-        // 4, alone and before 3 and 5.
-        (tree_of_kinds(&chain), (4, 63)),
-        (changed(&chain, 64, 0, 9), (4, 63)),
-        (tree_of_kinds(&open), (4, 63)),
-        (tree_of_kinds(&[&chain[..], &[3]].concat()), (4, 63)),
-        // 5, alone and before 3 and 4.
-        (tree_of_kinds(&S[..6]), (5, 6)),
-        (tree_of_kinds(&[3, 3]), (5, 1)),
-        (tree_of_kinds(&[3, 3, 7]), (5, 1)),
-        (tree_of_kinds(&[&[3], &open[..]].concat()), (5, 1)),
-    ]
-}
 
 /// A start of a run of S after which one worker is idle, one waits and one can run its step with an empty deque; then events
 /// that are refused with 8 to 12 there.

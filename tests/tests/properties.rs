@@ -294,6 +294,36 @@ fn random_large_traces() {
     });
 }
 
+/// The maker of accepted traces knows all numbers that the simulator accepts,
+/// and goes on while there is one.
+#[test]
+fn numbers_left_are_those_accepted() {
+    for_seeds(75_000..76_500, |seed| {
+        let mut rng = Rng::new(seed);
+        let tasks = rng.between(0, 15);
+        let tree = Tree::parse(&random::tree(&mut rng, tasks)).unwrap();
+        let n = tree.count();
+        for policy in [Policy::WorkFirst, Policy::HelpFirst] {
+            let plan = random::Steals::any(&mut rng);
+            let trace = random::accepted_trace(&mut rng, policy, &tree, &plan);
+            let mut replay = Replay::new(policy, tree.clone());
+            for at in 0..=trace.len() / 4 {
+                for phase in replay.latest.into_iter().flatten() {
+                    let named = |&number: &usize| replay.named_step(phase, number).is_some();
+                    let accepted: Vec<usize> =
+                        (0..n + 2).chain([4_096, 65_535]).filter(named).collect();
+                    let left = random::numbers_left(&replay, phase);
+                    assert_eq!(left, accepted.iter().map(|&k| k as u16).collect::<Vec<_>>());
+                    assert!(at < trace.len() / 4 || left.is_empty());
+                }
+                if let Some(r) = trace[4 * at..].chunks(4).next() {
+                    replay.steal(r[0], r[1], u16::from_le_bytes([r[2], r[3]])).unwrap();
+                }
+            }
+        }
+    });
+}
+
 /// The most steals: a flat tree, each phase taking all but one child.
 #[test]
 fn most_steals() {
@@ -313,42 +343,15 @@ fn most_steals() {
     assert_eq!(check_trace(2, &tree, &trace), 0);
 }
 
-/// All trees with so many spawned tasks.
-fn all_trees(tasks: usize) -> Vec<Vec<u8>> {
-    fn go(left: usize, open: usize, kinds: &mut Vec<u8>, out: &mut Vec<Vec<u8>>) {
-        if left == 0 && open == 1 {
-            let mut whole = kinds.clone();
-            whole.push(3);
-            out.push(random::tree_of_kinds(&whole));
-            return;
-        }
-        if left > 0 {
-            for kind in [1, 2] {
-                kinds.push(kind);
-                go(left - 1, open + 1, kinds, out);
-                kinds.pop();
-            }
-        }
-        if open > 1 {
-            kinds.push(3);
-            go(left, open - 1, kinds, out);
-            kinds.pop();
-        }
-    }
-    let mut out = Vec::new();
-    go(tasks, 1, &mut Vec::new(), &mut out);
-    out
-}
-
 /// All schedules of three workers on all trees with up to four spawned
 /// tasks. States that differ only in the order of the log between phases
 /// are taken once.
 #[test]
 fn all_small_schedules() {
-    assert_eq!(all_trees(3).len(), 40);
+    assert_eq!(random::all_trees(3).len(), 40);
     let mut states = 0;
     for tasks in 0..=4 {
-        for tree in all_trees(tasks) {
+        for tree in random::all_trees(tasks) {
             for policy in [1, 2] {
                 states += all_schedules(policy, &tree);
             }
@@ -385,7 +388,7 @@ fn all_schedules(policy: u8, tree: &[u8]) -> usize {
 #[test]
 fn all_small_traces() {
     for tasks in 0..=2 {
-        for tree in all_trees(tasks) {
+        for tree in random::all_trees(tasks) {
             let n = tree.len() / 8;
             let mut records = Vec::new();
             for thief in 0..3 {

@@ -159,6 +159,22 @@ pub fn geometric_mean(numbers: &[f64]) -> f64 {
     (numbers.iter().map(|number| number.ln()).sum::<f64>() / numbers.len() as f64).exp()
 }
 
+/// Case by case, how many times as much.
+pub fn divided(times: &[f64], by: &[f64]) -> Vec<f64> {
+    times.iter().zip(by).map(|(time, by)| time / by).collect()
+}
+
+/// The geometric mean, and the most of a case.
+pub fn growth(times: &[f64], smallest: &[f64]) -> String {
+    let growth = divided(times, smallest);
+    let most = growth.iter().copied().fold(0.0, f64::max);
+    format!("{:.2} ({most:.2})", geometric_mean(&growth))
+}
+
+pub fn least(numbers: &[f64]) -> f64 {
+    numbers.iter().copied().fold(f64::INFINITY, f64::min)
+}
+
 /// `cargo test --all-targets` starts a benchmark too, but without `--bench`.
 pub fn asked_for() -> bool {
     std::env::args().any(|arg| arg == "--bench")

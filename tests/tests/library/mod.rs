@@ -4,7 +4,7 @@
 // A test program need not use them all.
 #![allow(dead_code)]
 
-use frame_tests::RecordAnswer;
+use frame_tests::{RecordAnswer, ReplayAnswer};
 
 #[repr(C)]
 #[derive(Clone, Copy, Debug, PartialEq, Eq)]
@@ -104,8 +104,31 @@ impl From<RecordAnswer> for FrameRecord {
     }
 }
 
+#[repr(C)]
+#[derive(Clone, Copy, Debug, PartialEq, Eq)]
+pub struct FrameReplay {
+    pub number: usize,
+    pub position: usize,
+    pub phases: usize,
+    pub loads: [u64; 16],
+    pub heaviest: usize,
+}
+
+/// The simulator's answer as the library gives it.
+impl From<ReplayAnswer> for FrameReplay {
+    fn from(answer: ReplayAnswer) -> FrameReplay {
+        FrameReplay {
+            number: answer.number as usize,
+            position: answer.position,
+            phases: answer.phases,
+            loads: answer.loads,
+            heaviest: answer.heaviest,
+        }
+    }
+}
+
 mod c {
-    use super::{FrameEvent, FrameIdle, FrameRecord, FrameRunning, FrameStart, FrameTask, FrameTree, RunState};
+    use super::{FrameEvent, FrameIdle, FrameRecord, FrameReplay, FrameRunning, FrameStart, FrameTask, FrameTree, RunState};
 
     extern "C" {
         pub fn frame_tree(tree: *const u8, len: usize) -> FrameTree;
@@ -129,6 +152,15 @@ mod c {
             trace: *mut u8,
             trace_len: usize,
         ) -> FrameRecord;
+        pub fn frame_replay(
+            tree: *const u8,
+            tree_len: usize,
+            policy: u8,
+            trace: *const u8,
+            trace_len: usize,
+            list: *mut u8,
+            list_len: usize,
+        ) -> FrameReplay;
     }
 }
 
@@ -188,4 +220,8 @@ pub fn record(tree: &[u8], policy: u8, events: &[u8], log: &mut [u8], trace: &mu
             trace.len(),
         )
     }
+}
+
+pub fn replay(tree: &[u8], policy: u8, trace: &[u8], list: &mut [u8]) -> FrameReplay {
+    unsafe { c::frame_replay(tree.as_ptr(), tree.len(), policy, trace.as_ptr(), trace.len(), list.as_mut_ptr(), list.len()) }
 }

@@ -1,0 +1,799 @@
+//! Whole replays over the C interface against the simulator: every answer and every byte of the run list, which holds random
+//! bytes when it is lent. Each slice lies before or behind a guard page. A failure names its seed.
+
+#[path = "library/guarded.rs"]
+mod guarded;
+#[path = "library/lent.rs"]
+mod lent;
+mod library;
+#[path = "library/stack.rs"]
+mod stack;
+#[path = "library/trees.rs"]
+mod trees;
+
+use std::collections::BTreeMap;
+use std::fmt;
+use std::io::Write;
+
+use frame_tests::random::{
+    accepted_trace, all_stolen, all_trees, any_event, damaged_tree, doubtful_record, flat_tree, recorded_trace,
+    robbed_in_turn, trace_record, trace_to_replay, tree, tree_of_kinds, tree_with, Rng, Steals, Weights, SHAPES,
+};
+use frame_tests::record::record_to_vecs;
+use frame_tests::replay::{judge_and_replay, replay, MAX_TRACE, TRACE_BYTES};
+use frame_tests::run::Policy;
+use frame_tests::tree::{Tree, TREE_RECORD};
+use guarded::Guarded;
+use lent::{about_to_call, put, same_bytes};
+use library::FrameReplay;
+use trees::{trees, S};
+
+/// What a replay call is given.
+struct Call {
+    tree: Vec<u8>,
+    policy: u8,
+    trace: Vec<u8>,
+    /// The list as it is lent.
+    list: Vec<u8>,
+    /// What stands beside the list, where there is no guard page.
+    beside: Vec<u8>,
+    /// For each of the three slices whether the guard page follows it.
+    ends: [bool; 3],
+}
+
+impl Call {
+    /// A call with a list of this length.
+    fn new(rng: &mut Rng, tree: &[u8], policy: u8, trace: &[u8], length: usize) -> Call {
+        Call {
+            tree: tree.to_vec(),
+            policy,
+            trace: trace.to_vec(),
+            list: rng.bytes(length),
+            beside: rng.bytes(8),
+            ends: [(); 3].map(|()| rng.percent(50)),
+        }
+    }
+}
+
+/// The bytes of list that a tree asks for.
+fn needed(tree: &[u8]) -> usize {
+    4 * (tree.len() / TREE_RECORD)
+}
+
+/// A length that is mostly enough: exact, longer, and some short.
+fn length(rng: &mut Rng, tree: &[u8]) -> usize {
+    let need = needed(tree);
+    match rng.below(20) {
+        0 => rng.between(0, need),
+        1..=9 => need,
+        _ => need + rng.between(1, 50),
+    }
+}
+
+/// Two bytes as they stand in a record.
+fn number(bytes: &[u8]) -> usize {
+    usize::from(u16::from_le_bytes([bytes[0], bytes[1]]))
+}
+
+// ---- What holds of an accepted call, whatever the simulator says ----
+
+/// The phases' records follow one another, every step stands once, and the loads are those of the steps.
+fn sound(call: &Call, got: &FrameReplay, list: &[u8], case: fmt::Arguments) {
+    assert_eq!(got.phases, call.trace.len() / TRACE_BYTES + 1, "{case}");
+    let weights: Vec<u64> =
+        call.tree.chunks(TREE_RECORD).map(|r| u32::from_le_bytes([r[4], r[5], r[6], r[7]]).into()).collect();
+    let mut stands = vec![false; weights.len()];
+    let mut loads = [0; 16];
+    let mut latest = 0;
+    for (k, record) in list[..needed(&call.tree)].chunks(4).enumerate() {
+        let (phase, step) = (number(record), number(&record[2..]));
+        // The first is of phase 0, and no phase is empty.
+        assert!(phase == latest || (k > 0 && phase == latest + 1), "{case}: phase {phase} follows phase {latest}");
+        latest = phase;
+        assert!(!std::mem::replace(&mut stands[step], true), "{case}: step {step} stands twice");
+        let worker = if phase == 0 { 0 } else { call.trace[TRACE_BYTES * (phase - 1)] };
+        loads[usize::from(worker)] += weights[step];
+    }
+    assert_eq!(latest + 1, got.phases, "{case}");
+    assert!(stands.iter().all(|&stands| stands), "{case}: a step is missing");
+    assert_eq!(got.loads, loads, "{case}");
+    assert_eq!(got.loads.iter().sum::<u64>(), weights.iter().sum(), "{case}");
+    let heaviest = (0..16).find(|&w| loads.iter().all(|&load| load <= loads[w]));
+    assert_eq!(Some(got.heaviest), heaviest, "{case}");
+}
+
+// ---- The simulator ----
+
+/// Why the record at this position, which is refused with 15, is.
+fn why(call: &Call, position: usize) -> &'static str {
+    let (before, record) = call.trace.split_at(TRACE_BYTES * position);
+    let read = judge_and_replay(call.policy, &call.tree, before, usize::MAX).expect("what stands before is accepted");
+    let tree = &read.tree;
+    let number = number(&record[2..]);
+    let phase = read.latest[usize::from(record[1])].expect("the victim has had a phase");
+    let from = &read.phases[phase];
+    if read.policy == Policy::WorkFirst {
+        let children = tree.child_count(read.frontier(phase));
+        return match number {
+            0 => "0",
+            _ if children == 0 => "a frontier without children",
+            _ if number > children => "above the children",
+            _ if number == tree.ordinal(from.first) => "the first step's ordinal",
+            _ => "below the first step's ordinal",
+        };
+    }
+    if number >= tree.count() {
+        return "no step";
+    }
+    if !tree.first_of_async_child(number) && tree.finish_child_before(number).is_none() {
+        return "not to be stolen";
+    }
+    let covered = from.covers(tree);
+    match number {
+        _ if number == from.first => "the first step",
+        _ if !tree.to_end_of_task(from.first).contains(&number) => "outside the phase",
+        _ if covered[number] => "partly stolen",
+        _ => "stolen",
+    }
+}
+
+/// How often the calls met each case.
+#[derive(Default, Debug)]
+struct Seen {
+    /// By number; 0 is accepted.
+    numbers: [usize; 16],
+    /// By reason, where the number is 15 and the tree is small.
+    why: BTreeMap<&'static str, usize>,
+    /// Of accepted calls.
+    steals: usize,
+    /// Refused by a record that is not the first.
+    later: usize,
+    /// Accepted, and worker 0 is not the heaviest.
+    other_heaviest: usize,
+    /// Accepted, and the heaviest worker has an equal.
+    equals: usize,
+}
+
+/// The library beside the simulator.
+struct Both {
+    rooms: [Guarded; 3],
+    seen: Seen,
+}
+
+impl Both {
+    fn new() -> Both {
+        Both { rooms: [(); 3].map(|()| Guarded::new(45_000)), seen: Seen::default() }
+    }
+
+    /// Both sides give the same answer and leave the same bytes.
+    fn same(&mut self, call: &Call, case: fmt::Arguments) -> FrameReplay {
+        let mut list = call.list.clone();
+        let want = FrameReplay::from(replay(call.policy, &call.tree, &call.trace, &mut list));
+        let [a, b, c] = &mut self.rooms;
+        let lent_tree = put(a, &call.tree, call.ends[0]);
+        let lent_trace = put(b, &call.trace, call.ends[1]);
+        let (lent_list, beside) = lend_list(c, call);
+        about_to_call(case);
+        let got = library::replay(lent_tree, call.policy, lent_trace, lent_list);
+        assert_eq!(got, want, "{case}");
+        same_bytes(lent_list, &list, "list", case);
+        same_bytes(beside, &call.beside, "room beside the list", case);
+        same_bytes(lent_tree, &call.tree, "tree", case);
+        same_bytes(lent_trace, &call.trace, "trace", case);
+        if got.number == 0 {
+            sound(call, &got, lent_list, case);
+        }
+        self.count(call, &got);
+        got
+    }
+
+    /// As above, with this number and position.
+    fn numbered(&mut self, call: &Call, want: (usize, usize), case: fmt::Arguments) {
+        let got = self.same(call, case);
+        assert_eq!((got.number, got.position), want, "{case}");
+    }
+
+    fn count(&mut self, call: &Call, got: &FrameReplay) {
+        let seen = &mut self.seen;
+        seen.numbers[got.number] += 1;
+        seen.later += usize::from(got.number >= 8 && got.position > 0);
+        if got.number == 15 && call.tree.len() < 1_000 {
+            *seen.why.entry(why(call, got.position)).or_default() += 1;
+        }
+        if got.number == 0 {
+            seen.steals += got.phases - 1;
+            seen.other_heaviest += usize::from(got.heaviest != 0);
+            let most = got.loads[got.heaviest];
+            seen.equals += usize::from(got.loads.iter().filter(|&&load| load == most).count() > 1);
+        }
+    }
+}
+
+/// The list at a guard page, and what stands beside it on the other side.
+fn lend_list<'a>(room: &'a mut Guarded, call: &Call) -> (&'a mut [u8], &'a mut [u8]) {
+    if call.ends[2] {
+        let lent = put(room, &[&call.beside[..], &call.list].concat(), true);
+        let (beside, list) = lent.split_at_mut(call.beside.len());
+        (list, beside)
+    } else {
+        put(room, &[&call.list[..], &call.beside].concat(), false).split_at_mut(call.list.len())
+    }
+}
+
+/// The simulator's reading of a policy that is one.
+fn policy_of(byte: u8) -> Policy {
+    Policy::parse(byte).expect("the policy is one")
+}
+
+fn read(tree: &[u8]) -> Tree {
+    Tree::parse(tree).expect("the tree is accepted")
+}
+
+// ---- Random calls ----
+
+#[test]
+fn small_calls() {
+    let mut both = Both::new();
+    for seed in 0..150_000 {
+        let mut rng = Rng::new(seed);
+        let tasks = if rng.percent(5) { rng.below(120) } else { rng.below(25) };
+        let bytes = tree(&mut rng, tasks);
+        let policy = rng.between(1, 2) as u8;
+        let trace = trace_to_replay(&mut rng, policy_of(policy), &read(&bytes));
+        let length = length(&mut rng, &bytes);
+        let call = Call::new(&mut rng, &bytes, policy, &trace, length);
+        both.same(&call, format_args!("seed {seed}"));
+    }
+    let seen = both.seen;
+    assert!(seen.numbers[0] > 30_000 && seen.steals > 200_000, "{seen:?}");
+    assert!([6, 7, 8, 13, 14, 15].iter().all(|&number| seen.numbers[number] > 1_000), "{seen:?}");
+    all_reasons(&seen, 300);
+    assert!(seen.later > 10_000 && seen.other_heaviest > 5_000 && seen.equals > 5_000, "{seen:?}");
+}
+
+/// All records between so many workers, with every number up to n and one that is too large for a tree. Where thief and victim
+/// are equal two numbers are enough.
+fn all_records(workers: u8, n: usize) -> Vec<[u8; 4]> {
+    let mut records = Vec::new();
+    for thief in 0..workers {
+        for victim in 0..workers {
+            let numbers = if thief == victim { vec![0, 1] } else { (0..=n as u16).chain([65_535]).collect() };
+            records.extend(numbers.into_iter().map(|number| trace_record(thief, victim, number)));
+        }
+    }
+    records
+}
+
+/// Weights that tell which steps a load has.
+fn told_apart(tree: &[u8]) -> Vec<u8> {
+    let mut bytes = tree.to_vec();
+    for (step, record) in bytes.chunks_mut(TREE_RECORD).enumerate() {
+        record[4..].copy_from_slice(&(1_u32 << step).to_le_bytes());
+    }
+    bytes
+}
+
+/// Every trace between so many workers on all trees with so many spawned tasks, up to its first record that is refused. A worker
+/// is named only when all below it have been: others' names would make the same phases.
+fn all_traces(both: &mut Both, tasks: usize, workers: u8) {
+    let mut rng = Rng::new(0);
+    for (t, tree) in all_trees(tasks).iter().enumerate() {
+        let told = told_apart(tree);
+        let records = all_records(workers, 2 * tasks + 1);
+        for policy in [1, 2] {
+            let mut open = vec![Vec::new()];
+            while let Some(trace) = open.pop() {
+                let bytes = if rng.percent(50) { tree } else { &told };
+                let length = needed(bytes) + rng.below(3);
+                let call = Call::new(&mut rng, bytes, policy, &trace, length);
+                let got = both.same(&call, format_args!("{tasks} tasks, tree {t}, policy {policy}, trace {trace:?}"));
+                if got.number == 0 {
+                    // A trace has at most as many records as there are spawned tasks.
+                    assert!(trace.len() / TRACE_BYTES <= tasks);
+                    let named = trace.chunks(TRACE_BYTES).map(|record| record[0].max(record[1])).max().unwrap_or(0);
+                    let next = records.iter().filter(|record| record[0].max(record[1]) <= named + 1);
+                    open.extend(next.map(|record| [&trace[..], record].concat()));
+                }
+            }
+        }
+    }
+}
+
+/// All reasons for 15 are met: five work-first and six help-first.
+fn all_reasons(seen: &Seen, least: usize) {
+    assert!(seen.why.len() == 11 && seen.why.values().all(|&times| times > least), "{seen:?}");
+}
+
+#[test]
+fn all_traces_of_small_trees() {
+    let mut both = Both::new();
+    for tasks in 0..=3 {
+        all_traces(&mut both, tasks, 4);
+    }
+    all_reasons(&both.seen, 300);
+}
+
+#[test]
+fn all_traces_of_trees_with_four_tasks() {
+    let mut both = Both::new();
+    all_traces(&mut both, 4, 3);
+    all_reasons(&both.seen, 10_000);
+}
+
+/// A large tree of each shape in turn, under each policy in turn.
+fn large_tree(rng: &mut Rng, seed: u64) -> (Vec<u8>, u8) {
+    let shape = SHAPES[seed as usize % 4];
+    let policy = 1 + (seed / 4 % 2) as u8;
+    let tasks = if seed / 8 % 2 == 0 { 2_047 } else { rng.between(100, 2_047) };
+    let finish = rng.pick(&[0, 20, 50, 80, 100]);
+    let weights = rng.pick(&[Weights::Mixed, Weights::Mixed, Weights::Max, Weights::One]);
+    (tree_with(rng, shape, tasks, finish, weights), policy)
+}
+
+/// An accepted trace whole, cut short, and with a record in between that is refused or read in another way.
+fn with_its_parts(both: &mut Both, rng: &mut Rng, bytes: &[u8], policy: u8, trace: &[u8], seed: u64) {
+    let length = needed(bytes) + rng.pick(&[0, 0, 1, 100]);
+    let call = Call::new(rng, bytes, policy, trace, length);
+    both.numbered(&call, (0, 0), format_args!("seed {seed}"));
+    let any_place = |rng: &mut Rng| rng.below(trace.len() / TRACE_BYTES + 1);
+    let at = any_place(rng);
+    let call = Call::new(rng, bytes, policy, &trace[..TRACE_BYTES * at], length);
+    both.numbered(&call, (0, 0), format_args!("seed {seed}, {at} records"));
+    if trace.len() == TRACE_BYTES * MAX_TRACE {
+        return;
+    }
+    let with = |at: usize, more: [u8; 4]| {
+        let (before, behind) = trace.split_at(TRACE_BYTES * at);
+        [before, &more, behind].concat()
+    };
+    let call = Call::new(rng, bytes, policy, &with(at, [7, 16, 1, 0]), length);
+    both.numbered(&call, (8, at), format_args!("seed {seed}, refused at {at}"));
+    let records: Vec<[u8; 4]> = trace.chunks(4).map(|r| [r[0], r[1], r[2], r[3]]).collect();
+    for _ in 0..4 {
+        let at = any_place(rng);
+        let doubtful = doubtful_record(rng, policy_of(policy), &read(bytes), &records[..at]);
+        let call = Call::new(rng, bytes, policy, &with(at, doubtful), length);
+        both.same(&call, format_args!("seed {seed}, {doubtful:?} at {at}"));
+    }
+}
+
+#[test]
+fn large_traces_that_no_scheduler_makes() {
+    let mut both = Both::new();
+    for seed in 0..192 {
+        let mut rng = Rng::new(seed);
+        let (bytes, policy) = large_tree(&mut rng, seed);
+        let mut plan = Steals::any(&mut rng);
+        // In every other round as many steals as can be had.
+        if seed / 16 % 2 == 0 {
+            plan = Steals { careful: 100, lowest: rng.pick(&[98, 100]), ..plan };
+        }
+        let trace = accepted_trace(&mut rng, policy_of(policy), &read(&bytes), &plan);
+        with_its_parts(&mut both, &mut rng, &bytes, policy, &trace, seed);
+    }
+    let seen = both.seen;
+    assert!(seen.steals > 30_000 && seen.other_heaviest > 50, "{seen:?}");
+}
+
+#[test]
+fn large_traces_of_runs() {
+    let mut both = Both::new();
+    for seed in 0..128 {
+        let mut rng = Rng::new(seed);
+        let (bytes, policy) = large_tree(&mut rng, seed);
+        let trace = recorded_trace(&mut rng, policy_of(policy), &read(&bytes));
+        with_its_parts(&mut both, &mut rng, &bytes, policy, &trace, seed);
+    }
+    let seen = both.seen;
+    assert!(seen.steals > 20_000 && seen.other_heaviest > 30, "{seen:?}");
+}
+
+/// Flat trees with every spawned task stolen, by a run and by thieves that are robbed in turn; and the latter at the bottom of
+/// a tree that is as deep as can be.
+fn longest_traces(policy: u8) -> Vec<(Vec<u8>, Vec<u8>)> {
+    let flat = flat_tree(2_047);
+    let (_, _, trace) = record_to_vecs(policy, &flat, &all_stolen(policy_of(policy), 2_047).concat());
+    let policy = policy_of(policy);
+    vec![(flat, trace), robbed_in_turn(policy, 0, 2_047), robbed_in_turn(policy, 62, 1_985)]
+}
+
+/// The last phase is 2,047, and the list is full.
+#[test]
+fn as_many_steals_as_a_trace_can_have() {
+    let mut both = Both::new();
+    for policy in [1, 2] {
+        for (k, (bytes, trace)) in longest_traces(policy).into_iter().enumerate() {
+            let call = Call::new(&mut Rng::new(policy.into()), &bytes, policy, &trace, 16_380);
+            let got = both.same(&call, format_args!("policy {policy}, trace {k}"));
+            assert_eq!((got.number, got.phases), (0, 2_048), "policy {policy}, trace {k}");
+        }
+    }
+}
+
+#[test]
+fn damaged_trees_and_odd_lengths() {
+    let mut both = Both::new();
+    for seed in 0..90_000 {
+        let mut rng = Rng::new(seed);
+        let tasks = rng.below(20);
+        let bytes = match rng.below(10) {
+            0..=6 => damaged_tree(&mut rng, tasks),
+            7 => tree(&mut rng, tasks),
+            _ => {
+                let len = rng.below(200);
+                rng.bytes(len)
+            }
+        };
+        let policy = rng.pick(&[1, 1, 1, 1, 2, 2, 2, 2, 0, 3, 255]);
+        let mut trace = match (Policy::parse(policy), Tree::parse(&bytes)) {
+            (Ok(policy), Ok(tree)) => trace_to_replay(&mut rng, policy, &tree),
+            _ => (0..2 * rng.below(10)).flat_map(|_| any_event(&mut rng, 16)).collect(),
+        };
+        for _ in 0..rng.pick(&[0, 0, 0, 0, 1, 2, 3]) {
+            trace.push(rng.next() as u8);
+        }
+        let length = length(&mut rng, &bytes);
+        let call = Call::new(&mut rng, &bytes, policy, &trace, length);
+        let got = both.same(&call, format_args!("seed {seed}"));
+        // A start refuses the same with 1 to 5, and nothing else.
+        let started = library::start(&bytes, policy);
+        let want = if got.number <= 5 { (got.number, got.position) } else { (0, 0) };
+        assert_eq!((started.number, started.position), want, "seed {seed}");
+    }
+    let seen = both.seen;
+    assert!(seen.numbers[..9].iter().all(|&times| times > 100), "{seen:?}");
+}
+
+/// Only 1 and 2 are policies.
+#[test]
+fn every_policy_byte() {
+    let mut both = Both::new();
+    for seed in 0..20 {
+        let mut rng = Rng::new(seed);
+        let tasks = rng.below(12);
+        let bytes = tree(&mut rng, tasks);
+        for policy in 0..=255 {
+            let reading = Policy::parse(policy).unwrap_or(Policy::HelpFirst);
+            let trace = accepted_trace(&mut rng, reading, &read(&bytes), &Steals::any(&mut Rng::new(seed)));
+            let call = Call::new(&mut rng, &bytes, policy, &trace, needed(&bytes));
+            let want = if [1, 2].contains(&policy) { (0, 0) } else { (1, 0) };
+            both.numbered(&call, want, format_args!("seed {seed}, policy {policy}"));
+        }
+    }
+}
+
+// ---- Lengths ----
+
+#[test]
+fn lists_of_all_lengths() {
+    let mut both = Both::new();
+    for seed in 0..3_000 {
+        let mut rng = Rng::new(seed);
+        let tasks = if seed < 10 { 2_000 + rng.below(48) } else { rng.below(12) };
+        let bytes = tree(&mut rng, tasks);
+        let policy = rng.between(1, 2) as u8;
+        // The room is asked for the whole tree, however few the records.
+        let plan = Steals { most: rng.pick(&[0, 1, MAX_TRACE]), ..Steals::any(&mut rng) };
+        let trace = accepted_trace(&mut rng, policy_of(policy), &read(&bytes), &plan);
+        let need = needed(&bytes);
+        let lengths = [0, rng.below(need), need - 4, need - 1, need, need + 1, need + 4, need + rng.between(2, 200)];
+        for length in lengths {
+            let call = Call::new(&mut rng, &bytes, policy, &trace, length);
+            let number = if length < need { 7 } else { 0 };
+            both.numbered(&call, (number, 0), format_args!("seed {seed}, list of {length} bytes"));
+        }
+    }
+}
+
+/// A trace may have 2,047 records. The first one that is refused is named, and one more is refused by its count.
+#[test]
+fn as_many_records_as_a_trace_may_have() {
+    let mut both = Both::new();
+    for policy in [1, 2] {
+        let (bytes, trace) = longest_traces(policy).swap_remove(0);
+        let trace: Vec<&[u8]> = trace.chunks(TRACE_BYTES).collect();
+        assert_eq!(trace.len(), MAX_TRACE);
+        // So many records of the trace, then one that is refused there, again and again.
+        let cases = [
+            (0, [0, 255, 1, 0], 8),
+            (0, [0, 0, 1, 0], 13),
+            (0, [0, 1, 1, 0], 14),
+            (0, [1, 0, 0, 0], 15),
+            (5, [16, 16, 0, 0], 8),
+            (300, [1, 0, 0, 0], 15),
+            (2_046, [3, 3, 0, 0], 13),
+            (2_046, [0, 2, 0, 0], 14),
+            (2_046, [0, 1, 255, 255], 15),
+            (2_047, [0, 1, 255, 255], 15),
+        ];
+        for (accepted, more, number) in cases {
+            for count in [accepted, accepted + 1, MAX_TRACE - 1, MAX_TRACE, MAX_TRACE + 1, 2_500] {
+                let mut records = trace[..accepted.min(count)].to_vec();
+                records.resize(count, &more);
+                let mut trace = records.concat();
+                let want = if count > MAX_TRACE {
+                    (6, 0)
+                } else if count > accepted {
+                    (number, accepted)
+                } else {
+                    (0, 0)
+                };
+                let case = format!("policy {policy}, {count} records, from {accepted} on {more:?}");
+                let rng = &mut Rng::new(count as u64);
+                let call = Call::new(rng, &bytes, policy, &trace, 16_380);
+                both.numbered(&call, want, format_args!("{case}"));
+                trace.resize(trace.len() + rng.between(1, 3), 0);
+                let call = Call::new(rng, &bytes, policy, &trace, 16_380);
+                both.numbered(&call, (6, 0), format_args!("{case}, and some bytes"));
+            }
+        }
+    }
+}
+
+// ---- Which refusal wins ----
+
+/// The start of a trace of S, then records that are refused with 8 and 13 to 15 there. Most have something of a higher number
+/// as well.
+fn walked(policy: u8) -> (Vec<[u8; 4]>, Vec<([u8; 4], usize)>) {
+    let start = if policy == 2 { vec![[1, 0, 1, 0], [2, 0, 6, 0]] } else { vec![[1, 0, 1, 0], [2, 1, 2, 0]] };
+    let refused = vec![
+        ([16, 0, 4, 0], 8),
+        ([0, 16, 1, 0], 8),
+        ([200, 200, 1, 0], 8),
+        ([16, 5, 1, 0], 8),
+        ([255, 0, 9, 9], 8),
+        ([1, 1, 1, 0], 13),
+        ([5, 5, 1, 0], 13),
+        ([0, 0, 9, 9], 13),
+        ([5, 5, 9, 9], 13),
+        ([0, 3, 1, 0], 14),
+        ([3, 15, 9, 9], 14),
+        ([3, 0, 9, 9], 15),
+        ([3, 2, 6, 0], 15),
+        ([3, 1, 0, 0], 15),
+    ];
+    (start, refused)
+}
+
+/// Traces of S with the number and the position of their refusal: whole or not, and with every two of 8 and 13 to 15, in one
+/// record or in two.
+fn lists(policy: u8) -> Vec<(Vec<u8>, (usize, usize))> {
+    let (start, refused) = walked(policy);
+    let place = start.len();
+    let mut lists = vec![
+        (vec![], (0, 0)),
+        (start.concat(), (0, 0)),
+        (vec![16], (6, 0)),
+        (vec![16, 16, 1], (6, 0)),
+        ([start.concat(), vec![0]].concat(), (6, 0)),
+        ([16; TRACE_BYTES * (MAX_TRACE + 1)].to_vec(), (6, 0)),
+        ([0; TRACE_BYTES * (MAX_TRACE + 1)].to_vec(), (6, 0)),
+    ];
+    for &(first, number) in &refused {
+        lists.push((first.to_vec(), (early(first, number), 0)));
+        lists.push(([start.concat(), first.to_vec(), vec![0, 1]].concat(), (6, 0)));
+        for &(second, _) in &refused {
+            lists.push(([start.concat(), first.to_vec(), second.to_vec()].concat(), (number, place)));
+        }
+    }
+    lists
+}
+
+/// The number of such a record as the first of a trace: only worker 0 has had a phase.
+fn early([_, victim, ..]: [u8; 4], number: usize) -> usize {
+    if number == 15 && victim != 0 {
+        14
+    } else {
+        number
+    }
+}
+
+/// All these policies, trees, traces and lengths together: the first refusal in rising order is given.
+#[test]
+fn the_lower_number_wins() {
+    let mut both = Both::new();
+    let trees = trees();
+    let mut rng = Rng::new(0);
+    for policy in [1, 2, 0, 3, 255] {
+        let lists = lists(policy);
+        for (t, (tree, of_tree)) in trees.iter().enumerate() {
+            for (l, (trace, of_list)) in lists.iter().enumerate() {
+                for length in [28, 40, 27, 0] {
+                    let want = if ![1, 2].contains(&policy) {
+                        (1, 0)
+                    } else if of_tree.0 != 0 {
+                        *of_tree
+                    } else if length < 28 && of_list.0 != 6 {
+                        (7, 0)
+                    } else {
+                        *of_list
+                    };
+                    let call = Call::new(&mut rng, tree, policy, trace, length);
+                    both.numbered(&call, want, format_args!("policy {policy}, tree {t}, list {l}, {length} bytes"));
+                }
+            }
+        }
+    }
+    let seen = both.seen.numbers;
+    assert!([0, 1, 2, 3, 4, 5, 6, 7, 8, 13, 14, 15].iter().all(|&number| seen[number] > 0), "{seen:?}");
+}
+
+// ---- Document 01's cases ----
+
+/// A call with plain slices, the list longer than the tree asks for. Gives the steps of each phase; the rest of the list must
+/// keep its bytes, and all of it if the call is refused.
+fn replayed(kinds: &[u8], policy: u8, trace: &[u8]) -> (FrameReplay, Vec<Vec<usize>>) {
+    let bytes = tree_of_kinds(kinds);
+    let mut list = vec![0xEE; needed(&bytes) + 3];
+    let got = library::replay(&bytes, policy, trace, &mut list);
+    let written = if got.number == 0 { needed(&bytes) } else { 0 };
+    assert!(list[written..].iter().all(|&byte| byte == 0xEE), "{trace:?}");
+    let mut phases = vec![vec![]; got.phases];
+    for record in list[..written].chunks(4) {
+        phases[number(record)].push(number(&record[2..]));
+    }
+    (got, phases)
+}
+
+/// An accepted call's answer; the loads of the workers beyond these are 0.
+fn accepted(phases: usize, first: [u64; 3], heaviest: usize) -> FrameReplay {
+    let mut loads = [0; 16];
+    loads[..3].copy_from_slice(&first);
+    FrameReplay { number: 0, position: 0, phases, loads, heaviest }
+}
+
+fn refused(number: usize, position: usize) -> FrameReplay {
+    FrameReplay { number, position, phases: 0, loads: [0; 16], heaviest: 0 }
+}
+
+const P1_TRACE: [u8; 12] = [1, 0, 1, 0, 2, 1, 2, 0, 0, 1, 1, 0];
+
+#[rustfmt::skip]
+const P1_LIST: [u8; 28] = [
+    0, 0, 0, 0,
+    0, 0, 1, 0,
+    1, 0, 2, 0,
+    1, 0, 3, 0,
+    1, 0, 4, 0,
+    2, 0, 6, 0,
+    3, 0, 5, 0,
+];
+
+#[test]
+fn p1_and_its_parts() {
+    let s = tree_of_kinds(&S);
+    let mut list = [0xEE; 28];
+    assert_eq!(library::replay(&s, 1, &P1_TRACE, &mut list), accepted(4, [3, 3, 1], 0));
+    assert_eq!(list, P1_LIST);
+    let parts = [
+        (accepted(1, [7, 0, 0], 0), vec![vec![0, 1, 2, 3, 4, 5, 6]]),
+        (accepted(2, [2, 5, 0], 1), vec![vec![0, 1], vec![2, 3, 4, 5, 6]]),
+        (accepted(3, [2, 4, 1], 1), vec![vec![0, 1], vec![2, 3, 4, 5], vec![6]]),
+        (accepted(4, [3, 3, 1], 0), vec![vec![0, 1], vec![2, 3, 4], vec![6], vec![5]]),
+    ];
+    for (count, want) in parts.into_iter().enumerate() {
+        assert_eq!(replayed(&S, 1, &P1_TRACE[..TRACE_BYTES * count]), want, "{count} records");
+    }
+}
+
+#[test]
+fn p3_p4_p8_p9_and_p12() {
+    assert_eq!(replayed(&S, 2, &[]), (accepted(1, [7, 0, 0], 0), vec![vec![0, 2, 3, 5, 4, 6, 1]]));
+    let p4 = vec![vec![0, 2, 3, 5, 4], vec![1], vec![6]];
+    assert_eq!(replayed(&S, 2, &[1, 0, 1, 0, 2, 0, 6, 0]), (accepted(3, [5, 1, 1], 0), p4));
+    assert_eq!(replayed(&S, 1, &[1, 0, 1, 0, 2, 1, 1, 0]), (refused(15, 1), vec![]));
+    assert_eq!(replayed(&S, 2, &[1, 0, 3, 0]), (refused(15, 0), vec![]));
+    for policy in [1, 2] {
+        assert_eq!(replayed(&S, policy, &[0, 1, 1, 0]), (refused(14, 0), vec![]));
+    }
+}
+
+/// A steal is read against the victim's latest phase.
+#[test]
+fn the_latest_phase() {
+    // Three children of the root, whose steps are 0, 2, 4, 6. Worker 0 has phase 0 and, from step 4 on, phase 2.
+    let kinds = [1, 3, 1, 3, 1, 3, 3];
+    let phases = vec![vec![0, 1], vec![2, 3], vec![4, 5], vec![6]];
+    assert_eq!(replayed(&kinds, 1, &[1, 0, 1, 0, 0, 1, 2, 0, 2, 0, 3, 0]), (accepted(4, [4, 2, 1], 0), phases));
+    // Phase 0 still has step 3, which is the first child's, or step 5, which is the second's first. Worker 0's latest has
+    // neither.
+    let kinds = [1, 1, 3, 3, 1, 3, 3];
+    assert_eq!(replayed(&kinds, 1, &[1, 0, 1, 0, 0, 1, 2, 0, 2, 0, 1, 0]), (refused(15, 2), vec![]));
+    assert_eq!(replayed(&kinds, 2, &[1, 0, 1, 0, 0, 1, 2, 0, 2, 0, 5, 0]), (refused(15, 2), vec![]));
+}
+
+/// Help-first: all steps from the named one to the end of its own task must be in the phase still.
+#[test]
+fn a_partly_stolen_range() {
+    // An async child with steps 1 and 3, in which another has step 2.
+    let kinds = [1, 1, 3, 3, 3];
+    assert_eq!(replayed(&kinds, 2, &[1, 0, 2, 0]), (accepted(2, [4, 1, 0], 0), vec![vec![0, 4, 1, 3], vec![2]]));
+    assert_eq!(replayed(&kinds, 2, &[1, 0, 2, 0, 2, 0, 1, 0]), (refused(15, 1), vec![]));
+    let phases = vec![vec![0, 4], vec![1, 3], vec![2]];
+    assert_eq!(replayed(&kinds, 2, &[1, 0, 1, 0, 2, 1, 2, 0]), (accepted(3, [2, 2, 1], 0), phases));
+    // Behind a finish child the range goes to the end of the root; what is stolen inside the child is not in it.
+    let kinds = [2, 1, 3, 3, 1, 3, 3];
+    assert_eq!(replayed(&kinds, 2, &[1, 0, 5, 0, 2, 0, 4, 0]), (refused(15, 1), vec![]));
+    let phases = vec![vec![0, 1, 3], vec![2], vec![4, 6, 5]];
+    assert_eq!(replayed(&kinds, 2, &[1, 0, 2, 0, 2, 0, 4, 0]), (accepted(3, [3, 1, 3], 0), phases));
+}
+
+/// Replay waits for no finish child, and any order of steals is read.
+#[test]
+fn what_no_scheduler_makes() {
+    // Worker 0 keeps what follows the finish child though its inside is another's.
+    assert_eq!(replayed(&[2, 1, 3, 3, 3], 2, &[1, 0, 2, 0]), (accepted(2, [4, 1, 0], 0), vec![vec![0, 1, 3, 4], vec![2]]));
+    // The newest first.
+    let phases = vec![vec![0, 2, 3, 5], vec![6], vec![4], vec![1]];
+    assert_eq!(replayed(&S, 2, &[1, 0, 6, 0, 2, 0, 4, 0, 1, 0, 1, 0]), (accepted(4, [4, 2, 1], 0), phases));
+    // Worker 1 steals twice, and what its phase 1 has is never run by phase 2.
+    let phases = vec![vec![0, 1, 2, 3, 4], vec![6], vec![5]];
+    assert_eq!(replayed(&S, 1, &[1, 0, 2, 0, 1, 0, 1, 0]), (accepted(3, [5, 2, 0], 0), phases));
+}
+
+/// Sums above four bytes, and the lowest numbered of equal workers.
+#[test]
+fn loads_and_heaviest() {
+    let mut bytes = tree_of_kinds(&S);
+    let mut list = [0; 28];
+    for step in 0..7 {
+        bytes[8 * step + 4..8 * step + 8].copy_from_slice(&[255; 4]);
+    }
+    let most = u64::from(u32::MAX);
+    assert_eq!(library::replay(&bytes, 1, &P1_TRACE, &mut list), accepted(4, [3 * most, 3 * most, most], 0));
+    for step in 0..7 {
+        let weight = u8::from(step == 1 || step == 4);
+        bytes[8 * step + 4..8 * step + 8].copy_from_slice(&[weight, 0, 0, 0]);
+    }
+    let got = library::replay(&bytes, 2, &[9, 0, 4, 0, 3, 0, 1, 0], &mut list);
+    assert_eq!((got.loads[0], got.loads[3], got.loads[9], got.heaviest), (0, 1, 1, 3));
+    bytes.chunks_mut(8).for_each(|record| record[4] = 0);
+    assert_eq!(library::replay(&bytes, 2, &[9, 0, 4, 0, 3, 0, 1, 0], &mut list), accepted(3, [0; 3], 0));
+}
+
+/// The tree of one end has nothing to steal.
+#[test]
+fn empty_slices() {
+    let one = tree_of_kinds(&[3]);
+    let mut list = [0xEE; 4];
+    for policy in [1, 2] {
+        assert_eq!(library::replay(&one, policy, &[], &mut list), accepted(1, [1, 0, 0], 0));
+        assert_eq!(list, [0; 4]);
+        for number in [0, 1, 255] {
+            assert_eq!(library::replay(&one, policy, &[1, 0, number, 0], &mut list), refused(15, 0));
+        }
+        assert_eq!(library::replay(&one, policy, &[], &mut []), refused(7, 0));
+        assert_eq!(library::replay(&[], policy, &[], &mut []), refused(2, 0));
+    }
+    assert_eq!(library::replay(&[], 0, &[], &mut []), refused(1, 0));
+}
+
+// ---- Stack ----
+
+/// The most stack that a call may use.
+const MOST_STACK: usize = 96 * 1_024;
+
+#[test]
+fn stack_of_a_call() {
+    let mut most = 0;
+    for seed in 0..24 {
+        let mut rng = Rng::new(seed);
+        let policy = 1 + (seed / 4 % 2) as u8;
+        let (bytes, trace) = if seed < 16 {
+            let bytes = tree_with(&mut rng, SHAPES[seed as usize % 4], 2_047, 30, Weights::Mixed);
+            let plan = Steals::any(&mut rng);
+            let trace = accepted_trace(&mut rng, policy_of(policy), &read(&bytes), &plan);
+            (bytes, trace)
+        } else {
+            longest_traces(policy).swap_remove(seed as usize % 3)
+        };
+        let mut list = vec![0; needed(&bytes)];
+        let mut answer = refused(0, 0);
+        let used = stack::used_by(&mut || answer = library::replay(&bytes, policy, &trace, &mut list));
+        assert_eq!((answer.number, answer.phases), (0, trace.len() / 4 + 1), "seed {seed}");
+        assert!(used <= MOST_STACK, "seed {seed}: {used} bytes");
+        most = most.max(used);
+    }
+    // Not by a macro, whose line the test runner would keep to itself.
+    writeln!(std::io::stderr(), "stack of a replay, the most: {most} bytes of {MOST_STACK}").expect("a line can be written");
+}
