@@ -4,9 +4,9 @@
 use Prim.Native.Nat.{ℕ, _+_, _-_, _*_, _/_, _%_, _≤_, _<_}
 use mathlib.Core.Path.{_≡_, refl, sym, _∙_}
 use mathlib.Core.Bool.{true, false, not}
-use mathlib.Core.List.{List, [], _∷_, _++_, map-append, flatten, append-assoc}
+use mathlib.Core.List.{List, [], _∷_, _++_, map-append, flatten}
 use native.Mathlib.Omega.{arith}
-use lib.ListN.{length, take, drop, getD, set, length-append, length-drop, length-set}
+use lib.ListN.{length, take, drop, getD, set, length-append, length-set}
 use lib.Seq.{getD-set-same, getD-set-other, sets-eq, take-append-seam, drop-append-add, drop-drop}
 use borrow.Author.Tests.{eq-eqb, ne-eqb}
 use Rattle.rules.specs.Bytes.{twoBytes}
@@ -21,6 +21,7 @@ use Rattle.splits.specs.Invariant.{Cut}
 use Rattle.splits.specs.Laws.Order.{Alone, alone-start, alone-end, alone-drops, alone-keeps, alone-done, alone-within}
 use Rattle.outputs.specs.Answers.{recordPut}
 use Rattle.outputs.specs.Laws.Records.{length-entries, entries-one, put-sets}
+use Rattle.outputs.specs.Laws.Fronts.{length-written}
 use Rattle.lists.specs.Answers.{dropped, phaseOrder, inPhase, Writable}
 use Rattle.lists.specs.Laws.Orders.{length-in-phase, stays-covered, order-labelled}
 
@@ -56,16 +57,7 @@ stacked-push deque stack x h s =
 -- ---- the records
 
 module _ (bytes before : List ℕ) where
-  pub length-written : length bytes ≤ length before → length (written bytes before) ≡ length before
-  unfolding written
-  length-written h = omega (arith, length-append bytes (drop (length bytes) before), length-drop (length bytes) before)
-
-  -- More bytes go behind some.
-  pub written-more : (more : List ℕ) → written (bytes ++ more) before ≡ bytes ++ written more (drop (length bytes) before)
-  unfolding written
-  written-more more = rw (length-append, append-assoc, drop-drop) refl
-
-  -- So does a record.
+  -- A record goes behind some bytes.
   put-written : (k a b n : ℕ) → length bytes ≡ 4 * k → 4 * k + 4 ≤ length before
       → recordPut (written bytes before) k a b n ≡ written (bytes ++ (a ∷ b ∷ twoBytes n)) before
   unfolding written twoBytes
@@ -76,7 +68,7 @@ module _ (bytes before : List ℕ) where
       let rest : drop (4 * k + 4) old ≡ drop (length (bytes ++ record-bytes)) before =
       rw (← e, length-append, drop-append-add) (drop-drop 4 (length bytes) before) in
       put-sets old k a b n
-      ∙ sets-eq record-bytes old (4 * k) (omega (arith, length-written (omega arith)))
+      ∙ sets-eq record-bytes old (4 * k) (omega (arith, length-written bytes before (omega arith)))
       ∙ rw (front, rest) refl
 
 steps-one : (k : ℕ) (log : List ℕ) (i : ℕ) → inPhase k (log ++ (i ∷ [])) ≡ inPhase k log ++ (record { phase = k; step = i } ∷ [])

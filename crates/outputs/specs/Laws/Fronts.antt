@@ -7,6 +7,12 @@ use lib.ListN.{length, take, drop, length-append, length-drop, drop-of-length-le
 use lib.Seq.{take-all, take-at, drop-at, drop-drop}
 use Rattle.rules.specs.Calls.{written}
 
+-- What fits a buffer leaves its length.
+pub length-written : (bytes before : List ℕ) → length bytes ≤ length before → length (written bytes before) ≡ length before
+unfolding written
+length-written bytes before h =
+    omega (arith, length-append bytes (drop (length bytes) before), length-drop (length bytes) before)
+
 -- The part of a buffer from `at` on, and the buffer once other bytes stand there.
 abbrev pub partOf : List ℕ → ℕ → List ℕ
 partOf text at = take (length text - at) (drop at text)
@@ -30,10 +36,7 @@ front-first before xs text at h put = record { many = put .0; fits = omega (arit
 
 module _ {before xs text : List ℕ} {at : ℕ} (front : Front before xs text at) where
   pub front-length : length text ≡ length before
-  unfolding written
-  front-length =
-      ap length (front .same)
-      ∙ omega (arith, length-append xs (drop (length xs) before), length-drop (length xs) before, front .many, front .fits)
+  front-length = ap length (front .same) ∙ length-written xs before (omega (arith, front .many, front .fits))
 
   -- The part behind.
   rest-is : drop at text ≡ drop at before
