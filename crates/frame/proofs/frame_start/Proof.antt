@@ -1,10 +1,10 @@
--- `host::frame_start` meets its contract: it flattens what `start` answers. Assumes nothing.
+-- `frame::frame_start` meets its contract: it flattens what `start` answers. Assumes nothing.
 use mathlib.Core.Path.{ap}
-use Rattle.host.specs.declared.FrameStart.{FrameStart}
-use Rattle.host.specs.Answers.{flatStart}
+use Rattle.frame.specs.declared.FrameStart.{FrameStart}
+use Rattle.frame.specs.Answers.{flatStart}
 use borrow.Author.Needs.{needs}
-use Rattle.host.proofs.frame_start.Statement.{statement}
-use Rattle.host.proofs.frame_start.Tie as tie
+use Rattle.frame.proofs.frame_start.Statement.{statement}
+use Rattle.frame.proofs.frame_start.Tie as tie
 
 start-requires : tie.Need-start-requires
 start-requires c κs = search needs

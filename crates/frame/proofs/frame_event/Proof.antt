@@ -1,13 +1,13 @@
--- `host::frame_event` meets its contract: it flattens what `event` answers, case by case. Assumes nothing.
+-- `frame::frame_event` meets its contract: it flattens what `event` answers, case by case. Assumes nothing.
 use Prim.Native.Nat.{ℕ}
 use mathlib.Core.Path.{ap, sym, _∙_}
 use Rattle.state.specs.declared.Outcome.{Outcome}
 use Rattle.state.specs.declared.RunState.{RunState}
-use Rattle.host.specs.declared.FrameEvent.{FrameEvent}
-use Rattle.host.specs.Answers.{flatOutcome, flatEvent}
+use Rattle.frame.specs.declared.FrameEvent.{FrameEvent}
+use Rattle.frame.specs.Answers.{flatOutcome, flatEvent}
 use borrow.Author.Needs.{needs}
-use Rattle.host.proofs.frame_event.Statement.{statement}
-use Rattle.host.proofs.frame_event.Tie as tie
+use Rattle.frame.proofs.frame_event.Statement.{statement}
+use Rattle.frame.proofs.frame_event.Tie as tie
 
 -- A steal, by its trace number.
 abbrev stolen : ℕ → RunState → FrameEvent

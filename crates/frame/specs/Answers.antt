@@ -16,14 +16,14 @@ use Rattle.state.specs.declared.RunState.{RunState}
 use Rattle.state.specs.Answers.{numberValue}
 use Rattle.record.specs.declared.Recorded.{Recorded}
 use Rattle.replay.specs.declared.Replayed.{Replayed}
-use Rattle.host.specs.declared.FrameTree.{FrameTree}
-use Rattle.host.specs.declared.FrameTask.{FrameTask}
-use Rattle.host.specs.declared.FrameRunning.{FrameRunning}
-use Rattle.host.specs.declared.FrameStart.{FrameStart}
-use Rattle.host.specs.declared.FrameEvent.{FrameEvent}
-use Rattle.host.specs.declared.FrameIdle.{FrameIdle}
-use Rattle.host.specs.declared.FrameRecord.{FrameRecord}
-use Rattle.host.specs.declared.FrameReplay.{FrameReplay}
+use Rattle.frame.specs.declared.FrameTree.{FrameTree}
+use Rattle.frame.specs.declared.FrameTask.{FrameTask}
+use Rattle.frame.specs.declared.FrameRunning.{FrameRunning}
+use Rattle.frame.specs.declared.FrameStart.{FrameStart}
+use Rattle.frame.specs.declared.FrameEvent.{FrameEvent}
+use Rattle.frame.specs.declared.FrameIdle.{FrameIdle}
+use Rattle.frame.specs.declared.FrameRecord.{FrameRecord}
+use Rattle.frame.specs.declared.FrameReplay.{FrameReplay}
 
 abbrev pub flatTree : Accepted → FrameTree
 flatTree a = record { number = a .number; position = a .position; steps = a .steps }

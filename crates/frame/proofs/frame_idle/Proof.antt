@@ -1,10 +1,10 @@
--- `host::frame_idle` meets its contract: it flattens what `idle` answers. Assumes nothing.
+-- `frame::frame_idle` meets its contract: it flattens what `idle` answers. Assumes nothing.
 use mathlib.Core.Path.{ap}
-use Rattle.host.specs.declared.FrameIdle.{FrameIdle}
-use Rattle.host.specs.Answers.{flatIdle}
+use Rattle.frame.specs.declared.FrameIdle.{FrameIdle}
+use Rattle.frame.specs.Answers.{flatIdle}
 use borrow.Author.Needs.{needs}
-use Rattle.host.proofs.frame_idle.Statement.{statement}
-use Rattle.host.proofs.frame_idle.Tie as tie
+use Rattle.frame.proofs.frame_idle.Statement.{statement}
+use Rattle.frame.proofs.frame_idle.Tie as tie
 
 idle-requires : tie.Need-idle-requires
 idle-requires c κs = search needs

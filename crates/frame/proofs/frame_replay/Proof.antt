@@ -1,10 +1,10 @@
--- `host::frame_replay` meets its contract: it flattens what `replay` answers. Assumes nothing.
+-- `frame::frame_replay` meets its contract: it flattens what `replay` answers. Assumes nothing.
 use mathlib.Core.Path.{ap}
-use Rattle.host.specs.declared.FrameReplay.{FrameReplay}
-use Rattle.host.specs.Answers.{flatReplay}
+use Rattle.frame.specs.declared.FrameReplay.{FrameReplay}
+use Rattle.frame.specs.Answers.{flatReplay}
 use borrow.Author.Needs.{needs}
-use Rattle.host.proofs.frame_replay.Statement.{statement}
-use Rattle.host.proofs.frame_replay.Tie as tie
+use Rattle.frame.proofs.frame_replay.Statement.{statement}
+use Rattle.frame.proofs.frame_replay.Tie as tie
 
 replay-requires : tie.Need-replay-requires
 replay-requires c κs = search needs

@@ -1,9 +1,9 @@
--- `host::frame_running` meets its contract: it flattens what `running_of` answers, case by case. Assumes nothing.
+-- `frame::frame_running` meets its contract: it flattens what `running_of` answers, case by case. Assumes nothing.
 use mathlib.Core.Path.{ap, sym, _∙_}
-use Rattle.host.specs.Answers.{flatRunning}
+use Rattle.frame.specs.Answers.{flatRunning}
 use borrow.Author.Needs.{needs}
-use Rattle.host.proofs.frame_running.Statement.{statement}
-use Rattle.host.proofs.frame_running.Tie as tie
+use Rattle.frame.proofs.frame_running.Statement.{statement}
+use Rattle.frame.proofs.frame_running.Tie as tie
 
 running-of-requires : tie.Need-running-of-requires
 running-of-requires c κs = search needs

@@ -9,7 +9,7 @@ ghost use Rattle.state.specs.Answers.{startAnswer, eventAnswer, idleAnswer};
 ghost use Rattle.rules.specs.Calls.{recordCall, replayCall};
 ghost use Rattle.record.specs.Answers.{answers};
 ghost use Rattle.replay.specs.Answers.{answers as replayAnswers};
-ghost use Rattle.host.specs.Answers.{flatTree, flatTask, flatChild, flatRunning, flatStart, flatEvent, flatIdle, flatRecord, flatReplay};
+ghost use Rattle.frame.specs.Answers.{flatTree, flatTask, flatChild, flatRunning, flatStart, flatEvent, flatIdle, flatRecord, flatReplay};
 use state::Outcome;
 use state::RunState;
 use tree::Step;

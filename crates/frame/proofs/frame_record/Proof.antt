@@ -1,12 +1,12 @@
--- `host::frame_record` meets its contract: it flattens what `record` answers. Assumes nothing.
+-- `frame::frame_record` meets its contract: it flattens what `record` answers. Assumes nothing.
 use mathlib.Core.Path.{_≡_, refl, ap}
 use mathlib.Core.Bool.{Bool, true, false, cond}
 use mir.Val.{boolByte}
-use Rattle.host.specs.declared.FrameRecord.{FrameRecord}
-use Rattle.host.specs.Answers.{flatRecord}
+use Rattle.frame.specs.declared.FrameRecord.{FrameRecord}
+use Rattle.frame.specs.Answers.{flatRecord}
 use borrow.Author.Needs.{needs}
-use Rattle.host.proofs.frame_record.Statement.{statement}
-use Rattle.host.proofs.frame_record.Tie as tie
+use Rattle.frame.proofs.frame_record.Statement.{statement}
+use Rattle.frame.proofs.frame_record.Tie as tie
 
 -- A truth value as a number.
 byte : (b : Bool) → boolByte b ≡ cond b 1 0
