@@ -13,7 +13,7 @@ use Rattle.state.specs.declared.Answer.{Answer}
 use Rattle.state.specs.declared.Started.{Started}
 use Rattle.state.specs.declared.Idle.{Idle}
 use Rattle.state.specs.declared.RunState.{RunState}
-use Rattle.state.specs.Answers.{numberValue}
+use Rattle.stealing.specs.Answers.{numberValue}
 use Rattle.record.specs.declared.Recorded.{Recorded}
 use Rattle.replay.specs.declared.Replayed.{Replayed}
 use Rattle.frame.specs.declared.FrameTree.{FrameTree}

@@ -173,7 +173,7 @@ pub extern "C" fn frame_event(state: RunState, tree: &[u8], first: u8, second: u
             what: 2,
             phase: 0,
             step: 0,
-            trace: state::number_of(number),
+            trace: stealing::number_of(number),
             state,
         },
         Outcome::Refused(number) => FrameEvent {

@@ -10,11 +10,12 @@ use Rattle.rules.specs.Bytes.{any}
 use Rattle.rules.specs.Tree.{kindAt, isEnd, ordinal, taskEnd, cont}
 use Rattle.rules.specs.Scheduling.{workFirst, mostWorkers, pushes, Worker, Run, workerAt, hasRun, isRun, oldest, judgeEvent}
 use Rattle.rules.specs.Calls.{eventCall}
-use Rattle.moves.specs.Answers.{marked}
+use Rattle.deques.specs.Answers.{marked}
 use Rattle.state.specs.declared.RunState.{RunState}
 use Rattle.state.specs.declared.Outcome.{Outcome}
 use Rattle.state.specs.declared.Outcome.the-variants.{Ran, Stole, Refused}
-use Rattle.state.specs.Answers.{numberBy, eventAnswer}
+use Rattle.stealing.specs.Answers.{numberBy}
+use Rattle.state.specs.Answers.{eventAnswer}
 
 -- ---- a worker
 

@@ -53,21 +53,20 @@ pub fn record(tree: &[u8], policy: u8, events: &[u8], log: &mut [u8], trace: &mu
     ensures log { λ r. ⌜ now (log .exit) ≡ recordCall 16 policy (now (tree .entry)) (now (events .entry)) (now (log .entry)) (now (trace .entry)) .log ⌝ }
     ensures trace { λ r. ⌜ now (trace .exit) ≡ recordCall 16 policy (now (tree .entry)) (now (events .entry)) (now (log .entry)) (now (trace .entry)) .trace ⌝ }
 {
-    let started = state::start(tree, policy);
-    if started.number != 0 {
-        return refused(started.number, started.position);
+    let admitted = tasks::admit(tree, policy);
+    if admitted.number != 0 {
+        return refused(admitted.number, admitted.position);
     }
     if !outputs::whole_records(events, EVENT, MOST_EVENTS) {
         return refused(6, 0);
     }
-    let n = tree::steps(tree);
+    let n = admitted.steps;
     if too_short(n, log.len(), trace.len()) {
         return refused(7, 0);
     }
     let mut own_log: [u8; 16380] = [0; 16380];
     let mut own_trace: [u8; 8188] = [0; 8188];
-    let state = started.state;
-    let walked = walks::walk_events(tree, state, events, &mut own_log, &mut own_trace);
+    let walked = walks::walk_events(tree, policy, events, &mut own_log, &mut own_trace);
     if walked.number != 0 {
         return refused(walked.number, walked.position);
     }

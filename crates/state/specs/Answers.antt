@@ -2,21 +2,19 @@
 -- event alone, for any of them. On the states that a run leads to these are the rules; on any other a held step that the tree
 -- has not is none, and a tree with too many records is refused with 2.
 use Prim.Native.Nat.{ℕ, zero, suc, _+_, _*_, _%_, _<_}
-use mathlib.Core.Bool.{Bool, cond, _||_}
+use mathlib.Core.Bool.{Bool, cond}
 use mathlib.Core.List.{List}
-use mathlib.Core.Option.{Option, none, some}
+use mathlib.Core.Option.{none, some}
 use lib.ListN.{length, getD, set, replicate}
-use lib.Dec.{eqb, leb, ltb}
-use Rattle.rules.specs.Tree.{kinds, kindAt, isEnd, mostSteps}
-use Rattle.rules.specs.Scheduling.{workFirst, mostWorkers, holds, pushes}
+use lib.Dec.{eqb, leb}
+use Rattle.rules.specs.Tree.{kinds, mostSteps}
+use Rattle.rules.specs.Scheduling.{mostWorkers, pushes}
 use Rattle.rules.specs.Calls.{startVerdict}
 use Rattle.tables.specs.Answers.{Ends, Openers}
-use Rattle.moves.specs.Answers.{Climbs, newestMark, oldestMark, waitsFor, childrenBetween, popped, robbed}
+use Rattle.deques.specs.Answers.{Climbs, oldestMark, robbed}
+use Rattle.running.specs.Answers.{runNumber, heldNext, placeNext}
+use Rattle.stealing.specs.Answers.{stealNumber, numberBy, ordinalFrom}
 use Rattle.state.specs.declared.RunState.{RunState}
-use Rattle.state.specs.declared.TraceNumber.{TraceNumber}
-use Rattle.state.specs.declared.TraceNumber.the-variants.{ByOrdinal, BySerial}
-use Rattle.state.specs.declared.Taken.{Taken}
-use Rattle.state.specs.declared.Taken.the-variants.{Of, Nothing}
 use Rattle.state.specs.declared.Outcome.{Outcome}
 use Rattle.state.specs.declared.Outcome.the-variants.{Ran, Stole, Refused}
 use Rattle.state.specs.declared.Answer.{Answer}
@@ -80,29 +78,6 @@ startAnswer p tree =
 unfoldable pub refused : ℕ → RunState → Answer
 refused number s = record { outcome = Refused number; state = s }
 
--- The trace number of a stolen step: its ordinal or its serial number, and never the one for the other.
-unfoldable pub numberBy : ℕ → ℕ → ℕ → TraceNumber
-numberBy p ordinal step = cond (eqb p workFirst) (ByOrdinal (record { 0 = ordinal })) (BySerial (record { 0 = step }))
-
--- The number that goes into a trace record.
-abbrev pub numberValue : TraceNumber → ℕ
-numberValue (ByOrdinal o) = o .0
-numberValue (BySerial s) = s .0
-
--- The ordinal of the step that step q pushes, from the ordinal `base` of a step of the same task, `from`: one more for each child
--- opened between, and one for q's. Under help-first it is not asked for, and 0.
-unfoldable pub ordinalFrom : ℕ → List ℕ → ℕ → ℕ → ℕ → ℕ
-ordinalFrom p ks base from q = cond (eqb p workFirst) (base % 4096 + childrenBetween ks from q + 1) 0
-
--- The step that worker w holds once it has run step i, and the places then.
-unfoldable pub heldNext : ℕ → List ℕ → List ℕ → ℕ → ℕ → ℕ → ℕ
-heldNext p ks place w low i =
-    let newest = newestMark place w low i in
-    cond (isEnd (kindAt ks i)) (elim newest [ none ↦ 65535 | some q ↦ pushes p ks q ]) (holds p ks i)
-
-unfoldable pub placeNext : List ℕ → List ℕ → ℕ → ℕ → ℕ → List ℕ
-placeNext ks place w low i = cond (isEnd (kindAt ks i)) (popped place w low i) (set place i w)
-
 -- Worker w has run step i.
 unfoldable pub ranState : RunState → List ℕ → ℕ → ℕ → RunState
 ranState s ks w i =
@@ -111,13 +86,10 @@ ranState s ks w i =
 
 unfoldable pub runAnswer : RunState → List ℕ → ℕ → Answer
 runAnswer s tree w =
-    let ks = kinds tree in
+    let number = runNumber (kinds tree) (s .place) (s .held) w in
     let i = getD (s .held) w 0 in
     let ran = Ran (record { 0 = getD (s .phase) w 0 }) (record { 0 = i }) in
-    cond (leb mostWorkers w) (refused 8 s)
-    (cond (ltb mostSteps (length ks)) (refused 2 s)
-    (cond (leb (length ks) i) (refused 9 s)
-    (cond (waitsFor ks (s .place) i) (refused 10 s) (record { outcome = ran; state = ranState s ks w i }))))
+    cond (eqb number 0) (record { outcome = ran; state = ranState s (kinds tree) w i }) (refused number s)
 
 -- The number of the phase that begins at the next steal. A run has at most 2,048 phases.
 unfoldable pub nextPhase : RunState → ℕ
@@ -126,16 +98,6 @@ nextPhase s = s .steals % 2048 + 1
 -- The ordinal of the step that is stolen from v, which step q pushed.
 unfoldable pub takenOrdinal : RunState → List ℕ → ℕ → ℕ → ℕ
 takenOrdinal s ks v q = ordinalFrom (s .policy) ks (getD (s .base) v 0) (getD (s .low) v 0) q
-
--- What a steal from a deque takes, whose oldest step was pushed by a step that is found, or by none.
-unfoldable pub takenOf : ℕ → List ℕ → ℕ → ℕ → Option ℕ → Taken
-takenOf p ks base from none = Nothing
-takenOf p ks base from (some q) = Of (record { 0 = q }) (record { 0 = pushes p ks q }) (record { 0 = ordinalFrom p ks base from q })
-
--- It fits the tables.
-abbrev pub Small : Taken → Type 0
-Small (Of pusher step ordinal) = (pusher .0 < 4095) × (step .0 < 65536) × (ordinal .0 < 65536)
-Small Nothing = 0 < 1
 
 -- The thief t has taken from v the step that step q pushed.
 unfoldable pub robbedState : RunState → List ℕ → ℕ → ℕ → ℕ → RunState
@@ -147,13 +109,13 @@ robbedState s ks t v q =
 unfoldable pub stealAnswer : RunState → List ℕ → ℕ → ℕ → Answer
 stealAnswer s tree t v =
     let ks = kinds tree in
-    cond (leb mostWorkers t || leb mostWorkers v) (refused 8 s)
-    (cond (ltb mostSteps (length ks)) (refused 2 s)
-    (cond (ltb (getD (s .held) t 0) (length ks)) (refused 11 s)
+    let number = stealNumber ks (s .held) t v in
+    cond (eqb number 0)
     (elim (oldestMark (s .place) v (getD (s .low) v 0) (length ks)) [
       | none ↦ refused 12 s
       | some q ↦ record { outcome = Stole (numberBy (s .policy) (takenOrdinal s ks v q) (pushes (s .policy) ks q)); state = robbedState s ks t v q }
-    ])))
+    ])
+    (refused number s)
 
 -- "Equal bytes: that worker runs its step. Different bytes: the first steals from the second."
 unfoldable pub eventAnswer : RunState → List ℕ → ℕ → ℕ → Answer

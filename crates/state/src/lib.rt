@@ -3,33 +3,24 @@
 // a tree with more records than a tree may have is refused with 2.
 ghost use mathlib.Core.Path.{_≡_};
 ghost use mathlib.Core.List.{List};
-ghost use Prim.Native.Nat.{ℕ, _≤_, _<_};
+ghost use Prim.Native.Nat.{ℕ};
 ghost use lib.ListN.{length};
 ghost use Rattle.rules.specs.Tree.{kinds};
 ghost use Rattle.tables.specs.Answers.{Ends};
-ghost use Rattle.moves.specs.Answers.{Climbs, oldestMark, robbed};
-ghost use Rattle.state.specs.Answers.{Hints, Small, stateOf, answerOf, zeros, fresh, startAnswer, heldNext, placeNext, takenOf, runAnswer, stealAnswer, eventAnswer, idleBits, idleAnswer, numberBy, numberValue, ordinalFrom};
-use moves::NOT_RUN;
-use moves::Pusher;
+ghost use Rattle.state.specs.declared.Outcome.the-variants.{Refused};
+ghost use Rattle.state.specs.Answers.{Hints, stateOf, answerOf, zeros, fresh, startAnswer, runAnswer, stealAnswer, eventAnswer, idleBits, idleAnswer};
+use deques::MOST_WORKERS;
+use deques::NOT_RUN;
+use running::NO_STEP;
+use stealing::Taken;
+use stealing::TraceNumber;
 use tables::wide;
-use tasks::WORK_FIRST;
-use tree::END;
 use tree::MOST_STEPS;
-use tree::Ordinal;
 use tree::Phase;
 use tree::Step;
 
-// Workers of a run.
-pub const MOST_WORKERS: usize = 16;
-
 // Phases of a run: one for the start, and at most one for each spawned task.
 pub const MOST_PHASES: u16 = 2048;
-
-// More than any ordinal of a tree.
-pub const MOST_ORDINALS: usize = 4096;
-
-// What a worker that holds no step has for one.
-pub const NO_STEP: u16 = 65535;
 
 // The state of a run.
 #[repr(C)]
@@ -49,12 +40,6 @@ pub struct RunState {
     pub policy: u8,
 }
 
-// The number of a trace record: under work-first an ordinal, under help-first a serial number.
-pub enum TraceNumber {
-    ByOrdinal(Ordinal),
-    BySerial(Step),
-}
-
 // What an event did: the phase and the step that it ran, or the trace number of the step that it stole, or its refusal, whose
 // position is always 0.
 pub enum Outcome {
@@ -67,16 +52,6 @@ pub enum Outcome {
 pub struct Moved {
     pub outcome: Outcome,
     pub steals: u16,
-}
-
-// What a steal takes: the step, its ordinal and its pusher; or nothing.
-pub enum Taken {
-    Of {
-        pusher: Step,
-        step: Step,
-        ordinal: Ordinal,
-    },
-    Nothing,
 }
 
 // An event's outcome with the next state.
@@ -98,41 +73,6 @@ pub struct Idle {
     pub count: u32,
     pub lowest: u32,
     pub state: RunState,
-}
-
-// The trace number of a stolen step, by its ordinal or its serial number.
-fn trace_number(policy: u8, ordinal: Ordinal, step: Step) -> TraceNumber
-    ensures { λ r. ⌜ r ≡ numberBy policy (ordinal .0) (step .0) ⌝ }
-{
-    if policy == WORK_FIRST {
-        return TraceNumber::ByOrdinal(ordinal);
-    }
-    TraceNumber::BySerial(step)
-}
-
-// The number of a trace record.
-pub fn number_of(number: TraceNumber) -> usize
-    ensures { λ r. ⌜ r ≡ numberValue number ⌝ }
-{
-    match number {
-        TraceNumber::ByOrdinal(ordinal) => ordinal.0,
-        TraceNumber::BySerial(step) => step.0,
-    }
-}
-
-// The ordinal of the step that step `pusher` pushes, from the ordinal of an earlier step of its task; 0 under help-first,
-// which counts none. No ordinal is above 4,095.
-fn ordinal_from(tree: &[u8], policy: u8, base: u16, from: usize, pusher: usize) -> Ordinal
-    requires { ⌜ (pusher ≤ length (kinds (now tree))) × (length (kinds (now tree)) ≤ 4095) ⌝ }
-    ensures { λ r. ⌜ r .0 ≡ ordinalFrom policy (kinds (now (tree .entry))) base from pusher ⌝ }
-    ensures small { λ r. ⌜ r .0 < 65536 ⌝ }
-{
-    if policy == WORK_FIRST {
-        return Ordinal(
-            wide(base) % MOST_ORDINALS + moves::children_between(tree, from, pusher) + 1,
-        );
-    }
-    Ordinal(0)
 }
 
 // The state beside a refusal.
@@ -186,36 +126,6 @@ pub fn start(tree: &[u8], policy: u8) -> Started
     }
 }
 
-// A worker has run a step: the places change, and the step that it holds next, or NO_STEP, is given.
-fn advance(
-    tree: &[u8],
-    ends: &[u16],
-    openers: &[u16],
-    place: &mut [u8; 4095],
-    policy: u8,
-    worker: u8,
-    low: usize,
-    step: Step,
-) -> u16
-    requires { ⌜ (step .0 < length (kinds (now tree))) × (length (kinds (now tree)) ≤ 4095) × Ends (kinds (now tree)) (now ends) (length (now ends)) × (step .0 < length (now openers) → Climbs (now openers) (now place) worker low (step .0)) ⌝ }
-    ensures gives { λ r. ⌜ r ≡ heldNext policy (kinds (now (tree .entry))) (now (place .entry)) worker low (step .0) ⌝ }
-    ensures leaves { λ r. ⌜ now (place .exit) ≡ placeNext (kinds (now (tree .entry))) (now (place .entry)) worker low (step .0) ⌝ }
-{
-    let i = step.0;
-    if tree::kind(tree, step) != END {
-        let held = moves::held_after(tree, ends, policy, step);
-        place[i] = worker;
-        return held.0 as u16;
-    }
-    match moves::pop(openers, place, worker, low, step) {
-        Pusher::At(q) => {
-            let held = moves::pushed_by(tree, ends, policy, q);
-            held.0 as u16
-        }
-        Pusher::Nothing => NO_STEP,
-    }
-}
-
 // A worker runs its step, on the arrays themselves: refusals 8 to 10 leave them as they are.
 pub fn run_on(
     tree: &[u8],
@@ -231,57 +141,27 @@ pub fn run_on(
     requires { ⌜ Hints (now tree) (now ends) (now openers) (now place) (now held) (now low) ⌝ }
     ensures { λ r. ⌜ ((base : List ℕ) → (steals : ℕ) → answerOf r (stateOf (now (place .exit)) (now (held .exit)) (now (phase .entry)) (now (low .entry)) base steals policy) ≡ runAnswer (stateOf (now (place .entry)) (now (held .entry)) (now (phase .entry)) (now (low .entry)) base steals policy) (now (tree .entry)) worker) ⌝ }
 {
+    let refusal = running::judge_run(tree, openers, place, held, worker);
+    if refusal != 0 {
+        return Outcome::Refused(refusal);
+    }
     let w = worker as usize;
-    if MOST_WORKERS <= w {
-        return Outcome::Refused(8);
-    }
-    let n = tree::steps(tree);
-    if MOST_STEPS < n {
-        return Outcome::Refused(2);
-    }
     let i = wide(held[w]);
-    if n <= i {
-        return Outcome::Refused(9);
-    }
-    if moves::waits(tree, openers, place, Step(i)) {
-        return Outcome::Refused(10);
-    }
     let from = wide(low[w]);
-    let next = advance(tree, ends, openers, place, policy, worker, from, Step(i));
-    held[w] = next;
+    held[w] = running::advance(tree, ends, openers, place, policy, worker, from, Step(i));
     Outcome::Ran {
         phase: Phase(wide(phase[w])),
         step: Step(i),
     }
 }
 
-// The oldest step of the victim's deque leaves it.
-fn take_step(
-    tree: &[u8],
-    ends: &[u16],
-    place: &mut [u8; 4095],
-    policy: u8,
-    victim: u8,
-    low: usize,
-    base: u16,
-) -> Taken
-    requires { ⌜ (length (kinds (now tree)) ≤ 4095) × Ends (kinds (now tree)) (now ends) (length (now ends)) ⌝ }
-    ensures gives { λ r. ⌜ r ≡ takenOf policy (kinds (now (tree .entry))) base low (oldestMark (now (place .entry)) victim low (length (kinds (now (tree .entry))))) ⌝ }
-    ensures leaves { λ r. ⌜ now (place .exit) ≡ robbed (now (place .entry)) victim low (length (kinds (now (tree .entry)))) ⌝ }
-    ensures small { λ r. ⌜ Small r ⌝ }
+// A refused steal.
+fn refused(number: u8, steals: u16) -> Moved
+    ensures { λ r. ⌜ r ≡ record { outcome = Refused number; steals = steals } ⌝ }
 {
-    let n = tree::steps(tree);
-    match moves::take(place, victim, low, n) {
-        Pusher::At(pusher) => {
-            let step = moves::pushed_by(tree, ends, policy, pusher);
-            let ordinal = ordinal_from(tree, policy, base, low, pusher.0);
-            Taken::Of {
-                pusher,
-                step,
-                ordinal,
-            }
-        }
-        Pusher::Nothing => Taken::Nothing,
+    Moved {
+        outcome: Outcome::Refused(number),
+        steals,
     }
 }
 
@@ -302,96 +182,38 @@ pub fn steal_on(
     requires { ⌜ Ends (kinds (now tree)) (now ends) (length (now ends)) ⌝ }
     ensures { λ r. ⌜ answerOf (r .outcome) (stateOf (now (place .exit)) (now (held .exit)) (now (phase .exit)) (now (low .exit)) (now (base .exit)) (r .steals) policy) ≡ stealAnswer (stateOf (now (place .entry)) (now (held .entry)) (now (phase .entry)) (now (low .entry)) (now (base .entry)) steals policy) (now (tree .entry)) thief victim ⌝ }
 {
-    let t = thief as usize;
+    let refusal = stealing::judge_steal(tree, held, thief, victim);
+    if refusal != 0 {
+        return refused(refusal, steals);
+    }
     let v = victim as usize;
-    if MOST_WORKERS <= t {
-        return Moved {
-            outcome: Outcome::Refused(8),
-            steals,
-        };
-    }
-    if MOST_WORKERS <= v {
-        return Moved {
-            outcome: Outcome::Refused(8),
-            steals,
-        };
-    }
-    let n = tree::steps(tree);
-    if MOST_STEPS < n {
-        return Moved {
-            outcome: Outcome::Refused(2),
-            steals,
-        };
-    }
-    if wide(held[t]) < n {
-        return Moved {
-            outcome: Outcome::Refused(11),
-            steals,
-        };
-    }
     let from = wide(low[v]);
-    match take_step(tree, ends, place, policy, victim, from, base[v]) {
+    match stealing::take_step(tree, ends, place, policy, victim, from, base[v]) {
         Taken::Of {
             pusher,
             step,
             ordinal,
         } => {
-            let number = trace_number(policy, ordinal, step);
-            let taken = step.0 as u16;
             let begun = steals % MOST_PHASES + 1;
-            low[v] = (pusher.0 + 1) as u16;
-            low[t] = taken;
-            base[v] = 0;
-            base[t] = ordinal.0 as u16;
-            held[t] = taken;
-            phase[t] = begun;
+            stealing::settle(
+                held,
+                phase,
+                low,
+                base,
+                thief,
+                victim,
+                pusher,
+                step,
+                ordinal,
+                begun,
+            );
             Moved {
-                outcome: Outcome::Stole(number),
+                outcome: Outcome::Stole(stealing::trace_number(policy, ordinal, step)),
                 steals: begun,
             }
         }
-        Taken::Nothing => Moved {
-            outcome: Outcome::Refused(12),
-            steals,
-        },
+        Taken::Nothing => refused(12, steals),
     }
-}
-
-// An event of two bytes: equal, that worker runs its step; different, the first steals from the second.
-pub fn event_on(
-    tree: &[u8],
-    ends: &[u16],
-    openers: &[u16],
-    place: &mut [u8; 4095],
-    held: &mut [u16; 16],
-    phase: &mut [u16; 16],
-    low: &mut [u16; 16],
-    base: &mut [u16; 16],
-    steals: u16,
-    policy: u8,
-    first: u8,
-    second: u8,
-) -> Moved
-    requires { ⌜ Hints (now tree) (now ends) (now openers) (now place) (now held) (now low) ⌝ }
-    ensures { λ r. ⌜ answerOf (r .outcome) (stateOf (now (place .exit)) (now (held .exit)) (now (phase .exit)) (now (low .exit)) (now (base .exit)) (r .steals) policy) ≡ eventAnswer (stateOf (now (place .entry)) (now (held .entry)) (now (phase .entry)) (now (low .entry)) (now (base .entry)) steals policy) (now (tree .entry)) first second ⌝ }
-{
-    if first == second {
-        let outcome = run_on(tree, ends, openers, place, held, phase, low, policy, first);
-        return Moved { outcome, steals };
-    }
-    steal_on(
-        tree,
-        ends,
-        place,
-        held,
-        phase,
-        low,
-        base,
-        steals,
-        policy,
-        first,
-        second,
-    )
 }
 
 // The set of idle workers: worker w is bit w.

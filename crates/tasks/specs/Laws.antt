@@ -10,6 +10,7 @@ pub mod Admission
 pub mod Scans
 pub mod Steps
 pub mod Shape
+pub mod Starts
 pub mod Balance
 pub mod Frames
 pub mod Places

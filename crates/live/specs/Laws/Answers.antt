@@ -1,23 +1,25 @@
 -- A run's and a steal's answer, case by case: on any state a refusal keeps it; on a state that shows a run the rules' verdict.
 use Prim.Native.Nat.{ℕ, _<_}
 use mathlib.Core.Path.{_≡_, refl, ap, _∙_}
-use mathlib.Core.Bool.{Bool, true, false, cond, _||_}
+use mathlib.Core.Bool.{Bool, true, false, cond}
 use mathlib.Core.List.{List, [], _∷_}
 use mathlib.Core.Option.{Option, none, some}
 use native.Mathlib.Decide.{ℕ-discrete}
 use native.Mathlib.Omega.{arith}
 use lib.ListN.{length, getD}
-use lib.Dec.{leb, ltb}
+use lib.Dec.{eqb, ltb}
 use borrow.Author.Tests.{lt-ltb, le-ltb, le-leb, lt-leb, ne-eqb}
 use Rattle.rules.specs.Tree.{kinds, ordinal}
 use Rattle.rules.specs.Scheduling.{workFirst, mostWorkers, pushes, Run, workerAt, waits, judgeRun, runStep, holdsStep, judgeSteal, oldest, steal}
-use Rattle.moves.specs.Answers.{oldestMark, waitsFor}
+use Rattle.deques.specs.Answers.{oldestMark}
+use Rattle.running.specs.Answers.{runNumber}
+use Rattle.stealing.specs.declared.TraceNumber.{TraceNumber}
+use Rattle.stealing.specs.Answers.{stealNumber, numberBy}
 use Rattle.state.specs.declared.RunState.{RunState}
-use Rattle.state.specs.declared.TraceNumber.{TraceNumber}
 use Rattle.state.specs.declared.Outcome.{Outcome}
 use Rattle.state.specs.declared.Outcome.the-variants.{Ran, Stole, Refused}
 use Rattle.state.specs.declared.Answer.{Answer}
-use Rattle.state.specs.Answers.{refused, numberBy, ranState, runAnswer, takenOrdinal, robbedState, stealAnswer}
+use Rattle.state.specs.Answers.{refused, ranState, runAnswer, takenOrdinal, robbedState, stealAnswer}
 use Rattle.live.specs.Tie.{Shows, heldStep}
 use Rattle.live.specs.Laws.Scans.{waits-shown}
 use Rattle.live.specs.Laws.Moves.{Known, Stolen, held-none, held-some, run-shows, nothing-found, steal-shows}
@@ -40,13 +42,8 @@ module _ (s : RunState) where
   pub keeps-run : (tree : List ℕ) (w : ℕ) → Keeps s (runAnswer s tree w)
   unfolding runAnswer
   keeps-run tree w =
-      let n = length (kinds tree) in
-      let i = getD (s .held) w 0 in
-      keeps-if (leb 16 w) (keeps-refused 8)
-      (keeps-if (ltb 4095 n) (keeps-refused 2)
-      (keeps-if (leb n i) (keeps-refused 9)
-      (keeps-if (waitsFor (kinds tree) (s .place) i) (keeps-refused 10)
-      (record { same = λ m e. let z : _≡_ {A = ℕ} 0 1 = cc in absurd (omega arith) }))))
+      let number = runNumber (kinds tree) (s .place) (s .held) w in
+      keeps-if (eqb number 0) (record { same = λ m e. let z : _≡_ {A = ℕ} 0 1 = cc in absurd (omega arith) }) (keeps-refused number)
 
   keeps-found : (found : Option ℕ) (number : ℕ → TraceNumber) (next : ℕ → RunState)
       → Keeps s (elim found [ none ↦ refused 12 s | some q ↦ record { outcome = Stole (number q); state = next q } ])
@@ -56,15 +53,21 @@ module _ (s : RunState) where
   pub keeps-steal : (tree : List ℕ) (t v : ℕ) → Keeps s (stealAnswer s tree t v)
   unfolding stealAnswer
   keeps-steal tree t v =
-      let n = length (kinds tree) in
-      keeps-if (leb 16 t || leb 16 v) (keeps-refused 8)
-      (keeps-if (ltb 4095 n) (keeps-refused 2)
-      (keeps-if (ltb (getD (s .held) t 0) n) (keeps-refused 11)
-      (keeps-found (oldestMark (s .place) v (getD (s .low) v 0) n)
-      (λ q. numberBy (s .policy) (takenOrdinal s (kinds tree) v q) (pushes (s .policy) (kinds tree) q))
-      (robbedState s (kinds tree) t v))))
+      let ks = kinds tree in
+      let number = stealNumber ks (s .held) t v in
+      keeps-if (eqb number 0)
+      (keeps-found (oldestMark (s .place) v (getD (s .low) v 0) (length ks))
+      (λ q. numberBy (s .policy) (takenOrdinal s ks v q) (pushes (s .policy) ks q))
+      (robbedState s ks t v))
+      (keeps-refused number)
 
 -- ---- a state that shows a run
+
+-- Where nothing but one test can refuse, the answer goes by that test.
+by-test : (s : RunState) (b : Bool) (m : ℕ) (x : Answer) → (m ≡ 0 → ⊥)
+    → cond (eqb (cond b m 0) 0) x (refused (cond b m 0) s) ≡ cond b (refused m s) x
+by-test s true m x n = rw (ne-eqb m 0 n) refl
+by-test s false m x n = refl
 
 -- Only work-first asks for the ordinal.
 number-alike : (p a b x : ℕ) → (p ≡ workFirst → a ≡ b) → numberBy p a x ≡ numberBy p b x
@@ -80,7 +83,7 @@ module _ {p : ℕ} (tree : List ℕ) {s : RunState} {r : Run} (known : Known p (
   -- A run by worker w.
   module _ (w : ℕ) (few : w < mostWorkers) where
     idle-answer : workerAt r w .hand .held ≡ none → runAnswer s tree w ≡ refused 9 s
-    unfolding runAnswer
+    unfolding runAnswer runNumber
     idle-answer e =
         let n = length (kinds tree) in
         rw (
@@ -94,12 +97,13 @@ module _ {p : ℕ} (tree : List ℕ) {s : RunState} {r : Run} (known : Known p (
         → runAnswer s tree w
         ≡ cond (waits (kinds tree) (r .log) i) (refused 10 s)
         (record { outcome = Ran (record { 0 = getD (s .phase) w 0 }) (record { 0 = i }); state = ranState s (kinds tree) w i })
-    unfolding runAnswer
+    unfolding runAnswer runNumber
     held-answer i e =
         let n = length (kinds tree) in
         let held = held-some known w i few e in
         let waiting = waits-shown (kinds tree) (s .place) (r .log) (known .shows .unrun) i (held .1) in
-        rw (lt-leb 16 w few, le-ltb 4095 n (known .most), held .0, lt-leb n i (held .1), waiting) refl
+        rw (lt-leb 16 w few, le-ltb 4095 n (known .most), held .0, lt-leb n i (held .1), waiting)
+        (by-test s (waits (kinds tree) (r .log) i) 10 _ (omega arith))
 
     abbrev pub RunAgrees : Type 0
     RunAgrees =
@@ -134,8 +138,11 @@ module _ {p : ℕ} (tree : List ℕ) {s : RunState} {r : Run} (known : Known p (
             state = robbedState s (kinds tree) t v q;
           }
         ])
-    unfolding stealAnswer
-    steal-answer found e = rw (lt-leb 16 t small, lt-leb 16 v few, le-ltb 4095 (length (kinds tree)) (known .most), e) refl
+    unfolding stealAnswer stealNumber
+    steal-answer found e =
+        let n = length (kinds tree) in
+        rw (lt-leb 16 t small, lt-leb 16 v few, le-ltb 4095 n (known .most), e)
+        (by-test s (ltb (getD (s .held) t 0) n) 11 _ (omega arith))
 
     abbrev pub StealAgrees : Type 0
     StealAgrees =

@@ -17,7 +17,9 @@ use Rattle.tasks.specs.Laws.Frames.{Frame}
 use Rattle.runs.specs.Invariant.{Invariant}
 use Rattle.state.specs.declared.RunState.{RunState}
 use Rattle.state.specs.declared.Outcome.the-variants.{Ran, Stole, Refused}
-use Rattle.state.specs.Answers.{fresh, refused, numberBy, runAnswer, stealAnswer, eventAnswer, isIdle, idleBits, idleNumber, idleFirst}
+use Rattle.running.specs.Answers.{runNumber}
+use Rattle.stealing.specs.Answers.{stealNumber, numberBy}
+use Rattle.state.specs.Answers.{fresh, refused, runAnswer, stealAnswer, eventAnswer, isIdle, idleBits, idleNumber, idleFirst}
 use Rattle.live.specs.Tie.{Shows, heldStep, told}
 use Rattle.live.specs.Laws.Tables.{shows-by, start-table}
 use Rattle.live.specs.Laws.Moves.{Known, held-none, held-some}
@@ -91,7 +93,7 @@ module _ (p : ℕ) (tree : List ℕ) (frame : Frame tree) (s : RunState) (r : Ru
   -- ---- events
 
   far-answer : (a b : ℕ) → leb 16 a || leb 16 b ≡ true → eventAnswer s tree a b ≡ refused 8 s
-  unfolding eventAnswer runAnswer stealAnswer
+  unfolding eventAnswer runAnswer stealAnswer runNumber stealNumber
   far-answer a b far =
       elim (ℕ-discrete a b) [
         | yes e ↦ rw (eq-eqb a b e, sym (or-self (leb 16 a)) ∙ (rw (← e) at far)) refl

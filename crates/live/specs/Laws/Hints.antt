@@ -11,7 +11,7 @@ use Rattle.rules.specs.Tree.{kinds, taskEnd}
 use Rattle.rules.specs.Scheduling.{mostWorkers, Run, workerAt}
 use Rattle.tasks.specs.Laws.Frames.{Frame}
 use Rattle.tables.specs.Answers.{Ends, Openers}
-use Rattle.moves.specs.Answers.{marked}
+use Rattle.deques.specs.Answers.{marked}
 use Rattle.state.specs.declared.RunState.{RunState}
 use Rattle.state.specs.Answers.{Hints}
 use Rattle.live.specs.Tie.{Shows}

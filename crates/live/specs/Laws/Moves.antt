@@ -19,9 +19,10 @@ use Rattle.runs.specs.Laws.Phase.{held-within, oldest-within}
 use Rattle.runs.specs.Laws.Waiting.{run-more}
 use Rattle.runs.specs.Laws.Moves.{some-stack, holds-some, rich-holds, held-facts}
 use Rattle.runs.specs.Laws.Consequences.{steals-most, phases-count, pending-unrun}
-use Rattle.moves.specs.Answers.{marked, newestMark, oldestMark, popped, robbed}
+use Rattle.deques.specs.Answers.{marked, newestMark, oldestMark, popped, robbed}
 use Rattle.state.specs.declared.RunState.{RunState}
-use Rattle.state.specs.Answers.{stateOf, heldNext, placeNext, ranState, nextPhase, takenOrdinal, robbedState}
+use Rattle.running.specs.Answers.{heldNext, placeNext}
+use Rattle.state.specs.Answers.{stateOf, ranState, nextPhase, takenOrdinal, robbedState}
 use Rattle.live.specs.Tie.{HandShown, Shows}
 use Rattle.live.specs.Laws.Hands.{opened-shown, ended-nothing, ended-newest, ended-idle-shown, ended-shown, oldest-none, oldest-pusher, oldest-ordinal, robbed-shown, idle-none, thief-shown, other-shown, push-other, pop-other, rob-other, push-unrun, push-run, pop-unrun, pop-run, rob-unrun, popped-length, robbed-length}
 use Rattle.live.specs.Laws.Tables.{Table, Spared, tables-of, shows-by, table-set}

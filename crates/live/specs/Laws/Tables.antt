@@ -14,7 +14,7 @@ use Rattle.rules.specs.Scheduling.{mostWorkers, Worker, Run, idleWorker, worker
 use Rattle.tasks.specs.Laws.Shape.{Shape}
 use Rattle.tasks.specs.Laws.Frames.{endAt, sizeAt}
 use Rattle.tasks.specs.Laws.Places.{root-first}
-use Rattle.moves.specs.Answers.{marked}
+use Rattle.deques.specs.Answers.{marked}
 use Rattle.state.specs.declared.RunState.{RunState}
 use Rattle.live.specs.Tie.{HandShown, Shows}
 use Rattle.live.specs.Laws.Hands.{other-shown}

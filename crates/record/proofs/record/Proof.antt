@@ -1,11 +1,10 @@
 -- `record::record` meets its contract: each return is a law of the call's answers. Assumes nothing.
-use Prim.Native.Nat.{_≤_}
 use native.Mathlib.Omega.{arith}
 use mathlib.Core.Path.{_≡_, refl, sym, _∙_}
 use mathlib.Core.Bool.{true}
 use Rattle.rules.specs.Bytes.{wholeRecords}
 use Rattle.walks.specs.Laws.Recording.{Walks}
-use Rattle.record.specs.Laws.Cases.{Begun, start-begins, begun-policy, begun-asked, begun-steps}
+use Rattle.tasks.specs.Laws.Starts.{Begun, start-begins, begun-steps}
 use Rattle.record.specs.Laws.Results.{Ready, Done, start-refusal, list-refusal, short-refusal, event-refusal, bytes-most, log-copies, trace-copies, loads-many, done-meets}
 use borrow.Author.Needs.{needs}
 use borrow.Author.Tests.{not-true, not-false}
@@ -18,21 +17,18 @@ use Rattle.record.proofs.record.Tie as tie
 abbrev entry : tie.Else1 → tie.Start
 entry c = c .before .before .before .before .before .before .before
 
-begun : (c : tie.Else1) → Begun (entry c .args .policy) (entry c .args .tree .now) (c .before .before .start .result .state)
+begun : (c : tie.Else1) → Begun (entry c .args .policy) (entry c .args .tree .now) (c .before .before .admit .result .steps)
 begun c =
-    let start = c .before .before .start in
-    start-begins (entry c .args .policy) (entry c .args .tree .now) (start .result) (start .ensures) (c .if1 .left)
+    let admit = c .before .before .admit in
+    start-begins (entry c .args .policy) (entry c .args .tree .now) (admit .result) (admit .ensures) (c .if1 .left)
 
 -- Past the events' length.
 listed : (c : tie.Else2) → wholeRecords 2 8192 (entry (c .before .before) .args .events .now) ≡ true
 listed c = sym (c .before .whole-records .ensures) ∙ not-false _ (c .if2 .left)
 
-steps-within : (c : tie.After-steps) → (1 ≤ c .steps .result) × (c .steps .result ≤ 4095)
-steps-within c = begun-steps (begun (c .before .before .before)) (c .steps .result) (c .steps .ensures)
-
 -- Past the lent outputs.
 abbrev back : tie.Else3 → tie.Else1
-back c = c .before .before .before .before .before
+back c = c .before .before .before .before
 
 ready : (c : tie.Else3)
     → let a = entry (back c) .args in
@@ -40,19 +36,19 @@ ready : (c : tie.Else3)
 ready c =
     record {
       started = begun (back c) .fine;
-      listed = listed (c .before .before .before);
-      room = rw (c .before .before .steps .ensures) at (sym (c .before .too-short .ensures) ∙ c .if3 .left);
+      listed = listed (c .before .before);
+      room = rw (begun (back c) .steps) at (sym (c .before .too-short .ensures) ∙ c .if3 .left);
     }
 
--- Past the walk over the events, which is by the call's policy.
+-- Past the walk over the events.
 abbrev unwalked : tie.After-walk-events → tie.Else3
-unwalked c = c .before .before .before .before
+unwalked c = c .before .before .before
 
 walked : (c : tie.After-walk-events)
     → let a = entry (back (unwalked c)) .args in
     let walk = c .walk-events in
     Walks (a .policy) (a .tree .now) (a .events .now) (walk .result) (walk .last .1 .1 .1 .0) (walk .last .1 .1 .1 .1 .0)
-walked c = rw (begun-policy (begun (back (unwalked c)))) at (c .walk-events .ensures)
+walked c = c .walk-events .ensures
 
 -- Past the events.
 abbrev walk-at : tie.Else4 → tie.After-walk-events
@@ -73,8 +69,8 @@ both-copied c = one-copied (c .before .before .before .before .before .before)
 
 -- ---- the needs
 
-start-requires : tie.Need-start-requires
-start-requires c κs = search needs
+admit-requires : tie.Need-admit-requires
+admit-requires c κs = search needs
 
 refused-requires : tie.Need-refused-requires
 refused-requires c κs = search needs
@@ -83,7 +79,7 @@ returns : tie.Need-returns
 returns c =
     let at = c .before .before .before in
     let a = at .before .before .before .before .before .args in
-    start-refusal (a .policy) (a .tree .now) (a .events .now) (a .log .now) (a .trace .now) (c .refused .result) (at .start .result) (at .start .ensures) (c .before .if1 .taken) (c .refused .ensures)
+    start-refusal (a .policy) (a .tree .now) (a .events .now) (a .log .now) (a .trace .now) (c .refused .result) (at .admit .result) (at .admit .ensures) (c .before .if1 .taken) (c .refused .ensures)
 
 whole-records-requires : tie.Need-whole-records-requires
 whole-records-requires c κs = search needs
@@ -98,11 +94,8 @@ returns-2 c =
     let unlisted = sym (at .whole-records .ensures) ∙ not-true _ (c .before .if2 .taken) in
     list-refusal (a .policy) (a .tree .now) (a .events .now) (a .log .now) (a .trace .now) (c .refused2 .result) (begun (at .before) .fine) unlisted (c .refused2 .ensures)
 
-steps-requires : tie.Need-steps-requires
-steps-requires c κs = search needs
-
 too-short-requires : tie.Need-too-short-requires
-too-short-requires c κs = steps-within c
+too-short-requires c κs = begun-steps (begun (c .before .before))
 
 refused-requires-3 : tie.Need-refused-requires-3
 refused-requires-3 c κs = search needs
@@ -110,10 +103,10 @@ refused-requires-3 c κs = search needs
 returns-3 : tie.Need-returns-3
 returns-3 c =
     let at = c .before .before in
-    let two = at .before .before in
+    let two = at .before in
     let one = two .before .before in
     let a = entry one .args in
-    let short = rw (at .before .steps .ensures) at (sym (at .too-short .ensures) ∙ c .before .if3 .taken) in
+    let short = rw (begun one .steps) at (sym (at .too-short .ensures) ∙ c .before .if3 .taken) in
     short-refusal (a .policy) (a .tree .now) (a .events .now) (a .log .now) (a .trace .now) (c .refused3 .result) (begun one .fine) (listed two) short (c .refused3 .ensures)
 
 slice-aggregate-walk-events : tie.Need-slice-aggregate-walk-events
@@ -123,9 +116,7 @@ slice-aggregate-walk-events-2 : tie.Need-slice-aggregate-walk-events-2
 slice-aggregate-walk-events-2 c = search needs
 
 walk-events-requires : tie.Need-walk-events-requires
-walk-events-requires c κs =
-    let asked = begun-asked (begun (back (c .before .before .before))) in
-    (asked .0, (asked .1, (refl, refl)))
+walk-events-requires c κs = (begun (back (c .before .before)) .fine, (refl, refl))
 
 refused-requires-4 : tie.Need-refused-requires-4
 refused-requires-4 c κs = search needs
@@ -154,7 +145,7 @@ copy-out-requires-2 : tie.Need-copy-out-requires-2
 copy-out-requires-2 c κs = trace-copies (done (one-copied (c .before .before .before)))
 
 sub-last : tie.Need-sub-last
-sub-last c = steps-within (unwalked (walk-at (both-copied c)) .before .before) .0
+sub-last c = begun-steps (begun (back (unwalked (walk-at (both-copied c))))) .0
 
 heaviest-requires : tie.Need-heaviest-requires
 heaviest-requires c κs = loads-many (done (both-copied (c .before .before)))
@@ -169,22 +160,20 @@ returns-5 : tie.Need-returns-5
 returns-5 c =
     let two = c .before .before .before .before in
     let at = both-copied two in
-    let steps = unwalked (walk-at at) .before .before .steps in
     let log = two .before .before .before .before .before .before .before .before .copy-out in
     let trace = two .before .before .copy-out2 in
-    done-meets (done at) (steps .result) (steps .ensures) (c .before .heaviest .result) (c .before .heaviest .ensures) (log .last .1 .1 .0) (trace .last .1 .1 .0) (log .ensures) (trace .ensures)
+    done-meets (done at) _ (begun (back (unwalked (walk-at at))) .steps) (c .before .heaviest .result) (c .before .heaviest .ensures) (log .last .1 .1 .0) (trace .last .1 .1 .0) (log .ensures) (trace .ensures)
 
 pub record-spec : {M : Type 1} → statement M
 record-spec =
     tie.close
     (tie.spec
-    start-requires
+    admit-requires
     refused-requires
     returns
     whole-records-requires
     refused-requires-2
     returns-2
-    steps-requires
     too-short-requires
     refused-requires-3
     returns-3

@@ -10,52 +10,9 @@ use borrow.Author.Tests.{eq-eqb, ne-eqb, ltb-false}
 use Rattle.rules.specs.Bytes.{records, wholeRecords, Verdict, accepted, refusedIf, firstRefused}
 use Rattle.rules.specs.Tree.{kinds}
 use Rattle.rules.specs.Calls.{startVerdict, recordWalk, recordVerdict, recordOf, recordRefused, recordCall}
-use Rattle.tasks.specs.Laws.Admission.{start-tree-accepts}
 use Rattle.tree.specs.Laws.Verdicts.{first-accepts}
-use Rattle.tasks.specs.Laws.Frames.{accepted-frame}
 use Rattle.runs.specs.Laws.Counts.{or-none}
-use Rattle.state.specs.declared.RunState.{RunState}
-use Rattle.state.specs.declared.Started.{Started}
-use Rattle.state.specs.Answers.{fresh, startAnswer}
 use Rattle.record.specs.Answers.{tooShort}
-
--- ---- the start
-
--- The start's verdict is the rules'.
-pub start-judged : (p : ℕ) (tree : List ℕ) (s : Started) → s ≡ startAnswer p tree
-    → _≡_ {A = Verdict} (record { number = s .number; position = s .position }) (startVerdict p tree)
-unfolding startAnswer
-start-judged p tree s e = ap {B = Verdict} (λ (x : Started). record { number = x .number; position = x .position }) e
-
--- What is known once the start is accepted.
-pub record Begun (p : ℕ) (tree : List ℕ) (s : RunState) : Type 0 where
-  pub fine : startVerdict p tree .number ≡ 0
-  pub first : s ≡ fresh p
-
-pub start-begins : (p : ℕ) (tree : List ℕ) (s : Started) → s ≡ startAnswer p tree → s .number ≡ 0 → Begun p tree (s .state)
-unfolding startAnswer
-start-begins p tree s e z =
-    let fine = sym (ap (λ (v : Verdict). v .number) (start-judged p tree s e)) ∙ z in
-    record {
-      fine = fine;
-      first = ap {B = RunState} (λ (x : Started). x .state) e ∙ rw (eq-eqb (startVerdict p tree .number) 0 fine) refl;
-    }
-
-module _ {p : ℕ} {tree : List ℕ} {s : RunState} (begun : Begun p tree s) where
-  -- The state is of the call's policy,
-  pub begun-policy : s .policy ≡ p
-  unfolding fresh
-  begun-policy = ap (λ (x : RunState). x .policy) (begun .first)
-
-  -- as the walk over the events asks.
-  pub begun-asked : (startVerdict (s .policy) tree .number ≡ 0) × (s ≡ fresh (s .policy))
-  begun-asked = (rw begun-policy (begun .fine), begun .first ∙ ap {B = RunState} fresh (sym begun-policy))
-
-  -- The tree has some steps, and not too many.
-  pub begun-steps : (n : ℕ) → n ≡ length (kinds tree) → (1 ≤ n) × (n ≤ 4095)
-  begun-steps n e =
-      let frame = accepted-frame tree (start-tree-accepts p tree (begun .fine)) in
-      rw e (frame .some, frame .most)
 
 -- ---- the verdict
 

@@ -17,14 +17,15 @@ use Rattle.rules.specs.Calls.{written, startVerdict, recordWalk, finished, reco
 use Rattle.tasks.specs.Laws.Admission.{start-tree-accepts}
 use Rattle.tasks.specs.Laws.Frames.{Frame, accepted-frame}
 use Rattle.state.specs.declared.RunState.{RunState}
-use Rattle.state.specs.declared.Started.{Started}
-use Rattle.state.specs.Answers.{startAnswer}
+use Rattle.tree.specs.declared.Accepted.{Accepted}
+use Rattle.tasks.specs.Answers.{admission}
+use Rattle.tasks.specs.Laws.Starts.{start-judged}
 use Rattle.runs.specs.Laws.Consequences.{runs-most, steals-most, finished-runs, runs-finished}
 use Rattle.outputs.specs.Laws.Records.{length-entries, length-trace}
 use Rattle.record.specs.declared.Recorded.{Recorded}
 use Rattle.walks.specs.declared.Ended.{Ended}
 use Rattle.record.specs.Answers.{answers, refusal, tooShort}
-use Rattle.record.specs.Laws.Cases.{start-judged, record-start, record-list, record-short, record-event, record-all, room-both}
+use Rattle.record.specs.Laws.Cases.{record-start, record-list, record-short, record-event, record-all, room-both}
 use Rattle.loads.specs.Laws.Loads.{loads-length}
 use Rattle.walks.specs.Laws.Recording.{Recording, recording-done, Walks}
 
@@ -48,7 +49,7 @@ pub record Ready (p : ℕ) (tree events log trace : List ℕ) : Type 0 where
   pub room : tooShort (length (kinds tree)) (length log) (length trace) ≡ false
 
 module _ (p : ℕ) (tree events log trace : List ℕ) (r : Recorded) where
-  pub start-refusal : (s : Started) → s ≡ startAnswer p tree → (s .number ≡ 0 → ⊥) → r ≡ refusal (s .number) (s .position)
+  pub start-refusal : (s : Accepted) → s ≡ admission p tree → (s .number ≡ 0 → ⊥) → r ≡ refusal (s .number) (s .position)
       → Meets (recordCall 16 p tree events log trace) r log trace
   start-refusal s e n =
       let v : Verdict = record { number = s .number; position = s .position } in

@@ -1,15 +1,14 @@
 -- `state::run_on` meets its contract: each return is a law of its answers. Assumes nothing.
 use Prim.Native.Nat.{ℕ, _≤_, _<_}
-use mathlib.Core.Path.{_≡_}
-use mathlib.Core.Bool.{true, false}
+use mathlib.Core.Path.{sym, _∙_}
 use mathlib.Core.List.{List}
 use native.Mathlib.Omega.{arith}
-use lib.ListN.{length}
+use lib.ListN.{length, getD}
 use Rattle.rules.specs.Tree.{kinds}
-use Rattle.moves.specs.Answers.{waitsFor}
+use Rattle.running.specs.Laws.Running.{run-allowed}
 use Rattle.state.specs.declared.RunState.{RunState}
 use Rattle.state.specs.Answers.{stateOf}
-use Rattle.state.specs.Laws.Cases.{lent-climbs, run-worker, run-long, run-idle, run-waits, run-runs}
+use Rattle.state.specs.Laws.Cases.{lent-climbs, run-refused, run-runs}
 use borrow.Author.Needs.{needs}
 use Rattle.state.proofs.run_on.Statement.{statement}
 use Rattle.state.proofs.run_on.Tie as tie
@@ -20,111 +19,92 @@ lent c base steals =
     let a = c .args in
     stateOf (a .place .now) (a .held .now) (a .phase .now) (a .low .now) base steals (a .policy)
 
--- The worker is one of the 16,
-few : (c : tie.Else1) → c .before .before .before .before .args .worker < 16
-few c = omega arith
+-- ---- a run that is not refused
 
--- the tree has no more steps than a tree may have,
-most : (c : tie.Else2) → length (kinds (c .before .before .before .before .before .before .args .tree .now)) ≤ 4095
-most c = omega (arith, c .before .steps .ensures)
+abbrev start : tie.Else1 → tie.Start
+start c = c .before .before .before .before .before .before .before
 
--- and it has the step that the worker holds.
-within : (c : tie.Else3) → c .before .wide .result < length (kinds (c .before .before .before .before .before .before .before .before .before .args .tree .now))
-within c = omega (arith, c .before .before .before .before .steps .ensures)
+-- It is by one of the workers, of a step that the tree has.
+allowed : (c : tie.Else1) → let a = start c .args in
+    (a .worker < 16) × (length (kinds (a .tree .now)) ≤ 4095) × (getD (a .held .now) (a .worker) 0 < length (kinds (a .tree .now)))
+allowed c =
+    let a = start c .args in
+    run-allowed (kinds (a .tree .now)) (a .place .now) (a .held .now) (a .worker) (sym (c .if1 .left) ∙ c .before .judge-run .ensures)
 
--- The step waits, or not.
-waits : (c : tie.Then4) → waitsFor (kinds (c .before .before .before .before .before .before .before .before .before .before .before .before .args .tree .now)) (c .before .before .before .before .before .before .before .before .before .before .before .before .args .place .now) (c .before .before .before .before .wide .result) ≡ true
-waits c = rw (← c .before .waits .ensures) (c .if4 .taken)
-
-goes : (c : tie.Else4) → waitsFor (kinds (c .before .before .before .before .before .before .before .before .before .before .before .before .args .tree .now)) (c .before .before .before .before .before .before .before .before .before .before .before .before .args .place .now) (c .before .before .before .before .wide .result) ≡ false
-goes c = rw (← c .before .waits .ensures) (c .if4 .left)
+judge-run-requires : tie.Need-judge-run-requires
+judge-run-requires c κs = search needs
 
 returns : tie.Need-returns
 returns c =
-    let a = c .before .before .before .before .args in
-    λ base steals. run-worker (lent (c .before .before .before .before) base steals) (a .tree .now) (a .worker) (omega arith)
-
-steps-requires : tie.Need-steps-requires
-steps-requires c κs = search needs
-
-returns-2 : tie.Need-returns-2
-returns-2 c =
-    let a = c .before .before .before .before .before .before .args in
-    λ base steals. run-long (lent (c .before .before .before .before .before .before) base steals) (a .tree .now) (a .worker) (few (c .before .before)) (omega (arith, c .before .steps .ensures))
+    let at = c .before .before .before .before .before .before .before in
+    λ base steals. run-refused (lent at base steals) (at .args .tree .now) (at .args .worker) _ (c .before .judge-run .ensures) (c .if1 .taken)
 
 mul-wide : tie.Need-mul-wide
 mul-wide c = search needs
 
 element-copy-out-wide : tie.Need-element-copy-out-wide
-element-copy-out-wide c = search needs
+element-copy-out-wide c = allowed c .0
 
 wide-requires : tie.Need-wide-requires
 wide-requires c κs = search needs
-
-returns-3 : tie.Need-returns-3
-returns-3 c =
-    let a = c .before .before .before .before .before .before .before .before .before .args in
-    let i = c .before .wide in
-    λ base steals. run-idle (lent (c .before .before .before .before .before .before .before .before .before) base steals) (a .tree .now) (a .worker) (few (c .before .before .before .before .before)) (most (c .before .before .before)) (i .result) (i .ensures) (omega (arith, c .before .before .before .before .steps .ensures))
-
-waits-requires : tie.Need-waits-requires
-waits-requires c κs = search needs
-
-returns-4 : tie.Need-returns-4
-returns-4 c =
-    let a = c .before .before .before .before .before .before .before .before .before .before .before .before .args in
-    let i = c .before .before .before .before .wide in
-    λ base steals. run-waits (lent (c .before .before .before .before .before .before .before .before .before .before .before .before) base steals) (a .tree .now) (a .worker) (few (c .before .before .before .before .before .before .before .before)) (most (c .before .before .before .before .before .before)) (i .result) (i .ensures) (within (c .before .before .before)) (waits c)
 
 mul-wide-2 : tie.Need-mul-wide-2
 mul-wide-2 c = search needs
 
 element-copy-out-wide-2 : tie.Need-element-copy-out-wide-2
-element-copy-out-wide-2 c = search needs
+element-copy-out-wide-2 c = allowed (c .before .before) .0
 
 wide-requires-2 : tie.Need-wide-requires-2
 wide-requires-2 c κs = search needs
 
 advance-requires : tie.Need-advance-requires
 advance-requires c κs =
-    let hints = c .before .before .before .before .before .before .before .before .before .before .before .before .before .before .before .pre in
-    (within (c .before .before .before .before .before .before), most (c .before .before .before .before .before .before .before .before .before), hints .taskEnds, lent-climbs hints (few (c .before .before .before .before .before .before .before .before .before .before .before)) (c .before .before .before .before .before .before .before .wide .ensures) (c .before .wide2 .ensures))
+    let e = c .before .before .before .before .before in
+    let few = allowed e in
+    let i = c .before .before .before .wide in
+    let hints = start e .pre in
+    (omega (arith, few, i .ensures), few .1, hints .taskEnds, lent-climbs hints (few .0) (i .ensures) (c .before .wide2 .ensures))
+
+-- The worker has run its step.
+abbrev ran : tie.After-advance → tie.Else1
+ran c = c .before .before .before .before .before .before
 
 mul-held : tie.Need-mul-held
 mul-held c = search needs
 
 element-write-held : tie.Need-element-write-held
-element-write-held c = search needs
+element-write-held c = allowed (ran c) .0
 
 mul-wide-3 : tie.Need-mul-wide-3
 mul-wide-3 c = search needs
 
 element-copy-out-wide-3 : tie.Need-element-copy-out-wide-3
-element-copy-out-wide-3 c = search needs
+element-copy-out-wide-3 c = allowed (ran c) .0
 
 wide-requires-3 : tie.Need-wide-requires-3
 wide-requires-3 c κs = search needs
 
-returns-5 : tie.Need-returns-5
-returns-5 c =
-    let a = c .before .before .before .before .before .before .before .before .before .before .before .before .before .before .before .before .before .before .args in
-    let i = c .before .before .before .before .before .before .before .before .before .before .wide in
-    let advance = c .before .before .advance in
-    λ base steals. run-runs (lent (c .before .before .before .before .before .before .before .before .before .before .before .before .before .before .before .before .before .before) base steals) (a .tree .now) (a .worker) (few (c .before .before .before .before .before .before .before .before .before .before .before .before .before .before)) (most (c .before .before .before .before .before .before .before .before .before .before .before .before)) (i .result) (i .ensures) (within (c .before .before .before .before .before .before .before .before .before)) (goes (c .before .before .before .before .before .before)) (c .wide3 .result) (c .wide3 .ensures) (c .before .before .before .before .wide2 .result) (c .before .before .before .before .wide2 .ensures) (advance .result) (advance .ensures .0) (advance .last .1 .1 .1 .0) (advance .ensures .1)
+returns-2 : tie.Need-returns-2
+returns-2 c =
+    let after = c .before .before in
+    let e = ran after in
+    let a = start e .args in
+    let i = after .before .before .before .before .wide in
+    let low = after .before .before .wide2 in
+    let advance = after .advance in
+    λ base steals. run-runs (lent (start e) base steals) (a .tree .now) (a .worker) _ (e .before .judge-run .ensures) (e .if1 .left)
+    (i .result) (i .ensures) (c .wide3 .result) (c .wide3 .ensures) (low .result) (low .ensures)
+    (advance .result) (advance .ensures .0) (advance .last .1 .1 .1 .0) (advance .ensures .1)
 
 pub run-on-spec : {M : Type 1} → statement M
 run-on-spec =
     tie.close
     (tie.spec
+    judge-run-requires
     returns
-    steps-requires
-    returns-2
     mul-wide
     element-copy-out-wide
     wide-requires
-    returns-3
-    waits-requires
-    returns-4
     mul-wide-2
     element-copy-out-wide-2
     wide-requires-2
@@ -134,4 +114,4 @@ run-on-spec =
     mul-wide-3
     element-copy-out-wide-3
     wide-requires-3
-    returns-5)
+    returns-2)

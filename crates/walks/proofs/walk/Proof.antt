@@ -5,37 +5,96 @@ use mathlib.Core.Path.{_≡_, refl, sym, _∙_}
 use native.Mathlib.Omega.{arith}
 use lib.ListN.{length, getD}
 use borrow.Author.Needs.{needs}
-use Rattle.rules.specs.Tree.{kinds, weights}
-use Rattle.tables.specs.Answers.{weightBefore}
+use Rattle.rules.specs.Tree.{kinds}
 use Rattle.state.specs.declared.RunState.{RunState}
 use Rattle.state.specs.Answers.{stateOf}
 use Rattle.live.specs.Laws.Hints.{shows-hints}
-use Rattle.walks.specs.Laws.Recording.{Recording}
 use Rattle.tables.specs.Laws.Fronts.{start-frame}
-use Rattle.walks.specs.Laws.Turns.{turn-start, turn-done, turn-refused, ran-fits, ran-turn, stole-fits, stole-movable, stole-turn}
+use Rattle.walks.specs.Laws.Recording.{Recording}
+use Rattle.walks.specs.Laws.Turns.{Turn, Weighed, fresh-arrays, turn-start, turn-done, turn-refused, ran-fits, ran-turn, stole-fits, stole-movable, stole-turn}
 use Rattle.walks.proofs.walk.Statement.{statement}
 use Rattle.walks.proofs.walk.Tie as tie
 
 abbrev Inv-loop : tie.InvT-loop
-Inv-loop tree ends openers sums events log₀ trace₀ n place₀ held₀ latest₀ low₀ base₀ steals₀ policy loads₀ logs₀ k₀ log trace place held latest low base steals loads logs k =
+Inv-loop tree ends openers sums policy events log₀ trace₀ n place₀ held₀ latest₀ low₀ base₀ steals₀ loads₀ logs₀ k₀ log trace place held latest low base steals loads logs k =
     (k ≤ length events / 2) × Recording policy tree events k (stateOf place held latest low base steals policy) log trace loads logs steals
 
 abbrev μ-loop : tie.MeasureT-loop
-μ-loop tree ends openers sums events log₀ trace₀ n place₀ held₀ latest₀ low₀ base₀ steals₀ policy loads₀ logs₀ k₀ log trace place held latest low base steals loads logs k =
+μ-loop tree ends openers sums policy events log₀ trace₀ n place₀ held₀ latest₀ low₀ base₀ steals₀ loads₀ logs₀ k₀ log trace place held latest low base steals loads logs k =
     length events / 2 - k
 
--- The state before an event, and after it.
-abbrev held-state : tie.At-loop Inv-loop μ-loop → RunState
-held-state c =
-    stateOf (c .loop .place) (c .loop .held) (c .loop .latest) (c .loop .low) (c .loop .base) (c .loop .steals) (c .before .before .before .before .before .before .before .before .before .before .before .before .before .before .before .args .start .policy)
+-- ---- the function's entry
 
-abbrev next-state : tie.After-event-on Inv-loop μ-loop → RunState
-next-state c =
+abbrev entry : tie.At-loop Inv-loop μ-loop → tie.Start Inv-loop μ-loop
+entry c = c .before .before .before .before .before .before .before .before .before .before
+
+weighed : (c : tie.At-loop Inv-loop μ-loop) → let a = entry c .args in Weighed (a .tree .now) (a .ends .now) (a .sums .now)
+weighed c =
+    let tables = entry c .pre .1 in
+    let n = length (kinds (entry c .args .tree .now)) in
+    let fits = c .before .before .before .before .before .before .shared-slice-known4 .given n in
+    record {
+      sized = tables .0 .0;
+      right = tables .0 .1;
+      longer = tables .1 .1 .0 .0;
+      added = tables .1 .1 .0 .1;
+      light = omega (arith, tables .1 .1 .0 .1 n (omega arith), fits);
+    }
+
+-- Log and trace have kept their lengths.
+lent-log : (c : tie.At-loop Inv-loop μ-loop) → length (c .loop .log) ≡ length (entry c .args .log .now)
+lent-log c = c .loop .inv .1 .logRoom ∙ sym (entry c .pre .1 .1 .1 .1 .0)
+
+lent-trace : (c : tie.At-loop Inv-loop μ-loop) → length (c .loop .trace) ≡ length (entry c .args .trace .now)
+lent-trace c = c .loop .inv .1 .traceRoom ∙ sym (entry c .pre .1 .1 .1 .1 .1)
+
+-- The state before an event.
+abbrev state : tie.At-loop Inv-loop μ-loop → RunState
+state c =
+    let l = c .loop in
+    stateOf (l .place) (l .held) (l .latest) (l .low) (l .base) (l .steals) (entry c .args .policy)
+
+-- ---- a turn
+
+abbrev top : tie.After-event-on Inv-loop μ-loop → tie.At-loop Inv-loop μ-loop
+top c = c .before .before .before .before .before .before .before .before .before
+
+-- The state after the event.
+abbrev next : tie.After-event-on Inv-loop μ-loop → RunState
+next c =
     let r = c .event-on .last .1 .1 .1 in
-    stateOf (r .0) (r .1 .0) (r .1 .1 .0) (r .1 .1 .1 .0) (r .1 .1 .1 .1 .0) (c .event-on .result .steals) (c .before .before .before .before .before .before .before .before .before .before .before .before .before .before .before .before .before .before .before .before .before .before .before .before .args .start .policy)
+    stateOf (r .0) (r .1 .0) (r .1 .1 .0) (r .1 .1 .1 .0) (r .1 .1 .1 .1 .0) (c .event-on .result .steals) (entry (top c) .args .policy)
+
+turn : (c : tie.After-event-on Inv-loop μ-loop)
+    → let at = top c in
+    let a = entry at .args in
+    let l = at .loop in
+    Turn (a .policy) (a .tree .now) (a .events .now) (l .k) (state at) (l .log) (l .trace) (l .loads) (l .logs)
+    (getD (a .events .now) (2 * l .k) 0) (getD (a .events .now) (2 * l .k + 1) 0) (c .event-on .result .outcome) (next c)
+turn c =
+    record {
+      accepts = entry (top c) .pre .0;
+      so = top c .loop .inv .1;
+      more = c .before .before .before .before .before .before .before .before .loop-test .taken;
+      first = refl;
+      second = refl;
+      answers = c .event-on .ensures;
+    }
+
+-- It has run a step, or stolen one.
+abbrev ran : tie.After-outcome Inv-loop μ-loop → tie.After-event-on Inv-loop μ-loop
+ran c = c .before .before .before
+
+abbrev stole : tie.After-outcome2 Inv-loop μ-loop → tie.After-event-on Inv-loop μ-loop
+stole c = c .before .before .before
+
+-- ---- the needs
 
 steps-requires : tie.Need-steps-requires Inv-loop μ-loop
 steps-requires c κs = search needs
+
+array-write-held : tie.Need-array-write-held Inv-loop μ-loop
+array-write-held c = search needs
 
 mul-loads : tie.Need-mul-loads Inv-loop μ-loop
 mul-loads c = search needs
@@ -48,8 +107,16 @@ array-write-loads c = search needs
 
 loop-holds : tie.Need-loop-holds Inv-loop μ-loop
 loop-holds c =
-    let a = c .before .before .before .before .before .before .before .before .before .before .before .before .before .before .args in
-    (omega arith, turn-start (a .start .policy) (a .tree .now) (a .events .now) (c .before .before .before .before .before .before .before .before .before .before .before .before .before .before .pre .0) (a .start) (c .before .before .before .before .before .before .before .before .before .before .before .before .before .before .pre .1 .0) (a .sums .now) (c .before .before .before .before .before .before .before .before .before .before .before .before .before .before .pre .1 .1 .1 .1 .0 .1) _ (c .before .before .before .before .before .before .steps .ensures) (a .log .now) (a .trace .now) (c .before .before .before .before .before .before .before .before .before .before .before .before .before .before .pre .1 .1 .1 .1 .1 .0) (c .before .before .before .before .before .before .before .before .before .before .before .before .before .before .pre .1 .1 .1 .1 .1 .1))
+    let at = c .before .before .before .before .before .before .before .before .before in
+    let a = at .args in
+    let lent = at .pre .1 .1 .1 in (
+      omega arith,
+      turn-start (a .policy) (a .tree .now) (a .events .now) (at .pre .0) (a .sums .now) (lent .0 .1) _ (c .before .steps .ensures)
+      (a .log .now) (a .trace .now) (lent .1 .0) (lent .1 .1) _ (fresh-arrays (a .policy)) _ refl,
+    )
+
+add-k : tie.Need-add-k Inv-loop μ-loop
+add-k c = omega arith
 
 mul-first : tie.Need-mul-first Inv-loop μ-loop
 mul-first c = search needs
@@ -68,135 +135,114 @@ shared-slice-read-second c = search needs
 
 event-on-requires : tie.Need-event-on-requires Inv-loop μ-loop
 event-on-requires c κs =
-    let a = c .before .before .before .before .before .before .before .before .before .before .before .before .before .before .before .before .before .before .before .before .before .before .before .args in
-    let so = c .before .before .before .before .before .before .before .before .loop .inv .1 in
-    shows-hints (a .start .policy) (a .tree .now) (start-frame (a .start .policy) (a .tree .now) (c .before .before .before .before .before .before .before .before .before .before .before .before .before .before .before .before .before .before .before .before .before .before .before .pre .0)) (held-state (c .before .before .before .before .before .before .before .before)) (so .run) (so .shows) (a .openers .now) (omega (arith, c .before .before .before .before .before .before .before .before .before .before .before .before .before .before .before .before .before .before .before .before .before .before .before .pre .1 .1 .1 .0 .0)) (a .ends .now) (c .before .before .before .before .before .before .before .before .before .before .before .before .before .before .before .before .before .before .before .before .before .before .before .pre .1 .1 .0 .1) (c .before .before .before .before .before .before .before .before .before .before .before .before .before .before .before .before .before .before .before .before .before .before .before .pre .1 .1 .1 .0 .1)
+    let at = c .before .before .before .before .before .before .before .before in
+    let a = entry at .args in
+    let tables = entry at .pre .1 in
+    let so = at .loop .inv .1 in
+    shows-hints (a .policy) (a .tree .now) (start-frame (a .policy) (a .tree .now) (entry at .pre .0)) (state at) (so .run) (so .shows)
+    (a .openers .now) (omega (arith, tables .1 .0 .0)) (a .ends .now) (tables .0 .1) (tables .1 .0 .1)
 
 wide-requires : tie.Need-wide-requires Inv-loop μ-loop
 wide-requires c κs = search needs
 
-add-k : tie.Need-add-k Inv-loop μ-loop
-add-k c = omega arith
-
 enum-known-outcome : tie.Need-enum-known-outcome Inv-loop μ-loop
 enum-known-outcome c = search needs
 
--- A run's record has room.
-logged : (c : tie.After-outcome Inv-loop μ-loop)
-    → (4 * c .before .before .before .before .before .before .before .before .before .before .before .before .loop .logs + 4 ≤ length (c .before .before .before .before .before .before .before .before .before .before .before .before .loop .log)) × (c .before .before .before .before .before .before .before .before .before .before .before .before .loop .logs < 4095)
-logged c =
-    let a = c .before .before .before .before .before .before .before .before .before .before .before .before .before .before .before .before .before .before .before .before .before .before .before .before .before .before .before .args in
-    let l = c .before .before .before .before .before .before .before .before .before .before .before .before .loop in
-    ran-fits (a .start .policy) (a .tree .now) (a .events .now) (c .before .before .before .before .before .before .before .before .before .before .before .before .before .before .before .before .before .before .before .before .before .before .before .before .before .before .before .pre .0) (l .k) (held-state (c .before .before .before .before .before .before .before .before .before .before .before .before)) (l .log) (l .trace) (l .loads) (l .logs) (l .inv .1) (c .before .before .before .before .before .before .before .before .before .before .before .loop-test .taken)
-    _ _ refl refl (c .before .before .before .event-on .result .outcome) (next-state (c .before .before .before)) (c .before .before .before .event-on .ensures) (c .outcome .given .0 .0) (c .outcome .given .0 .1 .0) (c .outcome .given .1)
-
--- A steal names two of the workers, and its record has room.
-traced : (c : tie.After-outcome2 Inv-loop μ-loop)
-    → (4 * c .before .before .before .before .before .before .before .before .before .before .before .before .loop .steals + 4 ≤ length (c .before .before .before .before .before .before .before .before .before .before .before .before .loop .trace)) × (getD (c .before .before .before .before .before .before .before .before .before .before .before .before .before .before .before .before .before .before .before .before .before .before .before .before .before .before .before .args .events .now) (2 * c .before .before .before .before .before .before .before .before .before .before .before .before .loop .k) 0 < 16)
-    × (getD (c .before .before .before .before .before .before .before .before .before .before .before .before .before .before .before .before .before .before .before .before .before .before .before .before .before .before .before .args .events .now) (2 * c .before .before .before .before .before .before .before .before .before .before .before .before .loop .k + 1) 0 < 16)
-    × (getD (c .before .before .before .before .before .before .before .before .before .before .before .before .before .before .before .before .before .before .before .before .before .before .before .before .before .before .before .args .events .now) (2 * c .before .before .before .before .before .before .before .before .before .before .before .before .loop .k) 0 ≡ getD (c .before .before .before .before .before .before .before .before .before .before .before .before .before .before .before .before .before .before .before .before .before .before .before .before .before .before .before .args .events .now) (2 * c .before .before .before .before .before .before .before .before .before .before .before .before .loop .k + 1) 0 → ⊥)
-traced c =
-    let a = c .before .before .before .before .before .before .before .before .before .before .before .before .before .before .before .before .before .before .before .before .before .before .before .before .before .before .before .args in
-    let l = c .before .before .before .before .before .before .before .before .before .before .before .before .loop in
-    stole-fits (a .start .policy) (a .tree .now) (a .events .now) (c .before .before .before .before .before .before .before .before .before .before .before .before .before .before .before .before .before .before .before .before .before .before .before .before .before .before .before .pre .0) (l .k) (held-state (c .before .before .before .before .before .before .before .before .before .before .before .before)) (l .log) (l .trace) (l .loads) (l .logs) (l .inv .1) (c .before .before .before .before .before .before .before .before .before .before .before .loop-test .taken)
-    _ _ refl refl (c .before .before .before .event-on .result .outcome) (next-state (c .before .before .before)) (c .before .before .before .event-on .ensures) (c .outcome2 .given .0 .0) (c .outcome2 .given .1) _ refl
-
--- All weights together fit a sum.
-weighed : (c : tie.After-steps Inv-loop μ-loop)
-    → weightBefore (weights (c .before .before .before .before .before .before .before .before .args .tree .now)) (length (kinds (c .before .before .before .before .before .before .before .before .args .tree .now))) < 18446744073709551616
-weighed c =
-    let a = c .before .before .before .before .before .before .before .before .args in
-    let n = length (kinds (a .tree .now)) in
-    let sum = c .before .before .before .before .before .before .before .before .pre .1 .1 .1 .1 .0 .1 n (omega arith) in
-    let fits = c .before .before .before .before .shared-slice-known4 .given n in
-    omega (arith, sum, fits)
-
 log-run-requires : tie.Need-log-run-requires Inv-loop μ-loop
-log-run-requires c κs = logged (c .before .before) .0
+log-run-requires c κs =
+    let o = c .before .before in
+    ran-fits (turn (ran o)) (o .outcome .given .1) .0
 
 add-logs : tie.Need-add-logs Inv-loop μ-loop
-add-logs c = omega (arith, logged (c .before .before .before .before .before) .1)
+add-logs c =
+    let o = c .before .before .before .before .before in
+    omega (arith, ran-fits (turn (ran o)) (o .outcome .given .1) .1)
 
 loop-less : tie.Need-loop-less Inv-loop μ-loop
-loop-less c = omega (arith, c .before .before .before .before .before .before .before .before .before .before .before .before .before .before .before .before .loop-test .taken)
+loop-less c = omega (arith, turn (ran (c .before .before .before .before .before)) .more)
 
 loop-again : tie.Need-loop-again Inv-loop μ-loop
 loop-again c =
-    let next =
-    let a = c .before .before .before .before .before .before .before .before .before .before .before .before .before .before .before .before .before .before .before .before .before .before .before .before .before .before .before .before .before .before .before .before .args in
-    let l = c .before .before .before .before .before .before .before .before .before .before .before .before .before .before .before .before .before .loop in
-    ran-turn (a .start .policy) (a .tree .now) (a .events .now) (c .before .before .before .before .before .before .before .before .before .before .before .before .before .before .before .before .before .before .before .before .before .before .before .before .before .before .before .before .before .before .before .before .pre .0) (l .k) (held-state (c .before .before .before .before .before .before .before .before .before .before .before .before .before .before .before .before .before)) (l .log) (l .trace) (l .loads) (l .logs) (l .inv .1) (c .before .before .before .before .before .before .before .before .before .before .before .before .before .before .before .before .loop-test .taken)
-    _ _ refl refl (c .before .before .before .before .before .before .before .before .event-on .result .outcome) (next-state (c .before .before .before .before .before .before .before .before)) (c .before .before .before .before .before .before .before .before .event-on .ensures) (c .before .before .before .before .before .outcome .given .0 .0) (c .before .before .before .before .before .outcome .given .0 .1 .0) (c .before .before .before .before .before .outcome .given .1) _ (c .before .before .log-run .ensures) in
-    (omega (arith, c .before .before .before .before .before .before .before .before .before .before .before .before .before .before .before .before .loop-test .taken), next)
+    let o = c .before .before .before .before .before in
+    let t = turn (ran o) in
+    (omega (arith, t .more), ran-turn t (o .outcome .given .1) _ (c .before .before .log-run .ensures))
 
 enum-known-outcome-2 : tie.Need-enum-known-outcome-2 Inv-loop μ-loop
 enum-known-outcome-2 c = search needs
 
+-- A steal's record has room, and it names two of the workers.
+fits : (c : tie.After-outcome2 Inv-loop μ-loop)
+    → let at = top (stole c) in
+    let events = entry at .args .events .now in
+    let k = at .loop .k in
+    (4 * at .loop .steals + 4 ≤ length (at .loop .trace)) × (getD events (2 * k) 0 < 16) × (getD events (2 * k + 1) 0 < 16)
+    × (getD events (2 * k) 0 ≡ getD events (2 * k + 1) 0 → ⊥)
+fits c = stole-fits (turn (stole c)) (c .outcome2 .given .1) _ refl
+
 cast-wide : tie.Need-cast-wide Inv-loop μ-loop
-cast-wide c = omega (arith, traced (c .before))
+cast-wide c = omega (arith, fits (c .before))
 
 mul-wide : tie.Need-mul-wide Inv-loop μ-loop
-mul-wide c = omega (arith, traced (c .before))
+mul-wide c = omega (arith, fits (c .before))
 
 array-read-wide : tie.Need-array-read-wide Inv-loop μ-loop
-array-read-wide c = omega (arith, traced (c .before))
+array-read-wide c = omega (arith, fits (c .before))
 
 wide-requires-2 : tie.Need-wide-requires-2 Inv-loop μ-loop
 wide-requires-2 c κs = search needs
 
 trace-steal-requires : tie.Need-trace-steal-requires Inv-loop μ-loop
 trace-steal-requires c κs =
-    let room = traced (c .before .before .before .before) in
-    let movable =
-    let a = c .before .before .before .before .before .before .before .before .before .before .before .before .before .before .before .before .before .before .before .before .before .before .before .before .before .before .before .before .before .before .before .args in
-    let l = c .before .before .before .before .before .before .before .before .before .before .before .before .before .before .before .before .loop in
-    stole-movable (a .start .policy) (a .tree .now) (a .events .now) (c .before .before .before .before .before .before .before .before .before .before .before .before .before .before .before .before .before .before .before .before .before .before .before .before .before .before .before .before .before .before .before .pre .0) (l .k) (held-state (c .before .before .before .before .before .before .before .before .before .before .before .before .before .before .before .before)) (l .log) (l .trace) (l .loads) (l .logs) (l .inv .1) (c .before .before .before .before .before .before .before .before .before .before .before .before .before .before .before .loop-test .taken)
-    _ _ refl refl (c .before .before .before .before .before .before .before .event-on .result .outcome) (next-state (c .before .before .before .before .before .before .before)) (c .before .before .before .before .before .before .before .event-on .ensures) (c .before .before .before .before .outcome2 .given .0 .0) (c .before .before .before .before .outcome2 .given .1) (c .before .before .wide2 .result) (c .before .before .wide2 .ensures) (a .ends .now) (a .sums .now) (c .before .before .before .before .before .before .before .before .before .before .before .before .before .before .before .before .before .before .before .before .before .before .before .before .before .before .before .before .before .before .before .pre .1 .1 .0 .0) (c .before .before .before .before .before .before .before .before .before .before .before .before .before .before .before .before .before .before .before .before .before .before .before .before .before .before .before .before .before .before .before .pre .1 .1 .0 .1) (c .before .before .before .before .before .before .before .before .before .before .before .before .before .before .before .before .before .before .before .before .before .before .before .before .before .before .before .before .before .before .before .pre .1 .1 .1 .1 .0 .0) (c .before .before .before .before .before .before .before .before .before .before .before .before .before .before .before .before .before .before .before .before .before .before .before .before .before .before .before .before .before .before .before .pre .1 .1 .1 .1 .0 .1) (weighed (c .before .before .before .before .before .before .before .before .before .before .before .before .before .before .before .before .before .before .before .before .before .before .before)) in
-    (rw (c .before .before .before .before .before .before .wide .ensures) (room .0), ((room .1, room .2, room .3), movable))
+    let o = c .before .before .before .before in
+    let room = fits o in
+    let step = c .before .before .wide2 in (
+      rw (o .before .before .wide .ensures) (room .0),
+      ((room .1, room .2, room .3), stole-movable (turn (stole o)) (o .outcome2 .given .1) (step .result) (step .ensures) (weighed (top (stole o)))),
+    )
 
 loop-less-2 : tie.Need-loop-less-2 Inv-loop μ-loop
-loop-less-2 c = omega (arith, c .before .before .before .before .before .before .before .before .before .before .before .before .before .before .before .before .before .before .loop-test .taken)
+loop-less-2 c = omega (arith, turn (stole (c .before .before .before .before .before .before .before)) .more)
 
 loop-again-2 : tie.Need-loop-again-2 Inv-loop μ-loop
 loop-again-2 c =
-    let next =
-    let a = c .before .before .before .before .before .before .before .before .before .before .before .before .before .before .before .before .before .before .before .before .before .before .before .before .before .before .before .before .before .before .before .before .before .before .args in
-    let l = c .before .before .before .before .before .before .before .before .before .before .before .before .before .before .before .before .before .before .before .loop in
-    stole-turn (a .start .policy) (a .tree .now) (a .events .now) (c .before .before .before .before .before .before .before .before .before .before .before .before .before .before .before .before .before .before .before .before .before .before .before .before .before .before .before .before .before .before .before .before .before .before .pre .0) (l .k) (held-state (c .before .before .before .before .before .before .before .before .before .before .before .before .before .before .before .before .before .before .before)) (l .log) (l .trace) (l .loads) (l .logs) (l .inv .1) (c .before .before .before .before .before .before .before .before .before .before .before .before .before .before .before .before .before .before .loop-test .taken)
-    _ _ refl refl (c .before .before .before .before .before .before .before .before .before .before .event-on .result .outcome) (next-state (c .before .before .before .before .before .before .before .before .before .before)) (c .before .before .before .before .before .before .before .before .before .before .event-on .ensures) (c .before .before .before .before .before .before .before .outcome2 .given .0 .0) (c .before .before .before .before .before .before .before .outcome2 .given .1) (c .before .before .before .before .before .wide2 .result) (c .before .before .before .before .before .wide2 .ensures) (a .ends .now) (a .sums .now) (c .before .before .before .before .before .before .before .before .before .before .before .before .before .before .before .before .before .before .before .before .before .before .before .before .before .before .before .before .before .before .before .before .before .before .pre .1 .1 .0 .0) (c .before .before .before .before .before .before .before .before .before .before .before .before .before .before .before .before .before .before .before .before .before .before .before .before .before .before .before .before .before .before .before .before .before .before .pre .1 .1 .0 .1) (c .before .before .before .before .before .before .before .before .before .before .before .before .before .before .before .before .before .before .before .before .before .before .before .before .before .before .before .before .before .before .before .before .before .before .pre .1 .1 .1 .1 .0 .0) (c .before .before .before .before .before .before .before .before .before .before .before .before .before .before .before .before .before .before .before .before .before .before .before .before .before .before .before .before .before .before .before .before .before .before .pre .1 .1 .1 .1 .0 .1) (weighed (c .before .before .before .before .before .before .before .before .before .before .before .before .before .before .before .before .before .before .before .before .before .before .before .before .before .before)) _ (rw (c .before .before .before .before .before .before .before .before .before .wide .ensures) at (c .before .before .trace-steal .ensures .0)) _ (c .before .before .trace-steal .ensures .1) in
-    (omega (arith, c .before .before .before .before .before .before .before .before .before .before .before .before .before .before .before .before .before .before .loop-test .taken), next)
+    let o = c .before .before .before .before .before .before .before in
+    let t = turn (stole o) in
+    let step = c .before .before .before .before .before .wide2 in
+    let traced = c .before .before .trace-steal .ensures in (
+      omega (arith, t .more),
+      stole-turn t (o .outcome2 .given .1) (step .result) (step .ensures) (weighed (top (stole o)))
+      _ (rw (o .before .before .wide .ensures) at (traced .0)) _ (traced .1),
+    )
 
 enum-known-outcome-3 : tie.Need-enum-known-outcome-3 Inv-loop μ-loop
 enum-known-outcome-3 c = search needs
 
+-- It is refused.
+abbrev refused : tie.After-known-told3 Inv-loop μ-loop → tie.After-event-on Inv-loop μ-loop
+refused c = c .before .before .before .before
+
 same-length : tie.Need-same-length Inv-loop μ-loop
-same-length c = c .before .before .before .before .before .before .before .before .before .before .before .before .before .loop .inv .1 .logRoom ∙ sym (c .before .before .before .before .before .before .before .before .before .before .before .before .before .before .before .before .before .before .before .before .before .before .before .before .before .before .before .before .pre .1 .1 .1 .1 .1 .0)
+same-length c = lent-log (top (refused c))
 
 same-length-2 : tie.Need-same-length-2 Inv-loop μ-loop
-same-length-2 c = c .before .before .before .before .before .before .before .before .before .before .before .before .before .loop .inv .1 .traceRoom ∙ sym (c .before .before .before .before .before .before .before .before .before .before .before .before .before .before .before .before .before .before .before .before .before .before .before .before .before .before .before .before .pre .1 .1 .1 .1 .1 .1)
+same-length-2 c = lent-trace (top (refused c))
 
 returns : tie.Need-returns Inv-loop μ-loop
-returns c =
-    let a = c .before .before .before .before .before .before .before .before .before .before .before .before .before .before .before .before .before .before .before .before .before .before .before .before .before .before .before .before .args in
-    let l = c .before .before .before .before .before .before .before .before .before .before .before .before .before .loop in
-    turn-refused (a .start .policy) (a .tree .now) (a .events .now) (c .before .before .before .before .before .before .before .before .before .before .before .before .before .before .before .before .before .before .before .before .before .before .before .before .before .before .before .before .pre .0) (l .k) (held-state (c .before .before .before .before .before .before .before .before .before .before .before .before .before)) (l .log) (l .trace) (l .loads) (l .logs) (l .inv .1) (c .before .before .before .before .before .before .before .before .before .before .before .before .loop-test .taken)
-    _ _ refl refl (c .before .before .before .before .event-on .result .outcome) (next-state (c .before .before .before .before)) (c .before .before .before .before .event-on .ensures) (c .before .outcome3 .given .0 .0) (c .before .outcome3 .given .1) _ _ _
+returns c = turn-refused (turn (refused c)) _ (c .before .outcome3 .given .1) _ _ _
 
 wide-requires-3 : tie.Need-wide-requires-3 Inv-loop μ-loop
 wide-requires-3 c κs = search needs
 
 same-length-3 : tie.Need-same-length-3 Inv-loop μ-loop
-same-length-3 c = search needs
+same-length-3 c = lent-log (c .before .before)
 
 same-length-4 : tie.Need-same-length-4 Inv-loop μ-loop
-same-length-4 c = search needs
+same-length-4 c = lent-trace (c .before .before)
 
 returns-2 : tie.Need-returns-2 Inv-loop μ-loop
 returns-2 c =
-    let a = c .before .before .before .before .before .before .before .before .before .before .before .before .before .before .before .before .before .args in
-    let l = c .before .before .loop in
-    let done = turn-done (a .start .policy) (a .tree .now) (a .events .now) (c .before .before .before .before .before .before .before .before .before .before .before .before .before .before .before .before .before .pre .0) (l .k) (held-state (c .before .before)) (l .log) (l .trace) (l .loads) (l .logs) (l .inv .1) (l .inv .0) (omega (arith, c .before .loop-test .left)) in
-    rw (c .wide3 .ensures) done
+    let at = c .before .before in
+    rw (c .wide3 .ensures) (turn-done (entry at .pre .0) (at .loop .inv .1) (at .loop .inv .0) (c .before .loop-test .left))
 
 pub walk-spec : {M : Type 1} → statement M
 walk-spec =
@@ -205,6 +251,7 @@ walk-spec =
     Inv-loop
     μ-loop
     steps-requires
+    array-write-held
     mul-loads
     shared-slice-read-loads
     array-write-loads

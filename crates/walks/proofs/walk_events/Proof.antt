@@ -14,7 +14,7 @@ use Rattle.walks.proofs.walk_events.Statement.{statement}
 use Rattle.walks.proofs.walk_events.Tie as tie
 
 frame : (c : tie.Start) → Frame (c .args .tree .now)
-frame c = start-frame (c .args .start .policy) (c .args .tree .now) (c .pre .0)
+frame c = start-frame (c .args .policy) (c .args .tree .now) (c .pre .0)
 
 -- Either array has room for the steps.
 room : (c : tie.After-steps) {m : ℕ} → m ≡ 4095 → c .steps .result ≤ m
@@ -39,7 +39,7 @@ fill-requires : tie.Need-fill-requires
 fill-requires c κs =
     let at = c .before .before .before .before .before .before .before in
     let most = frame at .most in
-    (start-tree-accepts (at .args .start .policy) (at .args .tree .now) (at .pre .0), (most, most))
+    (start-tree-accepts (at .args .policy) (at .args .tree .now) (at .pre .0), (most, most))
 
 slice-aggregate-add-up : tie.Need-slice-aggregate-add-up
 slice-aggregate-add-up c = search needs
@@ -80,7 +80,7 @@ walk-requires c κs =
     let ends = ends-prefix ks (tables .last .1 .0) (n .result) (n .ensures) (ends-room filled) (tables .ensures .0) in
     let openers = openers-prefix ks (tables .last .1 .1 .0) (n .result) (n .ensures) (openers-room filled) (tables .ensures .1) in
     let few : length ks < length (summed .add-up .last .1 .0) = omega (arith, frame at .most, summed .add-up .kept .1 .0) in
-    (at .pre .0, (at .pre .1 .0, (ends, (openers, ((few, summed .add-up .ensures), at .pre .1 .1)))))
+    (at .pre .0, (ends, (openers, ((few, summed .add-up .ensures), at .pre .1))))
 
 same-length : tie.Need-same-length
 same-length c = search needs

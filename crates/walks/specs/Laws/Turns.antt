@@ -1,6 +1,6 @@
 -- The loop over the events in the terms of the code: what a call on the arrays ensures, and what is stored then.
 use Prim.Native.Nat.{ℕ, _+_, _*_, _/_, _%_, _≤_, _<_}
-use mathlib.Core.Path.{_≡_, sym, ap, subst, _∙_}
+use mathlib.Core.Path.{_≡_, refl, sym, ap, subst, _∙_}
 use mathlib.Core.List.{List}
 use native.Mathlib.Omega.{arith}
 use lib.ListN.{length, getD, set, replicate}
@@ -10,11 +10,12 @@ use Rattle.rules.specs.Scheduling.{Run}
 use Rattle.rules.specs.Calls.{startVerdict}
 use Rattle.tables.specs.Answers.{Ends, Sums, weightBefore}
 use Rattle.state.specs.declared.RunState.{RunState}
-use Rattle.state.specs.declared.TraceNumber.{TraceNumber}
+use Rattle.stealing.specs.declared.TraceNumber.{TraceNumber}
 use Rattle.state.specs.declared.Outcome.{Outcome}
 use Rattle.state.specs.declared.Outcome.the-variants.{Ran, Stole, Refused}
 use Rattle.state.specs.declared.Answer.{Answer}
-use Rattle.state.specs.Answers.{answerOf, fresh, numberValue, eventAnswer}
+use Rattle.stealing.specs.Answers.{numberValue}
+use Rattle.state.specs.Answers.{stateOf, answerOf, fresh, eventAnswer}
 use Rattle.outputs.specs.Answers.{recordPut, loadMoved}
 use Rattle.tree.specs.declared.Phase.{Phase}
 use Rattle.tree.specs.declared.Step.{Step}
@@ -30,84 +31,109 @@ at-state {p} {tree} {events} {k} {s} {log} {trace} {ls} {logs} after e so =
     subst (λ (x : RunState). Recording p tree events k x log trace ls logs (x .steals)) e
     (rw (so .stealCount ∙ sym (so .shows .steals)) at so)
 
-module _ (p : ℕ) (tree events : List ℕ) (accepts : startVerdict p tree .number ≡ 0) where
-  -- The start: all weight is worker 0's.
-  pub turn-start : (s : RunState) → s ≡ fresh p → (sums : List ℕ) → Sums (weights tree) sums (length (kinds tree))
-      → (n : ℕ) → n ≡ length (kinds tree) → (log trace : List ℕ) → length log ≡ 16380 → length trace ≡ 8188
-      → Recording p tree events 0 s log trace (set (replicate 16 0) 0 (getD sums n 0)) 0 (s .steals)
-  turn-start s e sums right n m log trace h l =
-      rw (m, right (length (kinds tree)) (omega arith))
-      (at-state s (sym e) (recording-start p tree events accepts log trace h l))
+-- The arrays that the walk begins with are those of a start.
+pub fresh-arrays : (p : ℕ)
+    → stateOf (replicate 4095 17) (set (replicate 16 65535) 0 0) (replicate 16 0) (replicate 16 0) (replicate 16 0) 0 p ≡ fresh p
+unfolding fresh
+fresh-arrays p = refl
 
-  module _ (k : ℕ) (s : RunState) (log trace ls : List ℕ) (logs : ℕ) (so : Recording p tree events k s log trace ls logs (s .steals)) where
-    -- The end.
-    pub turn-done : k ≤ length events / 2 → length events / 2 ≤ k
-        → Walks p tree events (record { number = 0; position = 0; logs = logs; steals = s .steals; loads = ls }) log trace
-    unfolding accepted
-    turn-done h l =
-        let all : k ≡ length events / 2 = omega arith in
-        record {
-          verdict = sym (ap (λ (w : Walked Run). w .verdict) (recording-done p tree events accepts k s log trace ls logs (s .steals) so l));
-          recorded = λ z. (s, rw all at so);
-        }
+-- The start: all weight is worker 0's.
+pub turn-start : (p : ℕ) (tree events : List ℕ) → startVerdict p tree .number ≡ 0
+    → (sums : List ℕ) → Sums (weights tree) sums (length (kinds tree)) → (n : ℕ) → n ≡ length (kinds tree)
+    → (log trace : List ℕ) → length log ≡ 16380 → length trace ≡ 8188
+    → (s : RunState) → s ≡ fresh p → (ls : List ℕ) → ls ≡ set (replicate 16 0) 0 (getD sums n 0)
+    → Recording p tree events 0 s log trace ls 0 (s .steals)
+turn-start p tree events accepts sums right n m log trace h l s e ls f =
+    rw (f, m, right (length (kinds tree)) (omega arith))
+    (at-state s (sym e) (recording-start p tree events accepts log trace h l))
 
-    -- An event of bytes a and b, with outcome o and the state after it.
-    module _ (more : k < length events / 2) (a b : ℕ) (first : a ≡ getD events (2 * k) 0) (second : b ≡ getD events (2 * k + 1) 0)
-        (o : Outcome) (after : RunState) (answers : answerOf o after ≡ eventAnswer s tree a b) where
-      outcome : eventAnswer s tree a b .outcome ≡ o
-      outcome = sym (ap (λ (x : Answer). x .outcome) answers)
+-- The end.
+pub turn-done : {p : ℕ} {tree events : List ℕ} {k : ℕ} {s : RunState} {log trace ls : List ℕ} {logs : ℕ}
+    → startVerdict p tree .number ≡ 0 → Recording p tree events k s log trace ls logs (s .steals)
+    → k ≤ length events / 2 → length events / 2 ≤ k
+    → Walks p tree events (record { number = 0; position = 0; logs = logs; steals = s .steals; loads = ls }) log trace
+unfolding accepted
+turn-done {p} {tree} {events} {k} {s} {log} {trace} {ls} {logs} accepts so h l =
+    let all : k ≡ length events / 2 = omega arith in
+    record {
+      verdict = sym (ap (λ (w : Walked Run). w .verdict) (recording-done p tree events accepts k s log trace ls logs (s .steals) so l));
+      recorded = λ z. (s, rw all at so);
+    }
 
-      state : eventAnswer s tree a b .state ≡ after
-      state = sym (ap (λ (x : Answer). x .state) answers)
+-- Event k, of bytes a and b, with outcome o and the state after it.
+pub record Turn (p : ℕ) (tree events : List ℕ) (k : ℕ) (s : RunState) (log trace ls : List ℕ) (logs a b : ℕ) (o : Outcome) (after : RunState)
+    : Type 0 where
+  pub accepts : startVerdict p tree .number ≡ 0
+  pub so : Recording p tree events k s log trace ls logs (s .steals)
+  pub more : k < length events / 2
+  pub first : a ≡ getD events (2 * k) 0
+  pub second : b ≡ getD events (2 * k + 1) 0
+  pub answers : answerOf o after ≡ eventAnswer s tree a b
 
-      -- It is refused.
-      pub turn-refused : (x : ℕ) → o ≡ Refused x → (loads : List ℕ) (mine yours : List ℕ)
-          → Walks p tree events (record { number = x; position = k; logs = 0; steals = 0; loads = loads }) mine yours
-      turn-refused x e loads mine yours =
-          let by = event-refused p tree events accepts k s log trace ls logs (s .steals) so more a b first second x (outcome ∙ e) in
-          record { verdict = by .0; recorded = λ z. absurd (by .1 z) }
+-- The tables from which a stolen part's weight is read.
+pub record Weighed (tree ends sums : List ℕ) : Type 0 where
+  pub sized : length ends ≡ length (kinds tree)
+  pub right : Ends (kinds tree) ends (length ends)
+  pub longer : length (kinds tree) < length sums
+  pub added : Sums (weights tree) sums (length (kinds tree))
+  pub light : weightBefore (weights tree) (length (kinds tree)) < 18446744073709551616
 
-      -- It has run a step.
-      module _ (phase : Phase) (step : Step) (ran : o ≡ Ran phase step) where
-        pub ran-fits : (4 * logs + 4 ≤ length log) × (logs < 4095)
-        ran-fits =
-            let room = ran-room p tree events accepts k s log trace ls logs (s .steals) so more a b first second (phase .0) (step .0) (outcome ∙ ran) in
-            (omega (arith, room, so .logRoom, start-frame p tree accepts .most), omega (arith, room, start-frame p tree accepts .most))
+module _ {p : ℕ} {tree events : List ℕ} {k : ℕ} {s : RunState} {log trace ls : List ℕ} {logs a b : ℕ} {o : Outcome} {after : RunState}
+    (turn : Turn p tree events k s log trace ls logs a b o after) where
+  outcome : eventAnswer s tree a b .outcome ≡ o
+  outcome = sym (ap (λ (x : Answer). x .outcome) (turn .answers))
 
-        pub ran-turn : (longer : List ℕ) → longer ≡ recordPut log logs (phase .0 % 256) (phase .0 / 256 % 256) (step .0)
-            → Recording p tree events (k + 1) after longer trace ls (logs + 1) (after .steals)
-        ran-turn longer e =
-            rw e
-            (at-state after state
-            (ran-next p tree events accepts k s log trace ls logs (s .steals) so more a b first second (phase .0) (step .0) (outcome ∙ ran)))
+  state : eventAnswer s tree a b .state ≡ after
+  state = sym (ap (λ (x : Answer). x .state) (turn .answers))
 
-      -- It has stolen one, which the thief holds now.
-      module _ (number : TraceNumber) (stole : o ≡ Stole number) (step : ℕ) (held : step ≡ getD (after .held) a 0) where
-        taken : step ≡ getD (eventAnswer s tree a b .state .held) a 0
-        taken = held ∙ ap (λ (x : RunState). getD (x .held) a 0) (sym state)
+  -- It is refused.
+  pub turn-refused : (x : ℕ) → o ≡ Refused x → (loads : List ℕ) (mine yours : List ℕ)
+      → Walks p tree events (record { number = x; position = k; logs = 0; steals = 0; loads = loads }) mine yours
+  turn-refused x e loads mine yours =
+      let by = event-refused p tree events (turn .accepts) k s log trace ls logs (s .steals) (turn .so) (turn .more) a b (turn .first) (turn .second) x (outcome ∙ e) in
+      record { verdict = by .0; recorded = λ z. absurd (by .1 z) }
 
-        room : (a < 16) × (b < 16) × (a ≡ b → ⊥) × (2 * s .steals + 2 < length (kinds tree)) × (step < length (kinds tree))
-        room = stole-room p tree events accepts k s log trace ls logs (s .steals) so more a b first second number (outcome ∙ stole) step taken
+  -- It has run a step.
+  module _ {phase : Phase} {step : Step} (ran : o ≡ Ran phase step) where
+    pub ran-fits : (4 * logs + 4 ≤ length log) × (logs < 4095)
+    ran-fits =
+        let most = start-frame p tree (turn .accepts) .most in
+        let room = ran-room p tree events (turn .accepts) k s log trace ls logs (s .steals) (turn .so) (turn .more) a b (turn .first) (turn .second) (phase .0) (step .0) (outcome ∙ ran) in
+        (omega (arith, room, turn .so .logRoom, most), omega (arith, room, most))
 
-        pub stole-fits : (4 * s .steals + 4 ≤ length trace) × (a < 16) × (b < 16) × (a ≡ b → ⊥)
-        stole-fits = (omega (arith, room, so .traceRoom, start-frame p tree accepts .most), room .0, room .1, room .2)
+    pub ran-turn : (longer : List ℕ) → longer ≡ recordPut log logs (phase .0 % 256) (phase .0 / 256 % 256) (step .0)
+        → Recording p tree events (k + 1) after longer trace ls (logs + 1) (after .steals)
+    ran-turn longer e =
+        rw e
+        (at-state after state
+        (ran-next p tree events (turn .accepts) k s log trace ls logs (s .steals) (turn .so) (turn .more) a b (turn .first) (turn .second) (phase .0) (step .0) (outcome ∙ ran)))
 
-        module _ (ends sums : List ℕ) (sized : length ends ≡ length (kinds tree)) (right : Ends (kinds tree) ends (length ends))
-            (longer : length (kinds tree) < length sums) (added : Sums (weights tree) sums (length (kinds tree)))
-            (light : weightBefore (weights tree) (length (kinds tree)) < 18446744073709551616) where
-          filled : Ends (kinds tree) ends (length (kinds tree))
-          filled = rw sized at right
+  -- It has stolen one, which the thief holds now.
+  module _ {number : TraceNumber} (stole : o ≡ Stole number) (step : ℕ) (held : step ≡ getD (after .held) a 0) where
+    taken : step ≡ getD (eventAnswer s tree a b .state .held) a 0
+    taken = held ∙ ap (λ (x : RunState). getD (x .held) a 0) (sym state)
 
-          pub stole-movable : Movable ends sums ls a b step
-          stole-movable =
-              stole-weight p tree events accepts k s log trace ls logs (s .steals) so more a b first second number (outcome ∙ stole) step taken
-              ends sums (omega arith) filled longer added light
+    room : (a < 16) × (b < 16) × (a ≡ b → ⊥) × (2 * s .steals + 2 < length (kinds tree)) × (step < length (kinds tree))
+    room = stole-room p tree events (turn .accepts) k s log trace ls logs (s .steals) (turn .so) (turn .more) a b (turn .first) (turn .second) number (outcome ∙ stole) step taken
 
-          pub stole-turn : (further : List ℕ) → further ≡ recordPut trace (s .steals) a b (numberValue number)
-              → (moved : List ℕ) → moved ≡ loadMoved ls a b (weightBetween ends sums step)
-              → Recording p tree events (k + 1) after log further moved logs (after .steals)
-          stole-turn further e moved f =
-              let frame = start-frame p tree accepts in
-              rw (e, f, part-between (kinds tree) (weights tree) (frame .shape) ends sums filled added step (room .4))
-              (at-state after state
-              (stole-next p tree events accepts k s log trace ls logs (s .steals) so more a b first second number (outcome ∙ stole) step taken))
+    pub stole-fits : (4 * s .steals + 4 ≤ length trace) × (a < 16) × (b < 16) × (a ≡ b → ⊥)
+    stole-fits =
+        (omega (arith, room, turn .so .traceRoom, start-frame p tree (turn .accepts) .most), room .0, room .1, room .2)
+
+    module _ {ends sums : List ℕ} (weighed : Weighed tree ends sums) where
+      filled : Ends (kinds tree) ends (length (kinds tree))
+      filled = rw (weighed .sized) at (weighed .right)
+
+      pub stole-movable : Movable ends sums ls a b step
+      stole-movable =
+          stole-weight p tree events (turn .accepts) k s log trace ls logs (s .steals) (turn .so) (turn .more) a b (turn .first) (turn .second) number (outcome ∙ stole) step taken
+          ends sums (omega (arith, weighed .sized)) filled (weighed .longer) (weighed .added) (weighed .light)
+
+      pub stole-turn : (further : List ℕ) → further ≡ recordPut trace (s .steals) a b (numberValue number)
+          → (moved : List ℕ) → moved ≡ loadMoved ls a b (weightBetween ends sums step)
+          → Recording p tree events (k + 1) after log further moved logs (after .steals)
+      stole-turn further e moved f =
+          let frame = start-frame p tree (turn .accepts) in
+          rw (e, f, part-between (kinds tree) (weights tree) (frame .shape) ends sums filled (weighed .added) step (room .4))
+          (at-state after state
+          (stole-next p tree events (turn .accepts) k s log trace ls logs (s .steals) (turn .so) (turn .more) a b (turn .first) (turn .second) number (outcome ∙ stole) step taken))

@@ -1,0 +1,183 @@
+// Stealing a step (document 01, "Scheduling"): whether a thief may steal, what it takes from the victim's deque, the number that
+// its trace record has, and what the workers' tables are then.
+ghost use mathlib.Core.Path.{_≡_};
+ghost use Prim.Native.Nat.{_+_, _≤_, _<_};
+ghost use lib.ListN.{length, set};
+ghost use Rattle.rules.specs.Tree.{kinds};
+ghost use Rattle.tables.specs.Answers.{Ends};
+ghost use Rattle.deques.specs.Answers.{oldestMark, robbed};
+ghost use Rattle.stealing.specs.Answers.{stealNumber, childrenBetween, numberBy, numberValue, ordinalFrom, takenOf, Small};
+use deques::MOST_WORKERS;
+use deques::Pusher;
+use tables::wide;
+use tasks::WORK_FIRST;
+use tree::END;
+use tree::MOST_STEPS;
+use tree::Ordinal;
+use tree::RECORD;
+use tree::Step;
+
+// More than any ordinal of a tree.
+const MOST_ORDINALS: usize = 4096;
+
+// The number of a trace record: under work-first an ordinal, under help-first a serial number.
+pub enum TraceNumber {
+    ByOrdinal(Ordinal),
+    BySerial(Step),
+}
+
+// What a steal takes: the step, its ordinal and its pusher; or nothing.
+pub enum Taken {
+    Of {
+        pusher: Step,
+        step: Step,
+        ordinal: Ordinal,
+    },
+    Nothing,
+}
+
+// The refusal of a steal, but for an empty deque: 8 or 11, or 2 for a tree that is too long; 0 for none.
+pub fn judge_steal(tree: &[u8], held: &[u16; 16], thief: u8, victim: u8) -> u8
+    ensures { λ r. ⌜ r ≡ stealNumber (kinds (now (tree .entry))) (now (held .entry)) thief victim ⌝ }
+{
+    let t = thief as usize;
+    let v = victim as usize;
+    if MOST_WORKERS <= t {
+        return 8;
+    }
+    if MOST_WORKERS <= v {
+        return 8;
+    }
+    let n = tree::steps(tree);
+    if MOST_STEPS < n {
+        return 2;
+    }
+    if wide(held[t]) < n {
+        return 11;
+    }
+    0
+}
+
+// How many children are opened directly from step `from` to before step `to`: not those inside other children.
+fn children_between(tree: &[u8], from: usize, to: usize) -> usize
+    requires { ⌜ to ≤ length (kinds (now tree)) ⌝ }
+    ensures { λ r. ⌜ r ≡ childrenBetween (kinds (now (tree .entry))) from to ⌝ }
+    ensures few { λ r. ⌜ r ≤ to ⌝ }
+{
+    let mut j = from;
+    let mut depth: usize = 0;
+    let mut children: usize = 0;
+    while j < to {
+        let k = tree[RECORD * j];
+        j += 1;
+        if k == END {
+            if depth == 0 {
+                continue;
+            }
+            depth -= 1;
+            continue;
+        }
+        if depth == 0 {
+            depth = 1;
+            children += 1;
+            continue;
+        }
+        depth += 1;
+    }
+    children
+}
+
+// The trace number of a stolen step, by its ordinal or its serial number.
+pub fn trace_number(policy: u8, ordinal: Ordinal, step: Step) -> TraceNumber
+    ensures { λ r. ⌜ r ≡ numberBy policy (ordinal .0) (step .0) ⌝ }
+{
+    if policy == WORK_FIRST {
+        return TraceNumber::ByOrdinal(ordinal);
+    }
+    TraceNumber::BySerial(step)
+}
+
+// The number of a trace record.
+pub fn number_of(number: TraceNumber) -> usize
+    ensures { λ r. ⌜ r ≡ numberValue number ⌝ }
+{
+    match number {
+        TraceNumber::ByOrdinal(ordinal) => ordinal.0,
+        TraceNumber::BySerial(step) => step.0,
+    }
+}
+
+// The ordinal of the step that step `pusher` pushes, from the ordinal of an earlier step of its task; 0 under help-first,
+// which counts none. No ordinal is above 4,095.
+fn ordinal_from(tree: &[u8], policy: u8, base: u16, from: usize, pusher: usize) -> Ordinal
+    requires { ⌜ (pusher ≤ length (kinds (now tree))) × (length (kinds (now tree)) ≤ 4095) ⌝ }
+    ensures { λ r. ⌜ r .0 ≡ ordinalFrom policy (kinds (now (tree .entry))) base from pusher ⌝ }
+    ensures small { λ r. ⌜ r .0 < 65536 ⌝ }
+{
+    if policy == WORK_FIRST {
+        return Ordinal(
+            wide(base) % MOST_ORDINALS + children_between(tree, from, pusher) + 1,
+        );
+    }
+    Ordinal(0)
+}
+
+// The oldest step of the victim's deque leaves it.
+pub fn take_step(
+    tree: &[u8],
+    ends: &[u16],
+    place: &mut [u8; 4095],
+    policy: u8,
+    victim: u8,
+    low: usize,
+    base: u16,
+) -> Taken
+    requires { ⌜ (length (kinds (now tree)) ≤ 4095) × Ends (kinds (now tree)) (now ends) (length (now ends)) ⌝ }
+    ensures gives { λ r. ⌜ r ≡ takenOf policy (kinds (now (tree .entry))) base low (oldestMark (now (place .entry)) victim low (length (kinds (now (tree .entry))))) ⌝ }
+    ensures leaves { λ r. ⌜ now (place .exit) ≡ robbed (now (place .entry)) victim low (length (kinds (now (tree .entry)))) ⌝ }
+    ensures small { λ r. ⌜ Small r ⌝ }
+{
+    let n = tree::steps(tree);
+    match deques::take(place, victim, low, n) {
+        Pusher::At(pusher) => {
+            let step = parts::pushed_by(tree, ends, policy, pusher);
+            let ordinal = ordinal_from(tree, policy, base, low, pusher.0);
+            Taken::Of {
+                pusher,
+                step,
+                ordinal,
+            }
+        }
+        Pusher::Nothing => Taken::Nothing,
+    }
+}
+
+// What a steal stores: the thief holds the step and has begun the phase, and the victim's scans go on behind the step's pusher.
+pub fn settle(
+    held: &mut [u16; 16],
+    phase: &mut [u16; 16],
+    low: &mut [u16; 16],
+    base: &mut [u16; 16],
+    thief: u8,
+    victim: u8,
+    pusher: Step,
+    step: Step,
+    ordinal: Ordinal,
+    begun: u16,
+)
+    requires { ⌜ (thief < 16) × (victim < 16) × (pusher .0 < 4095) × (step .0 < 65536) × (ordinal .0 < 65536) ⌝ }
+    ensures held { λ r. ⌜ now (held .exit) ≡ set (now (held .entry)) thief (step .0) ⌝ }
+    ensures phase { λ r. ⌜ now (phase .exit) ≡ set (now (phase .entry)) thief begun ⌝ }
+    ensures low { λ r. ⌜ now (low .exit) ≡ set (set (now (low .entry)) victim (pusher .0 + 1)) thief (step .0) ⌝ }
+    ensures base { λ r. ⌜ now (base .exit) ≡ set (set (now (base .entry)) victim 0) thief (ordinal .0) ⌝ }
+{
+    let t = thief as usize;
+    let v = victim as usize;
+    let taken = step.0 as u16;
+    held[t] = taken;
+    phase[t] = begun;
+    low[v] = (pusher.0 + 1) as u16;
+    low[t] = taken;
+    base[v] = 0;
+    base[t] = ordinal.0 as u16;
+}
