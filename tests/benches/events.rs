@@ -37,7 +37,7 @@ impl Case {
         let mut refused = 0;
         for &[first, second] in &self.events {
             let answer = library::event(*state, &self.tree, first, second);
-            refused += usize::from(answer.number != 0);
+            refused += usize::from(answer.outcome.number != 0);
             *state = answer.state;
         }
         refused
@@ -64,9 +64,9 @@ impl Case {
                 let stolen = run.trace.last().expect("a step was stolen");
                 [0, 2, 0, 0, stolen.number]
             };
-            let got = library::event(state, &self.tree, first, second);
+            let library::FrameEvent { outcome: got, state: next } = library::event(state, &self.tree, first, second);
             assert_eq!([got.number, got.what, got.phase, got.step, got.trace], want);
-            state = got.state;
+            state = next;
         }
         assert!(run.finished());
         assert!(state.place[..run.tree.count()].iter().all(|&place| place == RUN));

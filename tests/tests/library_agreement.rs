@@ -84,19 +84,20 @@ impl Live<'_> {
     /// one. Gives the number.
     fn event(&mut self, [first, second]: [u8; 2], compared: bool, case: fmt::Arguments) -> usize {
         let got = library::event(self.state, self.tree, first, second);
+        let outcome = got.outcome;
         let place = self.events.len() / 2;
         self.events.extend([first, second]);
         if compared {
             let [log, trace, _] = self.needed();
             let (recorded, ..) = self.recorded(&self.events, [log, trace]);
-            assert_eq!(recorded.number, got.number, "{case}, {first} {second} behind {place} accepted events");
-            let position = if got.number == 0 { 0 } else { place };
+            assert_eq!(recorded.number, outcome.number, "{case}, {first} {second} behind {place} accepted events");
+            let position = if outcome.number == 0 { 0 } else { place };
             assert_eq!(recorded.position, position, "{case}, {first} {second} behind {place} accepted events");
         }
-        assert_eq!(got.position, 0, "{case}");
-        assert_eq!(got.number == 0, got.what != 0, "{case}");
-        match got.what {
-            1 => self.log.push((got.phase, got.step)),
+        assert_eq!(outcome.position, 0, "{case}");
+        assert_eq!(outcome.number == 0, outcome.what != 0, "{case}");
+        match outcome.what {
+            1 => self.log.push((outcome.phase, outcome.step)),
             // A later phase is the thief's, from the step taken.
             2 => self.phases.push((first.into(), got.state.held[usize::from(first)].into())),
             _ => {
@@ -105,7 +106,7 @@ impl Live<'_> {
             }
         }
         self.state = got.state;
-        got.number
+        outcome.number
     }
 
     /// Whether accepted run events have run all steps.

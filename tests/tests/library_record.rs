@@ -412,8 +412,7 @@ fn as_single_events() {
         };
         for (k, tried) in tried.iter().enumerate() {
             let [first, second] = tried.event;
-            let single = library::event(state, &bytes, first, second);
-            state = single.state;
+            let single = library::event_in_place(&mut state, &bytes, first, second);
             let place = events.len() / 2;
             events.extend(tried.event);
             match single.what {

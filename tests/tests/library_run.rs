@@ -1,5 +1,5 @@
-//! Starts, single events and idle answers over the C interface, event by event: against the simulator on the runs that a
-//! start leads to, and against the contract on any state and any bytes. A failure names its seed and its event.
+//! Starts, single events (by value and in place) and idle answers over the C interface, event by event: against the simulator on
+//! the runs that a start leads to, and against the contract on any state and any bytes. A failure names its seed and its event.
 
 mod library;
 #[path = "library/guarded.rs"]
@@ -13,7 +13,7 @@ use frame_tests::random::{
 };
 use frame_tests::run::{Policy, Run};
 use guarded::Guarded;
-use library::{FrameEvent, FrameIdle, RunState, NOT_RUN, NO_STEP, RUN};
+use library::{FrameEvent, FrameIdle, FrameOutcome, RunState, NOT_RUN, NO_STEP, RUN};
 
 /// The most steps of a tree.
 const MOST_STEPS: usize = 4_095;
@@ -46,10 +46,44 @@ fn first_state(policy: u8) -> RunState {
     RunState { place: [NOT_RUN; 4095], held, phase: [0; 16], low: [0; 16], base: [0; 16], steals: 0, policy }
 }
 
-/// All of an event's answer but the state: number, what, phase, step, trace. The position is always 0.
-fn numbers(answer: &FrameEvent) -> [usize; 5] {
-    assert_eq!(answer.position, 0);
-    [answer.number, answer.what, answer.phase, answer.step, answer.trace]
+/// An event's outcome: number, what, phase, step, trace. The position is always 0.
+fn numbers(outcome: &FrameOutcome) -> [usize; 5] {
+    assert_eq!(outcome.position, 0);
+    [outcome.number, outcome.what, outcome.phase, outcome.step, outcome.trace]
+}
+
+/// Bytes around a lent state.
+const AROUND: [u8; 64] = [0xb5; 64];
+
+/// A state that is lent, and bytes around it that no event may touch.
+#[repr(C)]
+struct Lent {
+    before: [u8; 64],
+    state: RunState,
+    behind: [u8; 64],
+}
+
+impl Lent {
+    fn new(state: RunState) -> Lent {
+        Lent { before: AROUND, state, behind: AROUND }
+    }
+
+    /// One event, by value and in place: the outcome is the same, and the lent state is the next one. A refused event leaves
+    /// every byte of it. Gives the answer by value.
+    fn event(&mut self, tree: &[u8], first: u8, second: u8, at: impl fmt::Display) -> FrameEvent {
+        let given = self.state;
+        let by_value = library::event(given, tree, first, second);
+        let in_place = library::event_in_place(&mut self.state, tree, first, second);
+        if in_place.number != 0 {
+            let same = state_bytes(&self.state) == state_bytes(&given);
+            assert!(same, "{at}: {first} {second}: a refused event changed the lent state");
+        }
+        assert_eq!(in_place, by_value.outcome, "{at}: {first} {second}: another outcome in place");
+        assert!(self.state == by_value.state, "{at}: {first} {second}: another state in place");
+        let around = self.before == AROUND && self.behind == AROUND;
+        assert!(around, "{at}: {first} {second}: bytes around the lent state were changed");
+        by_value
+    }
 }
 
 // ---- The simulator ----
@@ -107,11 +141,21 @@ struct Seen {
     nobody_idle: usize,
 }
 
+impl Seen {
+    fn count(&mut self, outcome: &FrameOutcome) {
+        match outcome.what {
+            1 => self.runs += 1,
+            2 => self.steals += 1,
+            _ => self.refused[outcome.number] += 1,
+        }
+    }
+}
+
 /// The library and the simulator on the same run.
 struct Both<'a> {
     tree: &'a [u8],
     run: Run,
-    state: RunState,
+    lent: Lent,
     policy: u8,
     at: At,
 }
@@ -122,24 +166,24 @@ impl Both<'_> {
         let run = Run::start(policy, tree).unwrap_or_else(|refusal| panic!("{at}: {refusal:?}"));
         let started = library::start(tree, policy);
         assert_eq!((started.number, started.position), (0, 0), "{at}");
-        let both = Both { tree, run, state: started.state, policy, at };
+        let both = Both { tree, run, lent: Lent::new(started.state), policy, at };
         both.whole_view();
         both
     }
 
     fn whole_view(&self) {
-        assert_eq!(self.state.policy, self.policy, "{}", self.at);
-        same_workers(&self.state, &self.run, self.at);
-        same_places(&self.state, &self.run, self.at);
+        assert_eq!(self.lent.state.policy, self.policy, "{}", self.at);
+        same_workers(&self.lent.state, &self.run, self.at);
+        same_places(&self.lent.state, &self.run, self.at);
     }
 
-    /// One event to both.
+    /// One event to both. The library's state is lent from event to event.
     fn event(&mut self, event: [u8; 2], seen: &mut Seen) {
         self.at.event = Some(self.at.event.map_or(0, |k| k + 1));
         let at = self.at;
         let [first, second] = event;
-        let given = self.state;
-        let got = library::event(given, self.tree, first, second);
+        let given = self.lent.state;
+        let got = self.lent.event(self.tree, first, second, at);
         let want = match self.run.event(first, second) {
             Err(refusal) => [refusal.number as usize, 0, 0, 0, 0],
             Ok(()) if first == second => {
@@ -151,17 +195,12 @@ impl Both<'_> {
                 [0, 2, 0, 0, record.number]
             }
         };
-        assert_eq!(numbers(&got), want, "{at}: {first} {second}");
-        if got.number != 0 {
+        assert_eq!(numbers(&got.outcome), want, "{at}: {first} {second}");
+        if got.outcome.number != 0 {
             assert!(got.state == given, "{at}: {first} {second}: a refused event changed the state");
         }
-        self.state = got.state;
-        same_workers(&self.state, &self.run, at);
-        match got.what {
-            1 => seen.runs += 1,
-            2 => seen.steals += 1,
-            _ => seen.refused[got.number] += 1,
-        }
+        same_workers(&self.lent.state, &self.run, at);
+        seen.count(&got.outcome);
         seen.nobody_idle += usize::from(self.run.idle_set() == 0);
     }
 
@@ -313,9 +352,10 @@ fn as_many_steals_as_a_run_can_have() {
         let events = all_stolen(both.run.policy, 2_047);
         both.events(&events, 61, &mut seen);
         assert_eq!((seen.runs, seen.steals, seen.finished), (4_095, 2_047, 1), "policy {policy}");
-        assert_eq!(both.state.steals, 2_047, "policy {policy}");
-        assert_eq!(both.state.phase[1], 2_047, "policy {policy}");
-        assert_eq!(library::idle(both.state).set, 65_535, "policy {policy}");
+        let state = both.lent.state;
+        assert_eq!(state.steals, 2_047, "policy {policy}");
+        assert_eq!(state.phase[1], 2_047, "policy {policy}");
+        assert_eq!(library::idle(state).set, 65_535, "policy {policy}");
     }
 }
 
@@ -499,13 +539,12 @@ fn follow<'a>(case: &str, rows: impl Iterator<Item = &'a Row>) {
     let started = library::start(&bytes, 1);
     assert_eq!((started.number, started.position), (0, 0), "{case}");
     assert!(started.state == first_state(1), "{case}");
-    let mut state = started.state;
+    let mut lent = Lent::new(started.state);
     for (k, row) in rows.enumerate() {
-        let got = library::event(state, &bytes, row.event[0], row.event[1]);
-        assert_eq!(numbers(&got), row.answer, "{case}, event {k}");
+        let got = lent.event(&bytes, row.event[0], row.event[1], format_args!("{case}, event {k}"));
+        assert_eq!(numbers(&got.outcome), row.answer, "{case}, event {k}");
         assert_eq!(idle_numbers(got.state), row.idle, "{case}, event {k}");
         assert!(got.state == state_of(row), "{case}, event {k}: another state");
-        state = got.state;
     }
 }
 
@@ -522,11 +561,11 @@ fn p5_to_p7_p10_and_p11() {
     for policy in [1, 2] {
         let first = library::start(&one, policy).state;
         let ran = library::event(first, &one, 0, 0);
-        assert_eq!(numbers(&ran), [0, 1, 0, 0, 0]);
+        assert_eq!(numbers(&ran.outcome), [0, 1, 0, 0, 0]);
         assert_eq!(idle_numbers(ran.state), [65_535, 16, 0]);
         assert_eq!(ran.state.place[..2], [16, 17]);
         let again = library::event(ran.state, &one, 0, 0);
-        assert_eq!(numbers(&again), [9, 0, 0, 0, 0]);
+        assert_eq!(numbers(&again.outcome), [9, 0, 0, 0, 0]);
         assert!(again.state == ran.state);
     }
     // P7, P10 and P11
@@ -537,7 +576,7 @@ fn p5_to_p7_p10_and_p11() {
         let refused = [([1, 0], 12), ([16, 0], 8), ([0, 16], 8), ([16, 16], 8), ([255, 0], 8), ([1, 1], 9), ([0, 1], 11)];
         for (event, number) in refused {
             let got = library::event(first, &s, event[0], event[1]);
-            assert_eq!(numbers(&got), [number, 0, 0, 0, 0], "{event:?}");
+            assert_eq!(numbers(&got.outcome), [number, 0, 0, 0, 0], "{event:?}");
             assert!(got.state == first, "{event:?}");
         }
     }
@@ -547,7 +586,7 @@ fn p5_to_p7_p10_and_p11() {
 fn accept_all(mut state: RunState, tree: &[u8], events: &[[u8; 2]]) -> RunState {
     for (k, event) in events.iter().enumerate() {
         let got = library::event(state, tree, event[0], event[1]);
-        assert_eq!(got.number, 0, "event {k}");
+        assert_eq!(got.outcome.number, 0, "event {k}");
         state = got.state;
     }
     state
@@ -567,7 +606,7 @@ fn nobody_idle_and_then_all() {
         for thief in 0..16 {
             for victim in (0..16).filter(|&victim| victim != thief) {
                 let got = library::event(state, &bytes, thief, victim);
-                assert_eq!(numbers(&got), [11, 0, 0, 0, 0], "policy {policy}, {thief} {victim}");
+                assert_eq!(numbers(&got.outcome), [11, 0, 0, 0, 0], "policy {policy}, {thief} {victim}");
                 assert!(got.state == state, "policy {policy}, {thief} {victim}");
             }
         }
@@ -580,8 +619,8 @@ fn nobody_idle_and_then_all() {
         assert_eq!(idle_numbers(state), [65_535, 16, 0], "policy {policy}");
         assert!(state.place[..31].iter().all(|&place| place == RUN), "policy {policy}");
         for worker in 0..16 {
-            assert_eq!(library::event(state, &bytes, worker, worker).number, 9, "policy {policy}");
-            assert_eq!(library::event(state, &bytes, worker, (worker + 1) % 16).number, 12, "policy {policy}");
+            assert_eq!(library::event(state, &bytes, worker, worker).outcome.number, 9, "policy {policy}");
+            assert_eq!(library::event(state, &bytes, worker, (worker + 1) % 16).outcome.number, 12, "policy {policy}");
         }
     }
 }
@@ -601,19 +640,22 @@ fn a_waiting_worker() {
             assert_eq!(idle_numbers(state), idle, "policy {policy}");
             for (event, number) in [([1, 1], 10), ([1, 0], 11), ([1, 3], 11)] {
                 let got = library::event(state, &bytes, event[0], event[1]);
-                assert_eq!(numbers(&got), [number, 0, 0, 0, 0], "policy {policy}, {event:?}");
+                assert_eq!(numbers(&got.outcome), [number, 0, 0, 0, 0], "policy {policy}, {event:?}");
                 assert!(got.state == state, "policy {policy}, {event:?}");
             }
             state = accept_all(state, &bytes, &[[worker, worker]]);
         }
         assert_eq!(idle_numbers(state), [65_533, 15, 0], "policy {policy}");
         let got = library::event(state, &bytes, 1, 1);
-        assert_eq!(numbers(&got), [0, 1, 1, 4, 0], "policy {policy}");
+        assert_eq!(numbers(&got.outcome), [0, 1, 1, 4, 0], "policy {policy}");
         assert_eq!(idle_numbers(got.state), [65_535, 16, 0], "policy {policy}");
     }
 }
 
 // ---- Any state and any bytes ----
+
+/// All that an outcome does not answer is 0.
+const NOTHING: FrameOutcome = FrameOutcome { number: 0, position: 0, what: 0, phase: 0, step: 0, trace: 0 };
 
 /// The contract of crates/state/specs/Answers.antt. What the tree's bytes say is asked of the library, which is tested on
 /// any bytes elsewhere.
@@ -673,7 +715,7 @@ impl Contract<'_> {
     }
 
     fn refused(&self, number: usize) -> FrameEvent {
-        FrameEvent { number, position: 0, what: 0, phase: 0, step: 0, trace: 0, state: self.state }
+        FrameEvent { outcome: FrameOutcome { number, ..NOTHING }, state: self.state }
     }
 
     fn run(&self, worker: usize) -> FrameEvent {
@@ -704,7 +746,8 @@ impl Contract<'_> {
             next.place[step] = worker as u8;
             next.held[worker] = self.holds(step) as u16;
         }
-        FrameEvent { number: 0, position: 0, what: 1, phase: self.state.phase[worker].into(), step, trace: 0, state: next }
+        let phase = self.state.phase[worker].into();
+        FrameEvent { outcome: FrameOutcome { what: 1, phase, step, ..NOTHING }, state: next }
     }
 
     fn steal(&self, thief: usize, victim: usize) -> FrameEvent {
@@ -737,7 +780,7 @@ impl Contract<'_> {
             trace = usize::from(self.state.base[victim] % 4_096) + self.children(low, oldest) + 1;
             next.base[thief] = trace as u16;
         }
-        FrameEvent { number: 0, position: 0, what: 2, phase: 0, step: 0, trace, state: next }
+        FrameEvent { outcome: FrameOutcome { what: 2, trace, ..NOTHING }, state: next }
     }
 
     fn event(&self, first: u8, second: u8) -> FrameEvent {
@@ -911,19 +954,15 @@ fn as_the_contract_says(
         assert_eq!(library::idle(state), contract.idle(), "{at}");
         let want = contract.event(first, second);
         for given in trees {
-            let got = library::event(state, given, first, second);
-            assert_eq!(numbers(&got), numbers(&want), "{at}: {first} {second}");
-            if got.number != 0 {
+            let got = Lent::new(state).event(given, first, second, at);
+            assert_eq!(got.outcome, want.outcome, "{at}: {first} {second}");
+            if got.outcome.number != 0 {
                 assert!(got.state == state, "{at}: {first} {second}: a refused event changed the state");
             }
             assert!(got.state == want.state, "{at}: {first} {second}: another state");
             assert!(given == tree, "{at}: {first} {second}: the tree was changed");
         }
-        match want.what {
-            1 => seen.runs += 1,
-            2 => seen.steals += 1,
-            _ => seen.refused[want.number] += 1,
-        }
+        seen.count(&want.outcome);
         seen.nobody_idle += usize::from(contract.idle().set == 0);
         state = want.state;
     }
@@ -1021,12 +1060,12 @@ fn too_many_records() {
             for (event, small) in [([0, 0], 0), ([1, 1], 9), ([0, 1], 11), ([1, 0], 12)] {
                 let want = if number == 2 { 2 } else { small };
                 let got = library::event(state, tree, event[0], event[1]);
-                assert_eq!(got.number, want, "{len} bytes, {event:?}");
+                assert_eq!(got.outcome.number, want, "{len} bytes, {event:?}");
                 assert!(want == 0 || got.state == state, "{len} bytes, {event:?}");
             }
             for event in [[16, 16], [16, 0], [0, 16], [255, 0]] {
                 let got = library::event(state, tree, event[0], event[1]);
-                assert_eq!(numbers(&got), [8, 0, 0, 0, 0], "{len} bytes, {event:?}");
+                assert_eq!(numbers(&got.outcome), [8, 0, 0, 0, 0], "{len} bytes, {event:?}");
                 assert!(got.state == state, "{len} bytes, {event:?}");
             }
         }

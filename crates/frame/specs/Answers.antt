@@ -12,7 +12,6 @@ use Rattle.state.specs.declared.Outcome.the-variants.{Ran, Stole, Refused}
 use Rattle.state.specs.declared.Answer.{Answer}
 use Rattle.state.specs.declared.Started.{Started}
 use Rattle.state.specs.declared.Idle.{Idle}
-use Rattle.state.specs.declared.RunState.{RunState}
 use Rattle.stealing.specs.Answers.{numberValue}
 use Rattle.record.specs.declared.Recorded.{Recorded}
 use Rattle.replay.specs.declared.Replayed.{Replayed}
@@ -20,6 +19,7 @@ use Rattle.frame.specs.declared.FrameTree.{FrameTree}
 use Rattle.frame.specs.declared.FrameTask.{FrameTask}
 use Rattle.frame.specs.declared.FrameRunning.{FrameRunning}
 use Rattle.frame.specs.declared.FrameStart.{FrameStart}
+use Rattle.frame.specs.declared.FrameOutcome.{FrameOutcome}
 use Rattle.frame.specs.declared.FrameEvent.{FrameEvent}
 use Rattle.frame.specs.declared.FrameIdle.{FrameIdle}
 use Rattle.frame.specs.declared.FrameRecord.{FrameRecord}
@@ -44,13 +44,13 @@ abbrev pub flatStart : Started → FrameStart
 flatStart a = record { number = a .number; position = a .position; state = a .state }
 
 -- "A refused single event hands back the state it got, with position 0."
-abbrev pub flatOutcome : Outcome → RunState → FrameEvent
-flatOutcome (Ran phase step) s = record { number = 0; position = 0; what = 1; phase = phase .0; step = step .0; trace = 0; state = s }
-flatOutcome (Stole number) s = record { number = 0; position = 0; what = 2; phase = 0; step = 0; trace = numberValue number; state = s }
-flatOutcome (Refused number) s = record { number = number; position = 0; what = 0; phase = 0; step = 0; trace = 0; state = s }
+abbrev pub flatOutcome : Outcome → FrameOutcome
+flatOutcome (Ran phase step) = record { number = 0; position = 0; what = 1; phase = phase .0; step = step .0; trace = 0 }
+flatOutcome (Stole number) = record { number = 0; position = 0; what = 2; phase = 0; step = 0; trace = numberValue number }
+flatOutcome (Refused number) = record { number = number; position = 0; what = 0; phase = 0; step = 0; trace = 0 }
 
 abbrev pub flatEvent : Answer → FrameEvent
-flatEvent a = flatOutcome (a .outcome) (a .state)
+flatEvent a = record { outcome = flatOutcome (a .outcome); state = a .state }
 
 abbrev pub flatIdle : Idle → FrameIdle
 flatIdle a = record { set = a .set; count = a .count; lowest = a .lowest }

@@ -9,7 +9,7 @@ ghost use Rattle.state.specs.Answers.{startAnswer, eventAnswer, idleAnswer};
 ghost use Rattle.rules.specs.Calls.{recordCall, replayCall};
 ghost use Rattle.record.specs.Answers.{answers};
 ghost use Rattle.replay.specs.Answers.{answers as replayAnswers};
-ghost use Rattle.frame.specs.Answers.{flatTree, flatTask, flatChild, flatRunning, flatStart, flatEvent, flatIdle, flatRecord, flatReplay};
+ghost use Rattle.frame.specs.Answers.{flatTree, flatTask, flatChild, flatRunning, flatStart, flatOutcome, flatEvent, flatIdle, flatRecord, flatReplay};
 use state::Outcome;
 use state::RunState;
 use tree::Step;
@@ -136,16 +136,52 @@ pub extern "C" fn frame_start(tree: &[u8], policy: u8) -> FrameStart
 }
 
 // An event's refusal and position, which is always 0, or what it did: `what` is 1 for a run, of `step` in `phase`, and 2 for a
-// steal, whose trace record has `trace`. What is not answered is 0. The state is the next one, and after a refusal the very state
-// given.
+// steal, whose trace record has `trace`. What is not answered is 0.
 #[repr(C)]
-pub struct FrameEvent {
+pub struct FrameOutcome {
     pub number: usize,
     pub position: usize,
     pub what: usize,
     pub phase: usize,
     pub step: usize,
     pub trace: usize,
+}
+
+fn flat_outcome(outcome: Outcome) -> FrameOutcome
+    ensures { λ r. ⌜ r ≡ flatOutcome outcome ⌝ }
+{
+    match outcome {
+        Outcome::Ran { phase, step } => FrameOutcome {
+            number: 0,
+            position: 0,
+            what: 1,
+            phase: phase.0,
+            step: step.0,
+            trace: 0,
+        },
+        Outcome::Stole(number) => FrameOutcome {
+            number: 0,
+            position: 0,
+            what: 2,
+            phase: 0,
+            step: 0,
+            trace: stealing::number_of(number),
+        },
+        Outcome::Refused(number) => FrameOutcome {
+            number: number as usize,
+            position: 0,
+            what: 0,
+            phase: 0,
+            step: 0,
+            trace: 0,
+        },
+    }
+}
+
+// An event's outcome with the next state, which after a refusal is the very state given.
+#[repr(C)]
+pub struct FrameEvent {
+    pub outcome: FrameOutcome,
     pub state: RunState,
 }
 
@@ -155,37 +191,28 @@ pub extern "C" fn frame_event(state: RunState, tree: &[u8], first: u8, second: u
     ensures { λ r. ⌜ r ≡ flatEvent (eventAnswer state (now (tree .entry)) first second) ⌝ }
 {
     let a = state.event(tree, first, second);
-    let state = a.state;
     let outcome = a.outcome;
-    match outcome {
-        Outcome::Ran { phase, step } => FrameEvent {
-            number: 0,
-            position: 0,
-            what: 1,
-            phase: phase.0,
-            step: step.0,
-            trace: 0,
-            state,
-        },
-        Outcome::Stole(number) => FrameEvent {
-            number: 0,
-            position: 0,
-            what: 2,
-            phase: 0,
-            step: 0,
-            trace: stealing::number_of(number),
-            state,
-        },
-        Outcome::Refused(number) => FrameEvent {
-            number: number as usize,
-            position: 0,
-            what: 0,
-            phase: 0,
-            step: 0,
-            trace: 0,
-            state,
-        },
+    let state = a.state;
+    FrameEvent {
+        outcome: flat_outcome(outcome),
+        state,
     }
+}
+
+// The same on a state that the host lends: it is the next state then, and after a refusal it is as it was.
+#[no_mangle]
+pub extern "C" fn frame_event_in_place(
+    state: &mut RunState,
+    tree: &[u8],
+    first: u8,
+    second: u8,
+) -> FrameOutcome
+    ensures answers { λ r. ⌜ r ≡ flatOutcome (eventAnswer (now (state .entry)) (now (tree .entry)) first second .outcome) ⌝ }
+    ensures state { λ r. ⌜ now (state .exit) ≡ eventAnswer (now (state .entry)) (now (tree .entry)) first second .state ⌝ }
+{
+    let a = RunState::event(*state, tree, first, second);
+    *state = a.state;
+    flat_outcome(a.outcome)
 }
 
 // The idle workers: worker w is bit w of `set`; how many; the lowest, 16 for none.

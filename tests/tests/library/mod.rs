@@ -57,14 +57,20 @@ pub struct FrameStart {
 }
 
 #[repr(C)]
-#[derive(Clone, Copy, PartialEq, Eq)]
-pub struct FrameEvent {
+#[derive(Clone, Copy, Debug, PartialEq, Eq)]
+pub struct FrameOutcome {
     pub number: usize,
     pub position: usize,
     pub what: usize,
     pub phase: usize,
     pub step: usize,
     pub trace: usize,
+}
+
+#[repr(C)]
+#[derive(Clone, Copy, PartialEq, Eq)]
+pub struct FrameEvent {
+    pub outcome: FrameOutcome,
     pub state: RunState,
 }
 
@@ -128,7 +134,9 @@ impl From<ReplayAnswer> for FrameReplay {
 }
 
 mod c {
-    use super::{FrameEvent, FrameIdle, FrameRecord, FrameReplay, FrameRunning, FrameStart, FrameTask, FrameTree, RunState};
+    use super::{
+        FrameEvent, FrameIdle, FrameOutcome, FrameRecord, FrameReplay, FrameRunning, FrameStart, FrameTask, FrameTree, RunState,
+    };
 
     extern "C" {
         pub fn frame_tree(tree: *const u8, len: usize) -> FrameTree;
@@ -140,6 +148,7 @@ mod c {
         pub fn frame_running(tree: *const u8, len: usize, policy: u8, step: usize) -> FrameRunning;
         pub fn frame_start(tree: *const u8, len: usize, policy: u8) -> FrameStart;
         pub fn frame_event(state: RunState, tree: *const u8, len: usize, first: u8, second: u8) -> FrameEvent;
+        pub fn frame_event_in_place(state: *mut RunState, tree: *const u8, len: usize, first: u8, second: u8) -> FrameOutcome;
         pub fn frame_idle(state: RunState) -> FrameIdle;
         pub fn frame_record(
             tree: *const u8,
@@ -200,6 +209,10 @@ pub fn start(tree: &[u8], policy: u8) -> FrameStart {
 
 pub fn event(state: RunState, tree: &[u8], first: u8, second: u8) -> FrameEvent {
     unsafe { c::frame_event(state, tree.as_ptr(), tree.len(), first, second) }
+}
+
+pub fn event_in_place(state: &mut RunState, tree: &[u8], first: u8, second: u8) -> FrameOutcome {
+    unsafe { c::frame_event_in_place(state, tree.as_ptr(), tree.len(), first, second) }
 }
 
 pub fn idle(state: RunState) -> FrameIdle {
