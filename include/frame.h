@@ -48,24 +48,25 @@ enum {
     FRAME_HELP_FIRST = 2
 };
 
-/* The refusals. In a debugger, a cast to FrameRefusal shows the name of a number. */
+/* The refusals. 3 to 5 and 8 to 15 have the position of a record, but 5 has n where the root is still open. In a debugger, a cast
+ * to FrameRefusal shows a number's name. */
 typedef enum FrameRefusal {
     FRAME_ACCEPTED = 0,
     FRAME_REFUSED_POLICY = 1,        /* the policy is neither 1 nor 2 */
     FRAME_REFUSED_TREE_LENGTH = 2,   /* the tree is empty, not whole records, or longer than 32,760 bytes */
-    FRAME_REFUSED_TREE_RECORD = 3,   /* a tree record has another kind or a non-zero byte 1 to 3; position: the record */
-    FRAME_REFUSED_OPEN_TASKS = 4,    /* a tree record opens a task while 64 are open; position: the record */
-    FRAME_REFUSED_ROOT = 5,          /* a record follows the root's end; position: the record. Or the root is still open; n */
+    FRAME_REFUSED_TREE_RECORD = 3,   /* a tree record has another kind or a non-zero byte 1 to 3 */
+    FRAME_REFUSED_OPEN_TASKS = 4,    /* a tree record opens a task while 64 are open */
+    FRAME_REFUSED_ROOT = 5,          /* a record follows the root's end; or the root is still open at the end */
     FRAME_REFUSED_INPUT_LENGTH = 6,  /* the events or the trace are not whole records or too many */
-    FRAME_REFUSED_OUTPUT_LENGTH = 7, /* a lent output is short */
-    FRAME_REFUSED_WORKER = 8,        /* a record names worker 16 or higher; position: the record, here and below */
+    FRAME_REFUSED_OUTPUT_LENGTH = 7, /* a lent output is short: 4 n bytes for log or run list, 2 (n - 1) for a trace */
+    FRAME_REFUSED_WORKER = 8,        /* a record names worker 16 or higher */
     FRAME_REFUSED_IDLE = 9,          /* a run event names an idle worker */
-    FRAME_REFUSED_WAITS = 10,        /* a run event names a worker that waits for a finish child */
+    FRAME_REFUSED_WAITS = 10,        /* a run event names a worker that waits */
     FRAME_REFUSED_THIEF = 11,        /* a steal's thief holds a step */
     FRAME_REFUSED_DEQUE = 12,        /* a steal's victim has an empty deque */
     FRAME_REFUSED_SAME_WORKER = 13,  /* in a trace, thief and victim are equal */
     FRAME_REFUSED_NO_PHASE = 14,     /* in a trace, the victim has had no phase */
-    FRAME_REFUSED_NUMBER = 15        /* in a trace, the number names no step that could be stolen there */
+    FRAME_REFUSED_NUMBER = 15        /* in a trace, the number breaks the rule of "Trace" */
 } FrameRefusal;
 
 /* What an event did. */
@@ -81,7 +82,8 @@ enum {
     FRAME_NO_STEP = 65535
 };
 
-/* The state of a run. The caller keeps it and may copy and read it; frame_start makes it and only events change it. */
+/* The state of a run. frame_start makes it and only events change it; the caller keeps it, and may copy and read it. Two of its
+ * bytes are padding, so compare fields and not memory. */
 typedef struct FrameState {
     uint8_t place[FRAME_MOST_STEPS]; /* for each step FRAME_PLACE_NOT_RUN, FRAME_PLACE_RUN, or the worker in whose deque
                                         the step is that it pushed */
@@ -159,8 +161,9 @@ FrameRecord frame_record(const uint8_t *tree, size_t tree_len, uint8_t policy, c
                          uint8_t *log, size_t log_len, uint8_t *trace, size_t trace_len);
 
 /* Reads a trace back into phases. The list gets a record for each of the n steps, phase 0 first, each phase in the order in which
- * it runs; the bytes beyond keep what they held. Phase 0 is worker 0's, phase k the thief's of trace record k - 1. trace_len is that
- * of the records alone, list_len at least FRAME_LIST_BYTES(n). Refuses with 1 to 8 and 13 to 15. */
+ * it runs; the bytes beyond keep what they held. Phase 0 is worker 0's, phase k the thief's of trace record k - 1. trace_len is
+ * 4 bytes for each record, not all that was lent to frame_record; list_len is at least FRAME_LIST_BYTES(n). Refuses with 1 to 8
+ * and 13 to 15. */
 FrameReplay frame_replay(const uint8_t *tree, size_t tree_len, uint8_t policy, const uint8_t *trace, size_t trace_len,
                          uint8_t *list, size_t list_len);
 
