@@ -35,15 +35,15 @@ fn rust_text(name: &str) -> String {
     text(name).lines().map(|line| line.split("//").next().unwrap_or("").to_owned() + "\n").collect()
 }
 
-/// C's text without comments and without the preprocessor's lines.
-fn c_text(name: &str) -> String {
-    let whole = text(name);
+/// The header's text without comments.
+fn header_text() -> String {
+    let whole = text(HEADER);
     let mut pieces = whole.split("/*");
     let mut plain = pieces.next().unwrap_or("").to_owned();
     for piece in pieces {
         plain += piece.split_once("*/").expect("every comment ends").1;
     }
-    plain.lines().filter(|line| !line.starts_with('#')).map(|line| line.to_owned() + "\n").collect()
+    plain
 }
 
 // ---- Functions ----
@@ -103,9 +103,10 @@ fn rust_functions() -> BTreeSet<String> {
 
 /// What the header declares.
 fn header_functions() -> BTreeSet<String> {
-    let whole = c_text(HEADER);
+    let whole = header_text();
+    let declared: Vec<&str> = whole.lines().filter(|line| !line.starts_with('#')).collect();
     let mut functions = BTreeSet::new();
-    for declaration in whole.split(';') {
+    for declaration in declared.join("\n").split(';') {
         let Some((before, after)) = declaration.split_once('(') else { continue };
         let (result, name) = before.trim().rsplit_once([' ', '\n']).unwrap_or(("", before.trim()));
         if name == "static_assert" {
@@ -239,13 +240,11 @@ fn the_refusals_of_the_format() {
     assert_eq!(named.collect::<Vec<_>>(), rows);
 }
 
-/// The names of the header that stand for a number.
+/// The names of the header that stand for a number: all in capitals but the include guard.
 fn header_names() -> BTreeSet<String> {
-    let whole = text(HEADER);
-    let defined = whole.lines().filter_map(|line| line.strip_prefix("#define "));
-    let defined = defined.filter_map(|rest| Some(rest.split_once([' ', '('])?.0));
-    let counted = whole.lines().filter_map(|line| Some(line.split_once(" = ")?.0.trim()));
-    defined.chain(counted).map(str::to_owned).collect()
+    let whole = header_text();
+    let words = whole.split(|letter: char| !letter.is_ascii_alphanumeric() && letter != '_');
+    words.filter(|word| word.starts_with("FRAME_") && *word != "FRAME_H").map(str::to_owned).collect()
 }
 
 /// What `tests/c/layout.c` prints: a name and its numbers on each line.
