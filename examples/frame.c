@@ -1,5 +1,6 @@
 /* The library from C: runs tree S of docs/FORMAT.md event by event, records the same events, and replays their trace.
  * README.md says how to build it; examples/frame.txt is what it prints. */
+#include <inttypes.h>
 #include <stdio.h>
 
 #include "frame.h"
@@ -25,9 +26,9 @@ static void put_step(uint8_t *record, uint8_t kind, uint32_t weight)
         record[4 + i] = (uint8_t)(weight >> (8 * i));
 }
 
-static unsigned two_bytes(const uint8_t *at)
+static size_t two_bytes(const uint8_t *at)
 {
-    return at[0] + 256u * at[1];
+    return at[0] + (size_t)256 * at[1];
 }
 
 #define NAME(refusal) case refusal: return #refusal
@@ -68,7 +69,7 @@ int main(void)
     uint8_t tree[FRAME_TREE_BYTES(STEPS)], log[FRAME_LOG_BYTES(STEPS)];
     uint8_t trace[FRAME_TRACE_BYTES(STEPS)], list[FRAME_LIST_BYTES(STEPS)];
 
-    for (int step = 0; step < STEPS; step++)
+    for (size_t step = 0; step < STEPS; step++)
         put_step(tree + 8 * step, kinds[step], 1);
 
     /* Live: one call for each event, on a state that the host keeps. */
@@ -76,7 +77,7 @@ int main(void)
     if (refused("the start", start.number, start.position))
         return 1;
     FrameState state = start.state;
-    for (int i = 0; i < EVENTS; i++) {
+    for (size_t i = 0; i < EVENTS; i++) {
         uint8_t first = events[2 * i], second = events[2 * i + 1];
         FrameOutcome did = frame_event_in_place(&state, tree, sizeof tree, first, second);
         if (refused("an event", did.number, did.position))
@@ -96,10 +97,10 @@ int main(void)
         return 1;
     printf("\n%zu steps in the log, %s\n", recorded.logs, recorded.finished ? "finished" : "not finished");
     for (size_t i = 0; i < recorded.steals; i++)
-        printf("trace: %d takes from %d number %u\n", trace[4 * i], trace[4 * i + 1], two_bytes(trace + 4 * i + 2));
+        printf("trace: %d takes from %d number %zu\n", trace[4 * i], trace[4 * i + 1], two_bytes(trace + 4 * i + 2));
     for (int worker = 0; worker < FRAME_WORKERS; worker++)
         if (recorded.loads[worker] > 0)
-            printf("worker %d has load %llu\n", worker, (unsigned long long)recorded.loads[worker]);
+            printf("worker %d has load %" PRIu64 "\n", worker, recorded.loads[worker]);
     printf("worker %zu is the heaviest\n", recorded.heaviest);
 
     /* The trace back into phases: phase 0 is worker 0's, a later one the thief's of the trace record before it. */
@@ -107,9 +108,9 @@ int main(void)
     if (refused("replay", replayed.number, replayed.position))
         return 1;
     printf("\nphase worker step\n");
-    for (int i = 0; i < STEPS; i++) {
-        unsigned phase = two_bytes(list + 4 * i);
-        printf("%u %d %u\n", phase, phase == 0 ? 0 : trace[4 * (phase - 1)], two_bytes(list + 4 * i + 2));
+    for (size_t i = 0; i < STEPS; i++) {
+        size_t phase = two_bytes(list + 4 * i);
+        printf("%zu %d %zu\n", phase, phase == 0 ? 0 : trace[4 * (phase - 1)], two_bytes(list + 4 * i + 2));
     }
 
     /* A trace whose second record is damaged. The list keeps its bytes. */
