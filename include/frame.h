@@ -1,4 +1,4 @@
-/* The C interface of the library, for C11 and C++11 or later on x86-64: link libframe.a, which needs memcpy and memset alone.
+/* The C interface of the library, for C11 and C++11 or later on x86-64 Linux: link libframe.a, which needs memcpy and memset alone.
  * docs/FORMAT.md has the formats of tree, events, trace, log and run list, and the rules; examples/frame.c is an example.
  *
  * What holds of every call:
@@ -6,7 +6,7 @@
  * - A pointer and the length after it, in bytes, are one buffer of the caller's. A pointer of length 0 may be NULL.
  * - A buffer that is not const overlaps no other buffer of the same call. A call writes to no other memory of the caller's.
  * - A refusal is a number, FRAME_REFUSED_.., and a position, which is that of a record where the refusal names one and else 0.
- *   All other results are 0 then, and no byte of a buffer has changed.
+ *   All other results are 0 then, but for the state that frame_event hands back, and no byte of a buffer has changed.
  * - It allocates nothing, and keeps nothing: there is no global state. Calls may run at the same time in several threads where
  *   none writes a buffer that another one uses; a tree is only read, so one may serve them all.
  * - It uses less than FRAME_STACK_BYTES of stack. Record and replay come near to that, the others do not. */
@@ -208,7 +208,7 @@ FrameRunning frame_running(const uint8_t *tree, size_t tree_len, uint8_t policy,
 
 /* Where this fails the structs are not those of libframe.a: another machine, or packed by a pragma. */
 static_assert(sizeof(FrameState) == 4228 && sizeof(FrameEvent) == 4280 && sizeof(FrameRecord) == 176,
-              "frame.h is for x86-64 and structs that are not packed");
+              "frame.h is for x86-64 Linux and structs that are not packed");
 
 #ifdef __cplusplus
 }

@@ -1,5 +1,5 @@
-//! The library's interface is declared three times: in its source, in the C header and, for these tests, in Rust. These tests hold
-//! the three together: functions, structs, constants and refusals. They need `gcc`.
+//! The library's interface is declared three times: in its source, in the C header and, for the tests, in Rust. These tests hold
+//! the three together, and the tables of docs/FORMAT.md with them: functions, structs, constants and refusals. They need `gcc`.
 
 mod library;
 
@@ -44,6 +44,14 @@ fn header_text() -> String {
         plain += piece.split_once("*/").expect("every comment ends").1;
     }
     plain
+}
+
+/// The rows of a table of FORMAT.md.
+fn format_rows(heading: &str) -> Vec<Vec<String>> {
+    let whole = text("docs/FORMAT.md");
+    let table = whole.split_once(&format!("\n{heading}\n")).unwrap_or_else(|| panic!("there is no table {heading}")).1;
+    let rows = table.lines().skip(1).take_while(|row| row.starts_with('|'));
+    rows.map(|row| row.trim_matches('|').split('|').map(|cell| cell.trim().to_owned()).collect()).collect()
 }
 
 // ---- Functions ----
@@ -183,6 +191,30 @@ fn layout() -> BTreeMap<String, Vec<usize>> {
     lines
 }
 
+/// Offset and size of a struct's fields, in their order.
+fn fields(name: &str) -> Vec<Vec<usize>> {
+    let of_it = |(field, place): (String, Vec<usize>)| field.starts_with(&format!("{name}.")).then_some(place);
+    let mut places: Vec<_> = layout().into_iter().filter_map(of_it).collect();
+    places.sort();
+    places
+}
+
+/// Offset and bytes in the columns of a table of FORMAT.md, where there is an offset.
+fn format_fields(heading: &str, offset: usize, bytes: usize) -> Vec<Vec<usize>> {
+    let factor = |word: &str| word.parse::<usize>().expect("it is a number");
+    let number = |cell: &str| cell.replace(',', "").split(" × ").map(factor).product();
+    let rows = format_rows(heading).into_iter().filter(|row| !row[offset].is_empty());
+    rows.map(|row| vec![number(&row[offset]), number(&row[bytes])]).collect()
+}
+
+#[test]
+fn the_layouts_of_the_format() {
+    assert_eq!(format_fields("| offset | bytes | meaning |", 0, 1), fields("FrameState"));
+    let answers = "| offset, record | offset, replay | bytes | meaning |";
+    assert_eq!(format_fields(answers, 0, 2), fields("FrameRecord"));
+    assert_eq!(format_fields(answers, 1, 2), fields("FrameReplay"));
+}
+
 // ---- Constants ----
 
 /// What a name of the header stands for, apart from the refusals.
@@ -228,13 +260,8 @@ fn header_refusals() -> Vec<(usize, String, String)> {
 
 #[test]
 fn the_refusals_of_the_format() {
-    let format = text("docs/FORMAT.md");
-    let table = format.split_once("| number | condition | position |\n|---|---|---|\n").expect("there is a table of refusals").1;
-    let rows = table.lines().take_while(|row| row.starts_with('|')).map(|row| {
-        let cells: Vec<&str> = row.split('|').map(str::trim).collect();
-        (cells[1].parse().expect("it is a number"), cells[2].to_owned())
-    });
-    let rows: Vec<(usize, String)> = rows.collect();
+    let refusal = |row: Vec<String>| (row[0].parse().expect("it is a number"), row[1].clone());
+    let rows: Vec<(usize, String)> = format_rows("| number | condition | position |").into_iter().map(refusal).collect();
     assert_eq!(rows.iter().map(|row| row.0).collect::<Vec<_>>(), (1..=15).collect::<Vec<_>>());
     let named = header_refusals().into_iter().map(|(number, _, condition)| (number, condition));
     assert_eq!(named.collect::<Vec<_>>(), rows);
