@@ -7,9 +7,9 @@
  * - A buffer that is not const overlaps no other buffer of the same call. A call writes to no other memory of the caller's.
  * - A refusal is a number, FRAME_REFUSED_.., and a position, which is that of a record where the refusal names one and else 0.
  *   All other results are 0 then, but for the state that frame_event hands back, and no byte of a buffer has changed.
- * - It allocates nothing, and keeps nothing: there is no global state. Calls may run at the same time in several threads where
+ * - A call allocates nothing and keeps nothing: there is no global state. Calls may run at the same time in several threads where
  *   none writes a buffer that another one uses; a tree is only read, so one may serve them all.
- * - It uses less than FRAME_STACK_BYTES of stack. Record and replay come near to that, the others do not. */
+ * - A call uses less than FRAME_STACK_BYTES of stack. Record and replay come near to that, the others do not. */
 #ifndef FRAME_H
 #define FRAME_H
 
@@ -29,7 +29,7 @@ extern "C" {
 #define FRAME_MOST_STEALS 2047  /* records of a trace */
 #define FRAME_STACK_BYTES 98304 /* 96 KB */
 
-/* The bytes of a tree of n steps, and what record and replay ask of the buffers lent for it. A trace of one step has 0. */
+/* The bytes of a tree of n steps, and those that record and replay ask of the buffers lent for it. For one step a trace needs 0. */
 #define FRAME_TREE_BYTES(n) (8u * (n))
 #define FRAME_LOG_BYTES(n) (4u * (n))
 #define FRAME_TRACE_BYTES(n) (2u * ((n) - 1u))
@@ -142,33 +142,33 @@ typedef struct FrameReplay {
 /* Begins a run: worker 0 holds step 0, the others are idle. Refuses with 1 to 5; the state is all 0 then. */
 FrameStart frame_start(const uint8_t *tree, size_t tree_len, uint8_t policy);
 
-/* One event: with first and second equal that worker runs the step that it holds, else first steals from second. Refuses with
- * 8 to 12. The answer's state is the next one, after a refusal the state given. Afterwards state.held[first] is the step that
- * first holds. Give the state that the start or the latest event handed back, and the tree of the start; the answer on any
- * other state or tree means nothing. */
+/* One event: with first and second equal that worker runs the step that it holds, else first steals from second. The answer's
+ * state is the next one; where the event is accepted, its held[first] is the step that first holds now. Refuses with 8 to 12; the
+ * state is then the one given, and the run can go on with it. Give the state that the start or the latest event handed back, and
+ * the tree of the start: on any other the answer means nothing. */
 FrameEvent frame_event(FrameState state, const uint8_t *tree, size_t tree_len, uint8_t first, uint8_t second);
 
-/* The same event on a state where it stands, which is not NULL: *state becomes the next state, and stays after a refusal. */
+/* The same on a state where it stands: *state becomes the next state, and stays as it is after a refusal. It is not NULL. */
 FrameOutcome frame_event_in_place(FrameState *state, const uint8_t *tree, size_t tree_len, uint8_t first, uint8_t second);
 
 /* The workers that hold no step. It never refuses. A worker that waits is not idle. */
 FrameIdle frame_idle(FrameState state);
 
 /* Runs a whole list of events from a start of its own. The log gets a record for each run, the trace one for each steal; the bytes
- * beyond them keep what they held. log_len is at least FRAME_LOG_BYTES(n) and trace_len FRAME_TRACE_BYTES(n), however few the
- * events. Refuses with 1 to 12. */
+ * beyond them keep what they held. log_len must be at least FRAME_LOG_BYTES(n) and trace_len FRAME_TRACE_BYTES(n), however
+ * few the events. Refuses with 1 to 12. */
 FrameRecord frame_record(const uint8_t *tree, size_t tree_len, uint8_t policy, const uint8_t *events, size_t events_len,
                          uint8_t *log, size_t log_len, uint8_t *trace, size_t trace_len);
 
 /* Reads a trace back into phases. The list gets a record for each of the n steps, phase 0 first, each phase in the order in which
  * it runs; the bytes beyond keep what they held. Phase 0 is worker 0's, phase k the thief's of trace record k - 1. trace_len is
- * 4 bytes for each record, not all that was lent to frame_record; list_len is at least FRAME_LIST_BYTES(n). Refuses with 1 to 8
- * and 13 to 15. */
+ * 4 bytes for each record, not all that was lent to frame_record; list_len must be at least FRAME_LIST_BYTES(n). Refuses with 1 to
+ * 8 and 13 to 15. */
 FrameReplay frame_replay(const uint8_t *tree, size_t tree_len, uint8_t policy, const uint8_t *trace, size_t trace_len,
                          uint8_t *list, size_t list_len);
 
-/* Questions about a tree. frame_tree says whether it is one; the others refuse nothing, scan the tree at each call, and mean
- * something where frame_tree accepts it and the step is one of its own. */
+/* Questions about a tree. frame_tree says whether it is one. The others refuse nothing and read the tree again at each call; where
+ * frame_tree refuses it, or it has no such step, their answers mean nothing beyond what is said below. */
 
 typedef struct FrameTree {
     size_t number;
@@ -182,7 +182,7 @@ typedef struct FrameTask {
 } FrameTask;
 
 typedef struct FrameRunning {
-    size_t opens; /* 1 where the step opens a child; for an end all three are 0 */
+    size_t opens; /* 1 where the step opens a child; for an end, or no such step, all three are 0 */
     size_t hold;  /* the step that its worker holds next */
     size_t push;  /* the step that it pushes */
 } FrameRunning;
