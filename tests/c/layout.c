@@ -1,4 +1,4 @@
-/* Prints the sizes, offsets and constants of frame.h; tests/header.rs compares them with the Rust declarations. */
+/* Prints the sizes, offsets and constants of frame.h; tests/tests/header.rs compares them with the Rust declarations. */
 #include <stdio.h>
 
 #include "../../include/frame.h"
