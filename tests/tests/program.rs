@@ -177,11 +177,11 @@ fn stored() -> Vec<Stored> {
     [listings(), refusals(), cuts()].concat()
 }
 
-/// The folder holds these examples and no others, and both programs print what stands there.
+/// The folder holds these examples and no others, but for the one in C, and both programs print what stands there.
 #[test]
 fn stored_examples() {
     let folder = root().join("examples");
-    let mut names = BTreeSet::new();
+    let mut names = BTreeSet::from(["frame.c", "frame.txt"].map(str::to_owned));
     for (name, input, text) in stored() {
         let read = |end: &str| {
             let file = format!("{name}.{end}");

@@ -1,0 +1,49 @@
+/* A buffer of length 0 may be NULL, in every call. Prints the line of each expectation that fails. */
+#include <stdio.h>
+
+#include "../../include/frame.h"
+
+static int failures;
+
+static void expect(int holds, int line)
+{
+    if (!holds) {
+        printf("tests/c/empty.c:%d\n", line);
+        failures++;
+    }
+}
+
+#define EXPECT(holds) expect(holds, __LINE__)
+
+int main(void)
+{
+    const uint8_t one[8] = { FRAME_END };
+    uint8_t bytes[4] = { 1, 2, 3, 4 };
+
+    /* No tree. */
+    EXPECT(frame_tree(NULL, 0).number == FRAME_REFUSED_TREE_LENGTH);
+    EXPECT(frame_start(NULL, 0, FRAME_WORK_FIRST).number == FRAME_REFUSED_TREE_LENGTH);
+    EXPECT(frame_record(NULL, 0, FRAME_WORK_FIRST, NULL, 0, NULL, 0, NULL, 0).number == FRAME_REFUSED_TREE_LENGTH);
+    EXPECT(frame_replay(NULL, 0, FRAME_WORK_FIRST, NULL, 0, NULL, 0).number == FRAME_REFUSED_TREE_LENGTH);
+    EXPECT(frame_kind(NULL, 0, 0) == 0 && frame_weight(NULL, 0, 0) == 0 && frame_cont(NULL, 0, 0) == 0);
+    EXPECT(frame_task(NULL, 0, 0).first == 0 && frame_finish_before(NULL, 0, 0) == 0);
+    EXPECT(frame_running(NULL, 0, FRAME_HELP_FIRST, 0).opens == 0);
+
+    /* A step that the tree has not is none: the worker is idle. */
+    FrameState state = frame_start(one, sizeof one, FRAME_WORK_FIRST).state;
+    EXPECT(frame_event(state, NULL, 0, 0, 0).outcome.number == FRAME_REFUSED_IDLE);
+    EXPECT(frame_event_in_place(&state, NULL, 0, 0, 0).number == FRAME_REFUSED_IDLE);
+
+    /* One step: no events, and a trace of no records. */
+    FrameRecord recorded = frame_record(one, sizeof one, FRAME_HELP_FIRST, NULL, 0, bytes, sizeof bytes, NULL, 0);
+    EXPECT(recorded.number == FRAME_ACCEPTED && recorded.logs == 0 && recorded.finished == 0 && bytes[0] == 1);
+    FrameReplay replayed = frame_replay(one, sizeof one, FRAME_HELP_FIRST, NULL, 0, bytes, sizeof bytes);
+    EXPECT(replayed.number == FRAME_ACCEPTED && replayed.phases == 1 && bytes[0] == 0 && bytes[3] == 0);
+
+    /* No room. */
+    recorded = frame_record(one, sizeof one, FRAME_HELP_FIRST, NULL, 0, NULL, 0, NULL, 0);
+    EXPECT(recorded.number == FRAME_REFUSED_OUTPUT_LENGTH);
+    replayed = frame_replay(one, sizeof one, FRAME_HELP_FIRST, NULL, 0, NULL, 0);
+    EXPECT(replayed.number == FRAME_REFUSED_OUTPUT_LENGTH);
+    return failures > 0;
+}
