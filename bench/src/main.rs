@@ -1,0 +1,438 @@
+//! Prints the tables of the benchmarks. `bench/run` builds all that they need and runs this; its words go here:
+//!
+//! - `record`, `replay`, `event`: only these tables
+//! - `--instructions`: instruction counts in place of times
+//! - `--call WHAT CONTESTANT SHAPE POLICY WORKERS`: one call on a tree of the largest count, for whoever counts its instructions
+
+use std::hint::black_box;
+
+use frame_bench::cases::{schedule, tree, Shape, COUNTS, LARGEST, POLICIES, SHAPES, WORKERS};
+use frame_bench::library::{self, FrameRecord, FrameReplay, RunState};
+use frame_bench::times::{divided, geometric_mean, least, medians, most, turn, turn_after};
+use frame_bench::tuned;
+use frame_tests::random::robbed_in_turn;
+use frame_tests::record::{record, record_to_vecs, EVENT_BYTES};
+use frame_tests::replay::{replay, MAX_TRACE, TRACE_BYTES};
+use frame_tests::tree::{MAX_OPEN, TREE_RECORD};
+use frame_tests::{Policy, Run};
+
+// ---- Tables ----
+
+/// What tells cases of one table apart.
+struct Row {
+    shape: &'static str,
+    n: usize,
+    policy: &'static str,
+    workers: usize,
+    units: usize,
+    steals: usize,
+}
+
+/// The columns after the first, the tuned baseline, which all ratios of the library are taken to. The last is the simulator.
+struct Table<const N: usize> {
+    columns: [&'static str; N],
+    /// For each size the times of its cases, by column.
+    sizes: Vec<(usize, [Vec<f64>; N])>,
+}
+
+impl<const N: usize> Table<N> {
+    /// Prints the heading. `units` is what a time is divided by.
+    fn new(what: &str, units: &str, columns: [&'static str; N]) -> Table<N> {
+        println!("{what}, ns per {}:", &units[..units.len() - 1]);
+        print!("{:9}{:>5}  {:10}{:>8}{units:>8}{:>8}", "shape", "n", "policy", "workers", "steals");
+        Table::<N>::headings(&columns);
+        Table { columns, sizes: Vec::new() }
+    }
+
+    fn headings(columns: &[&'static str; N]) {
+        columns.iter().for_each(|column| print!("{column:>11}"));
+        columns[1..N - 1].iter().for_each(|column| print!("{:>17}", format!("{column}/tuned")));
+        println!("{:>17}", format!("simulator/{}", columns[1]));
+    }
+
+    /// Ratios of the library's columns to the baseline, and of the simulator to the first of them.
+    fn ratios(times: &[Vec<f64>; N]) -> Vec<Vec<f64>> {
+        let to_tuned = times[1..N - 1].iter().map(|library| divided(library, &times[0]));
+        to_tuned.chain([divided(&times[N - 1], &times[1])]).collect()
+    }
+
+    /// Prints a case's line.
+    fn line(&mut self, row: &Row, times: [f64; N]) {
+        self.print(row, times);
+        if self.sizes.last().is_none_or(|(n, _)| *n != row.n) {
+            self.sizes.push((row.n, [const { Vec::new() }; N]));
+        }
+        let (_, size) = self.sizes.last_mut().expect("a size was pushed");
+        size.iter_mut().zip(times).for_each(|(times, time)| times.push(time));
+    }
+
+    /// The line alone: the case does not count in the means.
+    fn print(&self, row: &Row, times: [f64; N]) {
+        let Row { shape, n, policy, workers, units, steals } = row;
+        print!("{shape:9}{n:>5}  {policy:10}{workers:>8}{units:>8}{steals:>8}");
+        times.iter().for_each(|time| print!("{time:>11.2}"));
+        let ratios = Table::ratios(&times.map(|time| vec![time]));
+        ratios.iter().for_each(|ratio| print!("{:>17.2}", ratio[0]));
+        println!();
+    }
+
+    /// Prints the means of each size.
+    fn summary(&self) {
+        println!("geometric means over the cases of each n; of the ratios also the least and the most:");
+        print!("{:>42}", "n");
+        Table::<N>::headings(&self.columns);
+        for (n, times) in &self.sizes {
+            print!("{n:>42}");
+            times.iter().for_each(|times| print!("{:>11.2}", geometric_mean(times)));
+            for ratio in Table::ratios(times) {
+                let range = format!("({:.1}..{:.1})", least(&ratio), most(&ratio));
+                print!("{:>17}", format!("{:.2} {range}", geometric_mean(&ratio)));
+            }
+            println!();
+        }
+        let ((_, first), (n, last)) = (&self.sizes[0], &self.sizes[self.sizes.len() - 1]);
+        print!("{:>42}", format!("n = {n}, times n = {}", self.sizes[0].0));
+        for (last, first) in last.iter().zip(first) {
+            print!("{:>11.2}", geometric_mean(&divided(last, first)));
+        }
+        println!("\n");
+    }
+}
+
+// ---- Recording ----
+
+struct RecordCase {
+    tree: Vec<u8>,
+    policy: u8,
+    /// All accepted; they finish the run.
+    events: Vec<u8>,
+    log: Vec<u8>,
+    trace: Vec<u8>,
+}
+
+impl RecordCase {
+    fn new(tree: Vec<u8>, policy: u8, workers: usize) -> RecordCase {
+        let start = Run::start(policy, &tree).expect("the tree is accepted");
+        let n = start.tree.count();
+        RecordCase { events: schedule(&start, workers), tree, policy, log: vec![0; 4 * n], trace: vec![0; 2 * (n - 1)] }
+    }
+
+    fn events(&self) -> usize {
+        self.events.len() / EVENT_BYTES
+    }
+
+    fn tuned(&mut self) -> FrameRecord {
+        tuned::record(black_box(&self.tree), self.policy, &self.events, &mut self.log, &mut self.trace)
+    }
+
+    fn library(&mut self) -> FrameRecord {
+        library::record(black_box(&self.tree), self.policy, &self.events, &mut self.log, &mut self.trace)
+    }
+
+    fn simulator(&mut self) -> FrameRecord {
+        record(self.policy, black_box(&self.tree), &self.events, &mut self.log, &mut self.trace).into()
+    }
+
+    /// All three give the same answer and the same outputs, and all steps have run. Gives the count of steals.
+    fn check(&mut self) -> usize {
+        let want = (self.simulator(), self.log.clone(), self.trace.clone());
+        for call in [RecordCase::tuned, RecordCase::library] {
+            self.log.fill(255);
+            self.trace.fill(255);
+            assert_eq!((call(self), &self.log), (want.0, &want.1));
+            assert_eq!(self.trace[..4 * want.0.steals], want.2[..4 * want.0.steals]);
+        }
+        assert_eq!((want.0.number, want.0.finished), (0, 1));
+        want.0.steals
+    }
+}
+
+fn record_table() {
+    let mut table = Table::new("record", "events", ["tuned", "library", "simulator"]);
+    for_each_case(&COUNTS, |(name, shape), n, (policy, byte), workers| {
+        let case = &mut RecordCase::new(tree((name, shape), n), byte, workers);
+        let (units, steals) = (case.events(), case.check());
+        let case = std::cell::RefCell::new(case);
+        let times = medians([
+            &mut || turn(units, || { black_box(case.borrow_mut().tuned()); }),
+            &mut || turn(units, || { black_box(case.borrow_mut().library()); }),
+            &mut || turn(units, || { black_box(case.borrow_mut().simulator()); }),
+        ]);
+        table.line(&Row { shape: name, n, policy, workers, units, steals }, times);
+    });
+    table.summary();
+}
+
+// ---- Replay ----
+
+struct ReplayCase {
+    tree: Vec<u8>,
+    policy: u8,
+    /// Accepted.
+    trace: Vec<u8>,
+    list: Vec<u8>,
+}
+
+impl ReplayCase {
+    fn new(tree: Vec<u8>, policy: u8, trace: Vec<u8>) -> ReplayCase {
+        let list = vec![0; 4 * (tree.len() / TREE_RECORD)];
+        ReplayCase { tree, policy, trace, list }
+    }
+
+    /// The trace of a run by so many workers.
+    fn of_run(tree: Vec<u8>, policy: u8, workers: usize) -> ReplayCase {
+        let start = Run::start(policy, &tree).expect("the tree is accepted");
+        let (_, _, trace) = record_to_vecs(policy, &tree, &schedule(&start, workers));
+        ReplayCase::new(tree, policy, trace)
+    }
+
+    /// Every spawned task is stolen, and most ranges are long; so many tasks stand one in another.
+    fn of_thieves(policy: u8, spine: usize) -> ReplayCase {
+        let reading = Policy::parse(policy).expect("the policy is one");
+        let (tree, trace) = robbed_in_turn(reading, spine, MAX_TRACE - spine);
+        ReplayCase::new(tree, policy, trace)
+    }
+
+    fn steps(&self) -> usize {
+        self.tree.len() / TREE_RECORD
+    }
+
+    fn tuned(&mut self) -> FrameReplay {
+        tuned::replay(black_box(&self.tree), self.policy, &self.trace, &mut self.list)
+    }
+
+    fn library(&mut self) -> FrameReplay {
+        library::replay(black_box(&self.tree), self.policy, &self.trace, &mut self.list)
+    }
+
+    fn simulator(&mut self) -> FrameReplay {
+        replay(self.policy, black_box(&self.tree), &self.trace, &mut self.list).into()
+    }
+
+    /// All three give the same answer and the same list.
+    fn check(&mut self) {
+        let want = (self.simulator(), self.list.clone());
+        for call in [ReplayCase::tuned, ReplayCase::library] {
+            self.list.fill(255);
+            assert_eq!((call(self), &self.list), (want.0, &want.1));
+        }
+        assert_eq!((want.0.number, want.0.phases), (0, self.trace.len() / TRACE_BYTES + 1));
+    }
+
+    fn row(&self, shape: &'static str, policy: &'static str, workers: usize) -> Row {
+        Row { shape, n: self.steps(), policy, workers, units: self.steps(), steals: self.trace.len() / TRACE_BYTES }
+    }
+
+    fn times(&mut self) -> [f64; 3] {
+        self.check();
+        let units = self.steps();
+        let case = std::cell::RefCell::new(self);
+        medians([
+            &mut || turn(units, || { black_box(case.borrow_mut().tuned()); }),
+            &mut || turn(units, || { black_box(case.borrow_mut().library()); }),
+            &mut || turn(units, || { black_box(case.borrow_mut().simulator()); }),
+        ])
+    }
+}
+
+/// How many tasks stand one in another where thieves are robbed in turn: none, and as many as leave room for one child more.
+const SPINES: [(&str, usize); 2] = [("flat", 0), ("deep", MAX_OPEN - 2)];
+
+fn replay_table() {
+    let mut table = Table::new("replay", "steps", ["tuned", "library", "simulator"]);
+    for_each_case(&COUNTS, |(name, shape), n, (policy, byte), workers| {
+        let mut case = ReplayCase::of_run(tree((name, shape), n), byte, workers);
+        let times = case.times();
+        table.line(&case.row(name, policy, workers), times);
+    });
+    println!("thieves robbed in turn of all but their first child, the most steals and long ranges (not in the means):");
+    for (name, spine) in SPINES {
+        for (policy, byte) in POLICIES {
+            let mut case = ReplayCase::of_thieves(byte, spine);
+            let times = case.times();
+            table.print(&case.row(name, policy, 16), times);
+        }
+    }
+    table.summary();
+}
+
+// ---- Single events ----
+
+struct EventCase {
+    tree: Vec<u8>,
+    policy: u8,
+    state: RunState,
+    run: Run,
+    /// All accepted; they finish the run.
+    events: Vec<[u8; EVENT_BYTES]>,
+}
+
+impl EventCase {
+    fn new(tree: Vec<u8>, policy: u8, workers: usize) -> EventCase {
+        let state = library::start(&tree, policy).state;
+        let run = Run::start(policy, &tree).expect("the tree is accepted");
+        let events = schedule(&run, workers).chunks(EVENT_BYTES).map(|event| [event[0], event[1]]).collect();
+        EventCase { tree, policy, state, run, events }
+    }
+
+    fn tuned(&self, run: &mut tuned::Run) {
+        for &[first, second] in &self.events {
+            black_box(&run.event(first, second));
+        }
+    }
+
+    fn by_value(&self, state: &mut RunState) {
+        for &[first, second] in &self.events {
+            let answer = library::event(*state, &self.tree, first, second);
+            *state = answer.state;
+        }
+    }
+
+    fn simulator(&self, run: &mut Run) {
+        for &[first, second] in &self.events {
+            black_box(run.event(first, second).is_ok());
+        }
+    }
+
+    /// All give each event the same answer, no refusal, and in the end all steps have run. Gives the count of steals.
+    fn check(&self) -> usize {
+        let mut state = self.state;
+        let mut tuned = tuned::Run::start(&self.tree, self.policy).expect("the tree is accepted");
+        let mut run = self.run.clone();
+        for &[first, second] in &self.events {
+            run.event(first, second).expect("the event is accepted");
+            let want = if first == second {
+                let ran = run.log.last().expect("a step ran");
+                [0, 1, ran.phase, ran.step, 0]
+            } else {
+                [0, 2, 0, 0, run.trace.last().expect("a step was stolen").number]
+            };
+            let got = library::event(state, &self.tree, first, second);
+            assert_eq!([got.number, got.what, got.phase, got.step, got.trace], want);
+            state = got.state;
+            let got = tuned.event(first, second);
+            assert_eq!([got.number, got.what, got.phase, got.step, got.trace], want);
+        }
+        assert!(run.finished());
+        run.trace.len()
+    }
+}
+
+fn event_table() {
+    let mut table = Table::new("single event", "events", ["tuned", "by value", "simulator"]);
+    for_each_case(&COUNTS, |(name, shape), n, (policy, byte), workers| {
+        let case = EventCase::new(tree((name, shape), n), byte, workers);
+        let (units, steals) = (case.events.len(), case.check());
+        let tuned = &mut tuned::Run::start(&case.tree, byte).expect("the tree is accepted");
+        let state = &mut case.state.clone();
+        let times = medians([
+            &mut || {
+                turn_after(
+                    units,
+                    || (),
+                    |()| {
+                        tuned.restart();
+                        case.tuned(tuned)
+                    },
+                )
+            },
+            &mut || {
+                turn_after(
+                    units,
+                    || case.state,
+                    |given| {
+                        *state = given;
+                        case.by_value(state);
+                    },
+                )
+            },
+            &mut || {
+                turn_after(
+                    units,
+                    || case.run.clone(),
+                    |mut run| {
+                        case.simulator(&mut run);
+                        black_box(&run);
+                    },
+                )
+            },
+        ]);
+        table.line(&Row { shape: name, n, policy, workers, units, steals }, times);
+    });
+    table.summary();
+}
+
+// ---- All cases ----
+
+fn for_each_case(counts: &[usize], mut each: impl FnMut(Shape, usize, (&'static str, u8), usize)) {
+    for &n in counts {
+        for shape in SHAPES {
+            for policy in POLICIES {
+                for workers in WORKERS {
+                    each(shape, n, policy, workers);
+                }
+            }
+        }
+    }
+}
+
+
+// ---- Instructions ----
+
+/// What `valgrind` counts the instructions of.
+#[no_mangle]
+#[inline(never)]
+extern "C" fn measured_call(call: &mut dyn FnMut()) {
+    call();
+}
+
+/// One call on a tree of the largest count.
+fn call(words: &[&str]) {
+    let [what, contestant, shape, policy, workers] = words else { panic!("five words, not {words:?}") };
+    let shape = SHAPES.into_iter().find(|(name, _)| name == shape).expect("a shape");
+    let (_, policy) = POLICIES.into_iter().find(|(name, _)| name == policy).expect("a policy");
+    let workers = workers.parse().expect("a count of workers");
+    let tree = tree(shape, LARGEST);
+    match *what {
+        "record" => {
+            let mut case = RecordCase::new(tree, policy, workers);
+            let call = match *contestant {
+                "tuned" => RecordCase::tuned,
+                "library" => RecordCase::library,
+                _ => RecordCase::simulator,
+            };
+            measured_call(&mut || {
+                black_box(call(&mut case));
+            });
+        }
+        _ => {
+            let mut case = ReplayCase::of_run(tree, policy, workers);
+            let call = match *contestant {
+                "tuned" => ReplayCase::tuned,
+                "library" => ReplayCase::library,
+                _ => ReplayCase::simulator,
+            };
+            measured_call(&mut || {
+                black_box(call(&mut case));
+            });
+        }
+    }
+}
+
+fn main() {
+    let words: Vec<String> = std::env::args().skip(1).collect();
+    let words: Vec<&str> = words.iter().map(String::as_str).collect();
+    if let ["--call", words @ ..] = &words[..] {
+        return call(words);
+    }
+    let asked = |table| words.is_empty() || words.contains(&table);
+    if asked("record") {
+        record_table();
+    }
+    if asked("replay") {
+        replay_table();
+    }
+    if asked("event") {
+        event_table();
+    }
+}
