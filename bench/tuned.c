@@ -29,9 +29,10 @@ enum {
     NONE = 65535,
     // Added to a held step: a finish continuation that was stolen, so that it may have to wait.
     MAY_WAIT = 32768,
-    // Added to a continuation: the step that its opener pushes is dropped in replay.
-    DROPPED = 32768,
 };
+
+// Added to a move: the pushed step is dropped, because it was stolen.
+static const uint32_t DROPPED = 1u << 31;
 
 struct refusal {
     size_t number, position;
@@ -55,20 +56,24 @@ struct outcome {
 
 // ---- The tree ----
 
-// For each opening step its continuation.
-typedef uint16_t conts[MOST_STEPS + 1];
+// What running a step does, by step: it holds the lower half and pushes the upper half; 0 for an end, which pops.
+typedef uint32_t moves[MOST_STEPS + 1];
+
+static inline uint32_t held_by(uint32_t move)
+{
+    return move & 65535;
+}
+
+static inline uint32_t pushed_by(uint32_t move)
+{
+    return move >> 16;
+}
 
 static inline uint64_t record_at(const uint8_t *tree, size_t step)
 {
     uint64_t record;
     memcpy(&record, tree + TREE_RECORD * step, sizeof record);
     return record;
-}
-
-// A record of an accepted tree has no other bits in its low half.
-static inline unsigned kind_of(uint64_t record)
-{
-    return record & 3;
 }
 
 static inline uint32_t weight_of(uint64_t record)
@@ -87,34 +92,52 @@ static inline uint32_t select(uint32_t condition, uint32_t yes, uint32_t no)
     return no ^ ((yes ^ no) & -condition);
 }
 
-// Refusals 1 to 5, or the continuations, and for each step but the first, where a table is given, the step that holds or
-// pushes it.
-static inline struct refusal read_tree(const uint8_t *tree, size_t length, uint8_t policy, uint16_t *cont, uint16_t *opener)
+// Refusals 2 to 5, or the moves, and for each step but the first, where a table is given, the step that holds or pushes it.
+static inline struct refusal read_records(const uint8_t *tree, size_t length, unsigned policy, uint32_t *restrict moves,
+                                          uint16_t *restrict opener)
 {
-    if (policy != WORK_FIRST && policy != HELP_FIRST)
-        return (struct refusal){1, 0};
     if (length == 0 || length % TREE_RECORD != 0 || length > TREE_RECORD * MOST_STEPS)
         return (struct refusal){2, 0};
     size_t n = length / TREE_RECORD;
-    // For each open task its opener. What stands above the innermost means nothing.
-    uint16_t opened_by[MOST_OPEN + 2];
+    // For each open task its opener, and by how many bits the opener's move is turned so that it holds what it would push.
+    // What stands above the innermost task means nothing.
+    struct {
+        uint16_t opener, turn;
+    } stack[MOST_OPEN + 2];
     size_t open = 1;
-    opened_by[1] = NO_OPENER;
+    stack[1].opener = NO_OPENER;
+    stack[1].turn = 0;
     for (size_t i = 0; i < n; i++) {
         uint32_t low = (uint32_t)record_at(tree, i);
         size_t opens = low != END;
         if (open == 0 || low - ASYNC > END - ASYNC || open + opens > MOST_OPEN)
             return (struct refusal){low - ASYNC > END - ASYNC ? 3 : open == 0 ? 5 : 4, i};
-        // Every step of a task writes this, and its end writes it last.
-        cont[opened_by[open]] = i + 1;
-        opened_by[open + 1] = i;
+        // Every step of a task writes its opener's move, and the task's end writes it last.
+        uint32_t from = stack[open].opener, turn = stack[open].turn;
+        uint32_t move = (from + 1) | (uint32_t)(i + 1) << 16;
+        moves[from] = move << turn | move >> (-turn & 31);
+        moves[i] = 0;
+        stack[open + 1].opener = i;
+        stack[open + 1].turn = policy == HELP_FIRST && low == ASYNC ? 16 : 0;
         if (opener)
-            opener[i + 1] = opened_by[open + opens];
+            opener[i + 1] = stack[open + opens].opener;
         open += 2 * opens - 1;
     }
     if (open != 0)
         return (struct refusal){5, n};
     return (struct refusal){0, 0};
+}
+
+// The same with refusal 1. The table of those that hold or push a step is filled under help-first only.
+static struct refusal read_tree(const uint8_t *tree, size_t length, unsigned policy, uint32_t *moves, uint16_t *opener)
+{
+    if (policy == WORK_FIRST)
+        return read_records(tree, length, WORK_FIRST, moves, NULL);
+    if (policy != HELP_FIRST)
+        return (struct refusal){1, 0};
+    if (opener)
+        return read_records(tree, length, HELP_FIRST, moves, opener);
+    return read_records(tree, length, HELP_FIRST, moves, NULL);
 }
 
 static inline size_t heaviest(const uint64_t *loads)
@@ -127,11 +150,12 @@ static inline size_t heaviest(const uint64_t *loads)
 }
 
 // The weight from a step to the end of its task.
-static uint64_t rest_of_task(const uint8_t *tree, const uint16_t *cont, size_t step)
+static uint64_t rest_of_task(const uint8_t *tree, const uint32_t *moves, size_t step)
 {
     size_t end = step;
-    while (kind_at(tree, end) != END)
-        end = cont[end];
+    // Of the two steps the continuation is the later one.
+    for (uint32_t move; (move = moves[end]) != 0;)
+        end = held_by(move) > pushed_by(move) ? held_by(move) : pushed_by(move);
     uint64_t weight = 0;
     for (size_t i = step; i <= end; i++)
         weight += weight_of(record_at(tree, i));
@@ -156,6 +180,10 @@ struct worker {
     struct pushed *oldest, *newest;
     uint64_t load;
     uint16_t held, phase;
+};
+
+// What only steals need.
+struct stolen {
     // The pusher of the phase's first step.
     uint16_t pusher;
     // Work-first: a step of the task that the oldest step of the deque is in, and its ordinal.
@@ -163,8 +191,9 @@ struct worker {
 };
 
 struct run {
-    conts cont;
+    moves moves;
     struct worker workers[WORKERS];
+    struct stolen stolen[WORKERS];
     size_t steals;
     uint8_t policy;
     // An idle worker's newest step is one before its room.
@@ -187,57 +216,53 @@ static inline void begin_run(struct run *run, unsigned policy)
         begin_phase(run, w, policy);
     }
     run->workers[0].held = 0;
+    run->stolen[0] = (struct stolen){0};
     run->steals = 0;
     run->policy = policy;
 }
 
 // Whether some worker holds a step between a stolen finish continuation and its pusher.
-static int waits(const struct run *run, const struct worker *worker)
+static int waits(const struct run *run, size_t worker)
 {
-    size_t step = worker->held % MAY_WAIT;
+    size_t step = run->workers[worker].held % MAY_WAIT;
     for (size_t w = 0; w < WORKERS; w++) {
         size_t held = run->workers[w].held % MAY_WAIT;
-        if (worker->pusher < held && held < step)
+        if (run->stolen[worker].pusher < held && held < step)
             return 1;
     }
     return 0;
 }
 
 // A worker runs its step: refusals 9 and 10, or 0 and the step.
-static inline unsigned run_step(struct run *run, const uint8_t *tree, unsigned policy, struct worker *worker, size_t *ran)
+static inline unsigned run_step(struct run *run, const uint8_t *tree, unsigned policy, size_t w, uint32_t *ran)
 {
+    struct worker *worker = &run->workers[w];
     uint32_t step = worker->held;
     if (step >= MAY_WAIT) {
         if (step == NONE)
             return 9;
-        if (waits(run, worker))
+        if (waits(run, w))
             return 10;
         step -= MAY_WAIT;
     }
-    uint64_t record = record_at(tree, step);
-    uint32_t ends = kind_of(record) == END;
-    uint32_t cont = run->cont[step];
+    uint32_t move = run->moves[step], ends = move == 0;
     struct pushed *newest = worker->newest;
-    if (policy == WORK_FIRST) {
-        // Serial order: what is popped is the step behind the end.
-        newest[1] = (struct pushed){cont, step};
-        newest += 1 - 2 * (ptrdiff_t)ends;
+    uint32_t popped = newest->step;
+    newest[1] = (struct pushed){pushed_by(move), step};
+    newest += 1 - 2 * (ptrdiff_t)ends;
+    if (policy == WORK_FIRST)
+        // Serial order: what is popped is the step behind the end, which is known before the step's move is.
         worker->held = newest + 1 < worker->oldest ? NONE : step + 1;
-    } else {
-        uint32_t async = kind_of(record) == ASYNC;
-        uint32_t popped = newest->step;
-        newest[1] = (struct pushed){select(async, step + 1, cont), step};
-        newest += 1 - 2 * (ptrdiff_t)ends;
-        worker->held = select(ends, popped, select(async, cont, step + 1));
-    }
+    else
+        worker->held = select(ends, popped, held_by(move));
     worker->newest = newest;
-    worker->load += weight_of(record);
+    worker->load += weight_of(record_at(tree, step));
     *ran = step;
     return 0;
 }
 
 // The thief takes the oldest step of the victim's deque: refusals 11 and 12, or 0 and the trace number.
-static inline unsigned steal(struct run *run, const uint8_t *tree, unsigned policy, size_t thief, size_t victim, size_t *number)
+static inline unsigned steal(struct run *run, const uint8_t *tree, unsigned policy, size_t thief, size_t victim, uint32_t *number)
 {
     struct worker *to = &run->workers[thief], *from = &run->workers[victim];
     if (to->held != NONE)
@@ -248,19 +273,18 @@ static inline unsigned steal(struct run *run, const uint8_t *tree, unsigned poli
     from->oldest++->step = NONE;
     *number = step;
     if (policy == WORK_FIRST) {
-        size_t at = from->base;
-        *number = from->ordinal + 1;
-        for (; at != pusher; at = run->cont[at])
-            ++*number;
-        from->base = pusher + 1;
-        from->ordinal = 0;
-        to->base = step;
-        to->ordinal = *number;
+        struct stolen *lost = &run->stolen[victim];
+        uint32_t ordinal = lost->ordinal + 1;
+        for (size_t at = lost->base; at != pusher; at = pushed_by(run->moves[at]))
+            ordinal++;
+        lost->base = pusher + 1;
+        lost->ordinal = 0;
+        *number = ordinal;
     }
     begin_phase(run, thief, policy);
     to->held = kind_at(tree, pusher) == FINISH ? step + MAY_WAIT : step;
     to->phase = ++run->steals;
-    to->pusher = pusher;
+    run->stolen[thief] = (struct stolen){pusher, step, *number};
     return 0;
 }
 
@@ -272,33 +296,44 @@ struct outputs {
     size_t logs;
 };
 
-static inline struct refusal walk(struct run *run, const uint8_t *tree, unsigned policy, const uint8_t *events, size_t count,
-                                  struct outputs *outputs)
+static inline struct refusal walk(struct run *restrict run, const uint8_t *tree, unsigned policy, const uint8_t *events,
+                                  size_t count, struct outputs *restrict outputs)
 {
-    size_t logs = 0;
+    uint32_t *log = outputs->log;
     begin_run(run, policy);
     for (size_t at = 0; at < count; at++) {
-        size_t first = events[2 * at], second = events[2 * at + 1];
+        uint32_t first = events[2 * at], second = events[2 * at + 1];
         if ((first | second) >= WORKERS)
             return (struct refusal){8, at};
         if (first == second) {
-            struct worker *worker = &run->workers[first];
-            uint32_t phase = worker->phase;
-            size_t step;
-            unsigned refused = run_step(run, tree, policy, worker, &step);
+            uint32_t step;
+            unsigned refused = run_step(run, tree, policy, first, &step);
             if (refused)
                 return (struct refusal){refused, at};
-            outputs->log[logs++] = phase | (uint32_t)step << 16;
+            *log++ = run->workers[first].phase | step << 16;
         } else {
-            size_t number;
+            uint32_t number;
             unsigned refused = steal(run, tree, policy, first, second, &number);
             if (refused)
                 return (struct refusal){refused, at};
-            outputs->trace[run->steals - 1] = (uint32_t)(first | second << 8 | number << 16);
+            outputs->trace[run->steals - 1] = first | second << 8 | number << 16;
         }
     }
-    outputs->logs = logs;
+    outputs->logs = log - outputs->log;
     return (struct refusal){0, 0};
+}
+
+// A function for each policy. Inlined into the call, in which the run is a local variable, they are slower.
+__attribute__((noinline)) static struct refusal walk_work_first(struct run *run, const uint8_t *tree, const uint8_t *events,
+                                                                size_t count, struct outputs *outputs)
+{
+    return walk(run, tree, WORK_FIRST, events, count, outputs);
+}
+
+__attribute__((noinline)) static struct refusal walk_help_first(struct run *run, const uint8_t *tree, const uint8_t *events,
+                                                                size_t count, struct outputs *outputs)
+{
+    return walk(run, tree, HELP_FIRST, events, count, outputs);
 }
 
 struct recorded tuned_record(const uint8_t *tree, size_t tree_length, uint8_t policy, const uint8_t *events,
@@ -308,14 +343,14 @@ struct recorded tuned_record(const uint8_t *tree, size_t tree_length, uint8_t po
     struct outputs outputs;
     struct recorded answer = {0};
     size_t n = tree_length / TREE_RECORD;
-    struct refusal refusal = read_tree(tree, tree_length, policy, run.cont, NULL);
+    struct refusal refusal = read_tree(tree, tree_length, policy, run.moves, NULL);
     if (refusal.number == 0 && (events_length % 2 != 0 || events_length > 2 * MOST_EVENTS))
         refusal.number = 6;
     if (refusal.number == 0 && (log_length < 4 * n || trace_length < 2 * (n - 1)))
         refusal.number = 7;
     if (refusal.number == 0)
-        refusal = policy == WORK_FIRST ? walk(&run, tree, WORK_FIRST, events, events_length / 2, &outputs)
-                                       : walk(&run, tree, HELP_FIRST, events, events_length / 2, &outputs);
+        refusal = policy == WORK_FIRST ? walk_work_first(&run, tree, events, events_length / 2, &outputs)
+                                       : walk_help_first(&run, tree, events, events_length / 2, &outputs);
     answer.number = refusal.number;
     answer.position = refusal.position;
     if (refusal.number != 0)
@@ -330,9 +365,9 @@ struct recorded tuned_record(const uint8_t *tree, size_t tree_length, uint8_t po
         answer.loads[w] = worker->load;
         // What has not run yet is what is held or in a deque, each up to the end of its task.
         if (worker->held != NONE) {
-            answer.loads[w] += rest_of_task(tree, run.cont, worker->held % MAY_WAIT);
+            answer.loads[w] += rest_of_task(tree, run.moves, worker->held % MAY_WAIT);
             for (struct pushed *queued = worker->oldest; queued <= worker->newest; queued++)
-                answer.loads[w] += rest_of_task(tree, run.cont, queued->step);
+                answer.loads[w] += rest_of_task(tree, run.moves, queued->step);
         }
     }
     answer.heaviest = heaviest(answer.loads);
@@ -348,7 +383,7 @@ size_t tuned_state_bytes(void)
 
 struct refusal tuned_start(struct run *run, const uint8_t *tree, size_t tree_length, uint8_t policy)
 {
-    struct refusal refusal = read_tree(tree, tree_length, policy, run->cont, NULL);
+    struct refusal refusal = read_tree(tree, tree_length, policy, run->moves, NULL);
     if (refusal.number == 0)
         begin_run(run, policy);
     return refusal;
@@ -367,17 +402,16 @@ struct outcome tuned_event(struct run *run, const uint8_t *tree, uint8_t first, 
     if (first >= WORKERS || second >= WORKERS) {
         outcome.number = 8;
     } else if (first == second) {
-        struct worker *worker = &run->workers[first];
-        size_t phase = worker->phase, step;
-        outcome.number = run->policy == WORK_FIRST ? run_step(run, tree, WORK_FIRST, worker, &step)
-                                                   : run_step(run, tree, HELP_FIRST, worker, &step);
+        uint32_t step;
+        outcome.number = run->policy == WORK_FIRST ? run_step(run, tree, WORK_FIRST, first, &step)
+                                                   : run_step(run, tree, HELP_FIRST, first, &step);
         if (outcome.number == 0) {
             outcome.what = 1;
-            outcome.phase = phase;
+            outcome.phase = run->workers[first].phase;
             outcome.step = step;
         }
     } else {
-        size_t number;
+        uint32_t number;
         outcome.number = run->policy == WORK_FIRST ? steal(run, tree, WORK_FIRST, first, second, &number)
                                                    : steal(run, tree, HELP_FIRST, first, second, &number);
         if (outcome.number == 0) {
@@ -391,7 +425,7 @@ struct outcome tuned_event(struct run *run, const uint8_t *tree, uint8_t first, 
 // ---- Replay ----
 
 struct replay {
-    conts cont;
+    moves moves;
     // For each worker its latest phase, and for each phase its worker and its first step.
     uint16_t latest[WORKERS];
     uint8_t worker[MOST_STEALS + 1];
@@ -407,16 +441,16 @@ struct replay {
 };
 
 // The step that an ordinal names in a work-first phase, or NONE.
-static inline size_t by_ordinal(struct replay *replay, const uint8_t *tree, size_t phase, size_t number)
+static inline size_t by_ordinal(struct replay *replay, size_t phase, size_t number)
 {
     if (number <= replay->ordinal[phase])
         return NONE;
     size_t step = replay->base[phase], before = step;
     for (size_t left = number - replay->ordinal[phase]; left > 0; left--) {
         before = step;
-        if (kind_at(tree, step) == END)
+        step = pushed_by(replay->moves[step]);
+        if (step == 0)
             return NONE;
-        step = replay->cont[step];
     }
     size_t new = replay->phases;
     replay->base[new] = step;
@@ -475,7 +509,7 @@ static inline struct refusal read_trace(struct replay *replay, const uint8_t *tr
             return (struct refusal){14, at};
         uint16_t number;
         memcpy(&number, trace + 4 * at + 2, sizeof number);
-        size_t step = policy == WORK_FIRST ? by_ordinal(replay, tree, phase, number) : by_serial(replay, tree, n, phase, number);
+        size_t step = policy == WORK_FIRST ? by_ordinal(replay, phase, number) : by_serial(replay, tree, n, phase, number);
         if (step == NONE)
             return (struct refusal){15, at};
         replay->worker[replay->phases] = thief;
@@ -506,30 +540,31 @@ static void list_intervals(const struct replay *replay, const uint8_t *tree, uin
     }
 }
 
-// The same under help-first: each phase is run alone, with a stack that has NONE at its bottom.
+// The same under help-first: each phase is run alone, with a stack of what it has pushed.
 static void list_runs(struct replay *replay, const uint8_t *tree, uint8_t *restrict list, uint64_t *restrict loads)
 {
-    uint16_t stack[MOST_STEALS + 2];
-    uint16_t *cont = replay->cont;
+    uint16_t stack[MOST_STEALS + 1];
     for (size_t phase = 1; phase < replay->phases; phase++)
-        cont[replay->opener[replay->first[phase]]] |= DROPPED;
-    stack[0] = NONE;
+        replay->moves[replay->opener[replay->first[phase]]] |= DROPPED;
     for (size_t phase = 0; phase < replay->phases; phase++) {
         uint64_t load = 0;
         uint32_t step = replay->first[phase];
         uint16_t *top = stack;
-        do {
+        for (;;) {
             put(list, 0, phase, step);
             list += 4;
-            uint64_t record = record_at(tree, step);
-            load += weight_of(record);
-            uint32_t async = kind_of(record) == ASYNC, ends = kind_of(record) == END;
-            uint32_t after = cont[step] % DROPPED, kept = cont[step] < DROPPED;
-            uint32_t popped = *top;
-            top[1] = select(async, step + 1, after);
-            top += (int32_t)select(ends, -1, kept);
-            step = select(ends, popped, select(async, after, step + 1));
-        } while (step != NONE);
+            load += weight_of(record_at(tree, step));
+            uint32_t move = replay->moves[step];
+            if (move != 0) {
+                *top = pushed_by(move);
+                top += move < DROPPED;
+                step = held_by(move);
+            } else if (top != stack) {
+                step = *--top;
+            } else {
+                break;
+            }
+        }
         loads[replay->worker[phase]] += load;
     }
 }
@@ -540,8 +575,7 @@ struct replayed tuned_replay(const uint8_t *tree, size_t tree_length, uint8_t po
     struct replay replay;
     struct replayed answer = {0};
     size_t n = tree_length / TREE_RECORD;
-    struct refusal refusal = policy == WORK_FIRST ? read_tree(tree, tree_length, policy, replay.cont, NULL)
-                                                  : read_tree(tree, tree_length, policy, replay.cont, replay.opener);
+    struct refusal refusal = read_tree(tree, tree_length, policy, replay.moves, replay.opener);
     if (refusal.number == 0 && (trace_length % 4 != 0 || trace_length > 4 * MOST_STEALS))
         refusal.number = 6;
     if (refusal.number == 0 && list_length < 4 * n)

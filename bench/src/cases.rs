@@ -11,14 +11,16 @@ pub const COUNTS: [usize; 4] = [63, 255, 1_023, 4_095];
 pub const LARGEST: usize = COUNTS[COUNTS.len() - 1];
 pub const SHAPES: [Shape; 4] = [("balanced", balanced), ("flat", flat), ("deep", deep), ("random", random)];
 
-const SEED: u64 = 1;
+/// A case has so many inputs, which take turns: a processor foresees the branches of a single one that is repeated.
+pub const SEEDS: std::ops::Range<u64> = 1..9;
+
 /// In so many of a hundred cases an idle worker steals where it can, before anybody runs a step.
 const STEALS: usize = 30;
 
 // ---- Trees ----
 
 /// A name, and what makes the kinds.
-pub type Shape = (&'static str, fn(&mut Kinds));
+pub type Shape = (&'static str, fn(&mut Kinds, &mut Rng));
 
 const ASYNC: u8 = 1;
 const FINISH: u8 = 2;
@@ -45,7 +47,7 @@ impl Kinds {
 }
 
 /// Each task has two children of the same size, or the first has one task more.
-fn balanced(out: &mut Kinds) {
+fn balanced(out: &mut Kinds, _: &mut Rng) {
     fn children(out: &mut Kinds, tasks: usize) {
         for part in [tasks.div_ceil(2), tasks / 2] {
             if part > 0 {
@@ -59,7 +61,7 @@ fn balanced(out: &mut Kinds) {
 }
 
 /// The root opens all tasks, single ends.
-fn flat(out: &mut Kinds) {
+fn flat(out: &mut Kinds, _: &mut Rng) {
     while out.left > 0 {
         out.open();
         out.end();
@@ -67,7 +69,7 @@ fn flat(out: &mut Kinds) {
 }
 
 /// The root opens chains, each down to the most open tasks; the last chain may be shorter.
-fn deep(out: &mut Kinds) {
+fn deep(out: &mut Kinds, _: &mut Rng) {
     while out.left > 0 {
         let chain = out.left.min(MAX_OPEN - 1);
         (0..chain).for_each(|_| out.open());
@@ -76,8 +78,7 @@ fn deep(out: &mut Kinds) {
 }
 
 /// Opens and ends in random order, somewhat more opens while tasks are left.
-fn random(out: &mut Kinds) {
-    let mut rng = Rng::new(7);
+fn random(out: &mut Kinds, rng: &mut Rng) {
     let mut open = 1;
     while out.left > 0 {
         if open < MAX_OPEN && (open == 1 || rng.percent(55)) {
@@ -91,10 +92,10 @@ fn random(out: &mut Kinds) {
     (1..open).for_each(|_| out.end());
 }
 
-/// A tree of exactly n records, all weights 1.
-pub fn tree((_, build): Shape, n: usize) -> Vec<u8> {
+/// A tree of exactly n records, all weights 1. Only random trees differ by the seed.
+pub fn tree((_, build): Shape, n: usize, seed: u64) -> Vec<u8> {
     let mut out = Kinds { kinds: Vec::new(), spawned: 0, left: (n - 1) / 2 };
-    build(&mut out);
+    build(&mut out, &mut Rng::new(seed));
     out.end();
     let bytes = tree_of_kinds(&out.kinds);
     assert_eq!(Tree::parse(&bytes).expect("the tree is accepted").count(), n);
@@ -102,10 +103,10 @@ pub fn tree((_, build): Shape, n: usize) -> Vec<u8> {
 }
 
 /// Events by so many workers, all accepted, that finish the run from this start.
-pub fn schedule(start: &Run, workers: usize) -> Vec<u8> {
+pub fn schedule(start: &Run, workers: usize, seed: u64) -> Vec<u8> {
     let plan = Plan { workers, events: MAX_EVENTS, bad: 0, steals: STEALS };
     let mut run = start.clone();
-    let tried = drive(&mut Rng::new(SEED), &mut run, &plan);
+    let tried = drive(&mut Rng::new(seed), &mut run, &plan);
     assert!(run.finished(), "the run is finished");
     accepted_bytes(&tried)
 }

@@ -6,9 +6,9 @@
 
 use std::hint::black_box;
 
-use frame_bench::cases::{schedule, tree, Shape, COUNTS, LARGEST, POLICIES, SHAPES, WORKERS};
+use frame_bench::cases::{schedule, tree, Shape, COUNTS, LARGEST, POLICIES, SEEDS, SHAPES, WORKERS};
 use frame_bench::library::{self, FrameRecord, FrameReplay, RunState};
-use frame_bench::times::{divided, geometric_mean, least, medians, most, turn, turn_after};
+use frame_bench::times::{divided, geometric_mean, least, medians, most, turn};
 use frame_bench::tuned;
 use frame_tests::random::robbed_in_turn;
 use frame_tests::record::{record, record_to_vecs, EVENT_BYTES};
@@ -26,6 +26,14 @@ struct Row {
     workers: usize,
     units: usize,
     steals: usize,
+}
+
+impl Row {
+    /// Of a case by the sums over its inputs: a row has their means.
+    fn new(shape: Shape, n: usize, policy: &'static str, workers: usize, units: usize, steals: usize) -> Row {
+        let inputs = SEEDS.count();
+        Row { shape: shape.0, n, policy, workers, units: units / inputs, steals: steals / inputs }
+    }
 }
 
 /// The columns after the first, the tuned baseline, which all ratios of the library are taken to. The last is the simulator.
@@ -111,10 +119,10 @@ struct RecordCase {
 }
 
 impl RecordCase {
-    fn new(tree: Vec<u8>, policy: u8, workers: usize) -> RecordCase {
+    fn new(tree: Vec<u8>, policy: u8, workers: usize, seed: u64) -> RecordCase {
         let start = Run::start(policy, &tree).expect("the tree is accepted");
         let n = start.tree.count();
-        RecordCase { events: schedule(&start, workers), tree, policy, log: vec![0; 4 * n], trace: vec![0; 2 * (n - 1)] }
+        RecordCase { events: schedule(&start, workers, seed), tree, policy, log: vec![0; 4 * n], trace: vec![0; 2 * (n - 1)] }
     }
 
     fn events(&self) -> usize {
@@ -149,16 +157,18 @@ impl RecordCase {
 
 fn record_table() {
     let mut table = Table::new("record", "events", ["tuned", "library", "simulator"]);
-    for_each_case(&COUNTS, |(name, shape), n, (policy, byte), workers| {
-        let case = &mut RecordCase::new(tree((name, shape), n), byte, workers);
-        let (units, steals) = (case.events(), case.check());
-        let case = std::cell::RefCell::new(case);
-        let times = medians([
-            &mut || turn(units, || { black_box(case.borrow_mut().tuned()); }),
-            &mut || turn(units, || { black_box(case.borrow_mut().library()); }),
-            &mut || turn(units, || { black_box(case.borrow_mut().simulator()); }),
-        ]);
-        table.line(&Row { shape: name, n, policy, workers, units, steals }, times);
+    for_each_case(|shape, n, (policy, byte), workers| {
+        let case = |seed| RecordCase::new(tree(shape, n, seed), byte, workers, seed);
+        let inputs: &mut Vec<_> = &mut SEEDS.map(case).collect();
+        let (units, steals) = inputs.iter_mut().fold((0, 0), |sum, case| (sum.0 + case.events(), sum.1 + case.check()));
+        let times = medians(
+            inputs,
+            [RecordCase::tuned, RecordCase::library, RecordCase::simulator]
+                .map(|call| move |inputs: &mut [_]| turn(inputs, units, |_| (), |case, ()| _ = black_box(call(case))))
+                .each_ref()
+                .map(|turn| turn as &dyn Fn(&mut [_]) -> f64),
+        );
+        table.line(&Row::new(shape, n, policy, workers, units, steals), times);
     });
     table.summary();
 }
@@ -180,9 +190,9 @@ impl ReplayCase {
     }
 
     /// The trace of a run by so many workers.
-    fn of_run(tree: Vec<u8>, policy: u8, workers: usize) -> ReplayCase {
+    fn of_run(tree: Vec<u8>, policy: u8, workers: usize, seed: u64) -> ReplayCase {
         let start = Run::start(policy, &tree).expect("the tree is accepted");
-        let (_, _, trace) = record_to_vecs(policy, &tree, &schedule(&start, workers));
+        let (_, _, trace) = record_to_vecs(policy, &tree, &schedule(&start, workers, seed));
         ReplayCase::new(tree, policy, trace)
     }
 
@@ -219,19 +229,22 @@ impl ReplayCase {
         assert_eq!((want.0.number, want.0.phases), (0, self.trace.len() / TRACE_BYTES + 1));
     }
 
-    fn row(&self, shape: &'static str, policy: &'static str, workers: usize) -> Row {
-        Row { shape, n: self.steps(), policy, workers, units: self.steps(), steals: self.trace.len() / TRACE_BYTES }
+    fn steals(&self) -> usize {
+        self.trace.len() / TRACE_BYTES
     }
 
-    fn times(&mut self) -> [f64; 3] {
-        self.check();
-        let units = self.steps();
-        let case = std::cell::RefCell::new(self);
-        medians([
-            &mut || turn(units, || { black_box(case.borrow_mut().tuned()); }),
-            &mut || turn(units, || { black_box(case.borrow_mut().library()); }),
-            &mut || turn(units, || { black_box(case.borrow_mut().simulator()); }),
-        ])
+    /// The sums of steps and of steals, and the times.
+    fn times(inputs: &mut [ReplayCase]) -> (usize, usize, [f64; 3]) {
+        inputs.iter_mut().for_each(ReplayCase::check);
+        let (units, steals) = inputs.iter().fold((0, 0), |sum, case| (sum.0 + case.steps(), sum.1 + case.steals()));
+        let times = medians(
+            inputs,
+            [ReplayCase::tuned, ReplayCase::library, ReplayCase::simulator]
+                .map(|call| move |inputs: &mut [_]| turn(inputs, units, |_| (), |case, ()| _ = black_box(call(case))))
+                .each_ref()
+                .map(|turn| turn as &dyn Fn(&mut [_]) -> f64),
+        );
+        (units, steals, times)
     }
 }
 
@@ -240,20 +253,21 @@ const SPINES: [(&str, usize); 2] = [("flat", 0), ("deep", MAX_OPEN - 2)];
 
 fn replay_table() {
     let mut table = Table::new("replay", "steps", ["tuned", "library", "simulator"]);
-    for_each_case(&COUNTS, |(name, shape), n, (policy, byte), workers| {
-        let mut case = ReplayCase::of_run(tree((name, shape), n), byte, workers);
-        let times = case.times();
-        table.line(&case.row(name, policy, workers), times);
+    for_each_case(|shape, n, (policy, byte), workers| {
+        let case = |seed| ReplayCase::of_run(tree(shape, n, seed), byte, workers, seed);
+        let inputs: &mut Vec<_> = &mut SEEDS.map(case).collect();
+        let (units, steals, times) = ReplayCase::times(inputs);
+        table.line(&Row::new(shape, n, policy, workers, units, steals), times);
     });
-    println!("thieves robbed in turn of all but their first child, the most steals and long ranges (not in the means):");
+    table.summary();
+    println!("replay where thieves are robbed in turn of all but their first child: the most steals, and long ranges (one input)");
     for (name, spine) in SPINES {
         for (policy, byte) in POLICIES {
-            let mut case = ReplayCase::of_thieves(byte, spine);
-            let times = case.times();
-            table.print(&case.row(name, policy, 16), times);
+            let (units, steals, times) = ReplayCase::times(&mut [ReplayCase::of_thieves(byte, spine)]);
+            table.print(&Row { shape: name, n: units, policy, workers: 16, units, steals }, times);
         }
     }
-    table.summary();
+    println!();
 }
 
 // ---- Single events ----
@@ -268,20 +282,28 @@ struct EventCase {
 }
 
 impl EventCase {
-    fn new(tree: Vec<u8>, policy: u8, workers: usize) -> EventCase {
+    fn new(tree: Vec<u8>, policy: u8, workers: usize, seed: u64) -> EventCase {
         let state = library::start(&tree, policy).state;
         let run = Run::start(policy, &tree).expect("the tree is accepted");
-        let events = schedule(&run, workers).chunks(EVENT_BYTES).map(|event| [event[0], event[1]]).collect();
+        let events = schedule(&run, workers, seed).chunks(EVENT_BYTES).map(|event| [event[0], event[1]]).collect();
         EventCase { tree, policy, state, run, events }
     }
 
+    fn tuned_start(&self) -> tuned::Run<'_> {
+        tuned::Run::start(&self.tree, self.policy).expect("the tree is accepted")
+    }
+
+    // The first two begin with a new state; the simulator's is made beforehand, because it takes long.
+
     fn tuned(&self, run: &mut tuned::Run) {
+        run.restart();
         for &[first, second] in &self.events {
             black_box(&run.event(first, second));
         }
     }
 
     fn by_value(&self, state: &mut RunState) {
+        *state = self.state;
         for &[first, second] in &self.events {
             let answer = library::event(*state, &self.tree, first, second);
             *state = answer.state;
@@ -297,7 +319,7 @@ impl EventCase {
     /// All give each event the same answer, no refusal, and in the end all steps have run. Gives the count of steals.
     fn check(&self) -> usize {
         let mut state = self.state;
-        let mut tuned = tuned::Run::start(&self.tree, self.policy).expect("the tree is accepted");
+        let mut tuned = self.tuned_start();
         let mut run = self.run.clone();
         for &[first, second] in &self.events {
             run.event(first, second).expect("the event is accepted");
@@ -320,52 +342,27 @@ impl EventCase {
 
 fn event_table() {
     let mut table = Table::new("single event", "events", ["tuned", "by value", "simulator"]);
-    for_each_case(&COUNTS, |(name, shape), n, (policy, byte), workers| {
-        let case = EventCase::new(tree((name, shape), n), byte, workers);
-        let (units, steals) = (case.events.len(), case.check());
-        let tuned = &mut tuned::Run::start(&case.tree, byte).expect("the tree is accepted");
-        let state = &mut case.state.clone();
-        let times = medians([
-            &mut || {
-                turn_after(
-                    units,
-                    || (),
-                    |()| {
-                        tuned.restart();
-                        case.tuned(tuned)
-                    },
-                )
-            },
-            &mut || {
-                turn_after(
-                    units,
-                    || case.state,
-                    |given| {
-                        *state = given;
-                        case.by_value(state);
-                    },
-                )
-            },
-            &mut || {
-                turn_after(
-                    units,
-                    || case.run.clone(),
-                    |mut run| {
-                        case.simulator(&mut run);
-                        black_box(&run);
-                    },
-                )
-            },
-        ]);
-        table.line(&Row { shape: name, n, policy, workers, units, steals }, times);
+    for_each_case(|shape, n, (policy, byte), workers| {
+        let cases: Vec<_> = SEEDS.map(|seed| EventCase::new(tree(shape, n, seed), byte, workers, seed)).collect();
+        let (units, steals) = cases.iter().fold((0, 0), |sum, case| (sum.0 + case.events.len(), sum.1 + case.check()));
+        let inputs: &mut Vec<_> = &mut cases.iter().map(|case| (case, case.tuned_start(), case.state)).collect();
+        let times = medians(
+            inputs,
+            [
+                &|inputs| turn(inputs, units, |_| (), |(case, run, _), ()| case.tuned(run)),
+                &|inputs| turn(inputs, units, |_| (), |(case, _, state), ()| case.by_value(state)),
+                &|inputs| turn(inputs, units, |(case, ..)| case.run.clone(), |(case, ..), run| case.simulator(run)),
+            ],
+        );
+        table.line(&Row::new(shape, n, policy, workers, units, steals), times);
     });
     table.summary();
 }
 
 // ---- All cases ----
 
-fn for_each_case(counts: &[usize], mut each: impl FnMut(Shape, usize, (&'static str, u8), usize)) {
-    for &n in counts {
+fn for_each_case(mut each: impl FnMut(Shape, usize, (&'static str, u8), usize)) {
+    for n in COUNTS {
         for shape in SHAPES {
             for policy in POLICIES {
                 for workers in WORKERS {
@@ -382,7 +379,7 @@ fn for_each_case(counts: &[usize], mut each: impl FnMut(Shape, usize, (&'static 
 /// What `valgrind` counts the instructions of.
 #[no_mangle]
 #[inline(never)]
-extern "C" fn measured_call(call: &mut dyn FnMut()) {
+fn measured_call(call: &mut dyn FnMut()) {
     call();
 }
 
@@ -392,10 +389,11 @@ fn call(words: &[&str]) {
     let shape = SHAPES.into_iter().find(|(name, _)| name == shape).expect("a shape");
     let (_, policy) = POLICIES.into_iter().find(|(name, _)| name == policy).expect("a policy");
     let workers = workers.parse().expect("a count of workers");
-    let tree = tree(shape, LARGEST);
+    let seed = SEEDS.start;
+    let tree = tree(shape, LARGEST, seed);
     match *what {
         "record" => {
-            let mut case = RecordCase::new(tree, policy, workers);
+            let mut case = RecordCase::new(tree, policy, workers, seed);
             let call = match *contestant {
                 "tuned" => RecordCase::tuned,
                 "library" => RecordCase::library,
@@ -406,7 +404,7 @@ fn call(words: &[&str]) {
             });
         }
         _ => {
-            let mut case = ReplayCase::of_run(tree, policy, workers);
+            let mut case = ReplayCase::of_run(tree, policy, workers, seed);
             let call = match *contestant {
                 "tuned" => ReplayCase::tuned,
                 "library" => ReplayCase::library,

@@ -1,66 +1,57 @@
 //! Times of several contestants in one run, and what is made of them.
 
-use std::hint::black_box;
-use std::time::{Duration, Instant};
+use std::time::Duration;
 
 /// A time is the median of so many rounds. In each round every contestant has its turn, so that a busy machine slows all alike.
-const ROUNDS: usize = 25;
-/// A turn repeats a call until it has taken so long: shorter than what a busy machine gives a process at once, so that most
-/// turns are not interrupted.
-const TURN: Duration = Duration::from_millis(2);
-/// Where nothing has to be made ready between two calls, the clock is read after calls with about so many units in all.
+pub const ROUNDS: usize = 25;
+/// A turn repeats a call until it has taken so long,
+pub const TURN: Duration = Duration::from_millis(2);
+/// and reads the clock after calls with about so many units in all.
 const BATCH: usize = 20_000;
 
-/// What two readings of the clock take, in nanoseconds.
-fn clock() -> f64 {
-    let mut readings: Vec<u128> = (0..1_001)
-        .map(|_| {
-            let began = Instant::now();
-            black_box(());
-            began.elapsed().as_nanos()
-        })
-        .collect();
-    readings.sort_unstable();
-    readings[readings.len() / 2] as f64
+#[repr(C)]
+struct Timespec {
+    seconds: i64,
+    nanoseconds: i64,
 }
 
-/// Nanoseconds per unit of calls that have so many units each and need nothing made ready.
-pub fn turn(units: usize, mut call: impl FnMut()) -> f64 {
-    let batch = BATCH.div_ceil(units);
+extern "C" {
+    fn clock_gettime(clock: i32, time: *mut Timespec) -> i32;
+}
+
+const THREAD_TIME: i32 = 3;
+
+/// The time that this thread has had a processor, so that the times when others have it do not count.
+fn thread_time() -> Duration {
+    let mut time = Timespec { seconds: 0, nanoseconds: 0 };
+    assert_eq!(unsafe { clock_gettime(THREAD_TIME, &mut time) }, 0);
+    Duration::new(time.seconds as u64, time.nanoseconds as u32)
+}
+
+/// Nanoseconds per unit of calls on inputs that take turns and have so many units in all. For each batch of turns what the
+/// calls are given is made ready outside of the time.
+pub fn turn<I, T>(inputs: &mut [I], units: usize, ready: impl Fn(&I) -> T, call: impl Fn(&mut I, &mut T)) -> f64 {
     let mut spent = Duration::ZERO;
-    let mut calls = 0;
+    let mut passes = 0;
     while spent < TURN {
-        let began = Instant::now();
-        for _ in 0..batch {
-            call();
+        let batch = BATCH.div_ceil(units);
+        let mut given: Vec<T> = (0..batch).flat_map(|_| inputs.iter().map(&ready)).collect();
+        let began = thread_time();
+        for given in given.chunks_mut(inputs.len()) {
+            inputs.iter_mut().zip(given).for_each(|(input, given)| call(input, given));
         }
-        spent += began.elapsed();
-        calls += batch;
+        spent += thread_time() - began;
+        passes += batch;
     }
-    spent.as_nanos() as f64 / (calls * units) as f64
+    spent.as_nanos() as f64 / (passes * units) as f64
 }
 
-/// The same where something is made ready before each call, outside of the time. The clock's own time is taken off.
-pub fn turn_after<T>(units: usize, mut ready: impl FnMut() -> T, mut call: impl FnMut(T)) -> f64 {
-    let clock = clock();
-    let mut spent = 0.0;
-    let mut calls = 0;
-    while spent < TURN.as_nanos() as f64 {
-        let given = black_box(ready());
-        let began = Instant::now();
-        call(given);
-        spent += (began.elapsed().as_nanos() as f64 - clock).max(0.0);
-        calls += 1;
-    }
-    spent / (calls * units) as f64
-}
-
-/// For each contestant the median of its turns.
-pub fn medians<const N: usize>(mut contestants: [&mut dyn FnMut() -> f64; N]) -> [f64; N] {
+/// For each contestant, which takes a turn on the inputs, the median of its turns.
+pub fn medians<I, const N: usize>(inputs: &mut [I], contestants: [&dyn Fn(&mut [I]) -> f64; N]) -> [f64; N] {
     let mut turns = [[0.0; ROUNDS]; N];
     for round in 0..ROUNDS {
-        for (contestant, turns) in contestants.iter_mut().zip(&mut turns) {
-            turns[round] = contestant();
+        for (contestant, turns) in contestants.iter().zip(&mut turns) {
+            turns[round] = contestant(inputs);
         }
     }
     turns.map(|mut turns| {
