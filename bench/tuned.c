@@ -99,8 +99,8 @@ static inline struct refusal read_records(const uint8_t *tree, size_t length, un
     if (length == 0 || length % TREE_RECORD != 0 || length > TREE_RECORD * MOST_STEPS)
         return (struct refusal){2, 0};
     size_t n = length / TREE_RECORD;
-    // For each open task its opener, and by how many bits the opener's move is turned so that it holds what it would push.
-    // What stands above the innermost task means nothing.
+    // For each open task its opener, and under help-first by how many bits the opener's move is turned, so that an async opener
+    // holds its continuation. What stands above the innermost task means nothing.
     struct {
         uint16_t opener, turn;
     } stack[MOST_OPEN + 2];
@@ -113,12 +113,16 @@ static inline struct refusal read_records(const uint8_t *tree, size_t length, un
         if (open == 0 || low - ASYNC > END - ASYNC || open + opens > MOST_OPEN)
             return (struct refusal){low - ASYNC > END - ASYNC ? 3 : open == 0 ? 5 : 4, i};
         // Every step of a task writes its opener's move, and the task's end writes it last.
-        uint32_t from = stack[open].opener, turn = stack[open].turn;
+        uint32_t from = stack[open].opener;
         uint32_t move = (from + 1) | (uint32_t)(i + 1) << 16;
-        moves[from] = move << turn | move >> (-turn & 31);
+        if (policy == HELP_FIRST) {
+            uint32_t turn = stack[open].turn;
+            move = move << turn | move >> (-turn & 31);
+            stack[open + 1].turn = (low == ASYNC) * 16;
+        }
+        moves[from] = move;
         moves[i] = 0;
         stack[open + 1].opener = i;
-        stack[open + 1].turn = policy == HELP_FIRST && low == ASYNC ? 16 : 0;
         if (opener)
             opener[i + 1] = stack[open + opens].opener;
         open += 2 * opens - 1;
@@ -234,14 +238,13 @@ static int waits(const struct run *run, size_t worker)
 }
 
 // A worker runs its step: refusals 9 and 10, or 0 and the step.
-static inline unsigned run_step(struct run *run, const uint8_t *tree, unsigned policy, size_t w, uint32_t *ran)
+static inline unsigned run_step(struct run *run, const uint8_t *tree, unsigned policy, struct worker *worker, uint32_t *ran)
 {
-    struct worker *worker = &run->workers[w];
     uint32_t step = worker->held;
     if (step >= MAY_WAIT) {
         if (step == NONE)
             return 9;
-        if (waits(run, w))
+        if (waits(run, worker - run->workers))
             return 10;
         step -= MAY_WAIT;
     }
@@ -302,21 +305,22 @@ static inline struct refusal walk(struct run *restrict run, const uint8_t *tree,
     uint32_t *log = outputs->log;
     begin_run(run, policy);
     for (size_t at = 0; at < count; at++) {
-        uint32_t first = events[2 * at], second = events[2 * at + 1];
+        size_t first = events[2 * at], second = events[2 * at + 1];
         if ((first | second) >= WORKERS)
             return (struct refusal){8, at};
         if (first == second) {
+            struct worker *worker = &run->workers[first];
             uint32_t step;
-            unsigned refused = run_step(run, tree, policy, first, &step);
+            unsigned refused = run_step(run, tree, policy, worker, &step);
             if (refused)
                 return (struct refusal){refused, at};
-            *log++ = run->workers[first].phase | step << 16;
+            *log++ = worker->phase | step << 16;
         } else {
             uint32_t number;
             unsigned refused = steal(run, tree, policy, first, second, &number);
             if (refused)
                 return (struct refusal){refused, at};
-            outputs->trace[run->steals - 1] = first | second << 8 | number << 16;
+            outputs->trace[run->steals - 1] = (uint32_t)(first | second << 8 | (size_t)number << 16);
         }
     }
     outputs->logs = log - outputs->log;
@@ -402,12 +406,13 @@ struct outcome tuned_event(struct run *run, const uint8_t *tree, uint8_t first, 
     if (first >= WORKERS || second >= WORKERS) {
         outcome.number = 8;
     } else if (first == second) {
+        struct worker *worker = &run->workers[first];
         uint32_t step;
-        outcome.number = run->policy == WORK_FIRST ? run_step(run, tree, WORK_FIRST, first, &step)
-                                                   : run_step(run, tree, HELP_FIRST, first, &step);
+        outcome.number = run->policy == WORK_FIRST ? run_step(run, tree, WORK_FIRST, worker, &step)
+                                                   : run_step(run, tree, HELP_FIRST, worker, &step);
         if (outcome.number == 0) {
             outcome.what = 1;
-            outcome.phase = run->workers[first].phase;
+            outcome.phase = worker->phase;
             outcome.step = step;
         }
     } else {

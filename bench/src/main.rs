@@ -1,10 +1,11 @@
 //! Prints the tables of the benchmarks. `bench/run` builds all that they need and runs this; its words go here:
 //!
 //! - `record`, `replay`, `event`: only these tables
-//! - `--instructions`: instruction counts in place of times
-//! - `--call WHAT CONTESTANT SHAPE POLICY WORKERS`: one call on a tree of the largest count, for whoever counts its instructions
+//! - `--instructions`: instructions of whole calls on the largest trees in place of times
+//! - `--call WHAT CONTESTANT SHAPE POLICY WORKERS`: makes one such call
 
 use std::hint::black_box;
+use std::process::Command;
 
 use frame_bench::cases::{schedule, tree, Shape, COUNTS, LARGEST, POLICIES, SEEDS, SHAPES, WORKERS};
 use frame_bench::library::{self, FrameRecord, FrameReplay, RunState};
@@ -44,9 +45,9 @@ struct Table<const N: usize> {
 }
 
 impl<const N: usize> Table<N> {
-    /// Prints the heading. `units` is what a time is divided by.
+    /// Prints the heading. `units` is what a number is divided by.
     fn new(what: &str, units: &str, columns: [&'static str; N]) -> Table<N> {
-        println!("{what}, ns per {}:", &units[..units.len() - 1]);
+        println!("{what}, by {units}");
         print!("{:9}{:>5}  {:10}{:>8}{units:>8}{:>8}", "shape", "n", "policy", "workers", "steals");
         Table::<N>::headings(&columns);
         Table { columns, sizes: Vec::new() }
@@ -54,8 +55,8 @@ impl<const N: usize> Table<N> {
 
     fn headings(columns: &[&'static str; N]) {
         columns.iter().for_each(|column| print!("{column:>11}"));
-        columns[1..N - 1].iter().for_each(|column| print!("{:>17}", format!("{column}/tuned")));
-        println!("{:>17}", format!("simulator/{}", columns[1]));
+        columns[1..N - 1].iter().for_each(|column| print!("{:>20}", format!("{column}/tuned")));
+        println!("{:>20}", format!("simulator/{}", columns[1]));
     }
 
     /// Ratios of the library's columns to the baseline, and of the simulator to the first of them.
@@ -80,32 +81,38 @@ impl<const N: usize> Table<N> {
         print!("{shape:9}{n:>5}  {policy:10}{workers:>8}{units:>8}{steals:>8}");
         times.iter().for_each(|time| print!("{time:>11.2}"));
         let ratios = Table::ratios(&times.map(|time| vec![time]));
-        ratios.iter().for_each(|ratio| print!("{:>17.2}", ratio[0]));
+        ratios.iter().for_each(|ratio| print!("{:>20.2}", ratio[0]));
         println!();
     }
 
     /// Prints the means of each size.
     fn summary(&self) {
         println!("geometric means over the cases of each n; of the ratios also the least and the most:");
-        print!("{:>42}", "n");
+        print!("{:>50}", "n");
         Table::<N>::headings(&self.columns);
         for (n, times) in &self.sizes {
-            print!("{n:>42}");
+            print!("{n:>50}");
             times.iter().for_each(|times| print!("{:>11.2}", geometric_mean(times)));
             for ratio in Table::ratios(times) {
                 let range = format!("({:.1}..{:.1})", least(&ratio), most(&ratio));
-                print!("{:>17}", format!("{:.2} {range}", geometric_mean(&ratio)));
+                print!("{:>20}", format!("{:.2} {range}", geometric_mean(&ratio)));
             }
             println!();
         }
-        let ((_, first), (n, last)) = (&self.sizes[0], &self.sizes[self.sizes.len() - 1]);
-        print!("{:>42}", format!("n = {n}, times n = {}", self.sizes[0].0));
-        for (last, first) in last.iter().zip(first) {
-            print!("{:>11.2}", geometric_mean(&divided(last, first)));
+        let ((least, first), (most, last)) = (&self.sizes[0], &self.sizes[self.sizes.len() - 1]);
+        if most > least {
+            print!("{:>50}", format!("growth from {least} to {most}"));
+            for (last, first) in last.iter().zip(first) {
+                print!("{:>11.2}", geometric_mean(&divided(last, first)));
+            }
+            println!();
         }
-        println!("\n");
+        println!();
     }
 }
+
+/// The columns where the library has one.
+const CONTESTANTS: [&str; 3] = ["tuned", "library", "simulator"];
 
 // ---- Recording ----
 
@@ -156,7 +163,7 @@ impl RecordCase {
 }
 
 fn record_table() {
-    let mut table = Table::new("record", "events", ["tuned", "library", "simulator"]);
+    let mut table = Table::new("record, ns", "events", CONTESTANTS);
     for_each_case(|shape, n, (policy, byte), workers| {
         let case = |seed| RecordCase::new(tree(shape, n, seed), byte, workers, seed);
         let inputs: &mut Vec<_> = &mut SEEDS.map(case).collect();
@@ -252,7 +259,7 @@ impl ReplayCase {
 const SPINES: [(&str, usize); 2] = [("flat", 0), ("deep", MAX_OPEN - 2)];
 
 fn replay_table() {
-    let mut table = Table::new("replay", "steps", ["tuned", "library", "simulator"]);
+    let mut table = Table::new("replay, ns", "steps", CONTESTANTS);
     for_each_case(|shape, n, (policy, byte), workers| {
         let case = |seed| ReplayCase::of_run(tree(shape, n, seed), byte, workers, seed);
         let inputs: &mut Vec<_> = &mut SEEDS.map(case).collect();
@@ -341,7 +348,7 @@ impl EventCase {
 }
 
 fn event_table() {
-    let mut table = Table::new("single event", "events", ["tuned", "by value", "simulator"]);
+    let mut table = Table::new("single event, ns", "events", ["tuned", "by value", "simulator"]);
     for_each_case(|shape, n, (policy, byte), workers| {
         let cases: Vec<_> = SEEDS.map(|seed| EventCase::new(tree(shape, n, seed), byte, workers, seed)).collect();
         let (units, steals) = cases.iter().fold((0, 0), |sum, case| (sum.0 + case.events.len(), sum.1 + case.check()));
@@ -376,61 +383,85 @@ fn for_each_case(mut each: impl FnMut(Shape, usize, (&'static str, u8), usize)) 
 
 // ---- Instructions ----
 
-/// What `valgrind` counts the instructions of.
+/// The name by which `valgrind` knows what it is to count.
 #[no_mangle]
 #[inline(never)]
 fn measured_call(call: &mut dyn FnMut()) {
     call();
 }
 
-/// One call on a tree of the largest count.
-fn call(words: &[&str]) {
+/// Makes one call on a tree of the largest count.
+fn make_call(words: &[&str]) {
     let [what, contestant, shape, policy, workers] = words else { panic!("five words, not {words:?}") };
     let shape = SHAPES.into_iter().find(|(name, _)| name == shape).expect("a shape");
     let (_, policy) = POLICIES.into_iter().find(|(name, _)| name == policy).expect("a policy");
     let workers = workers.parse().expect("a count of workers");
+    let contestant = CONTESTANTS.iter().position(|name| name == contestant).expect("a contestant");
     let seed = SEEDS.start;
     let tree = tree(shape, LARGEST, seed);
-    match *what {
-        "record" => {
-            let mut case = RecordCase::new(tree, policy, workers, seed);
-            let call = match *contestant {
-                "tuned" => RecordCase::tuned,
-                "library" => RecordCase::library,
-                _ => RecordCase::simulator,
-            };
-            measured_call(&mut || {
-                black_box(call(&mut case));
-            });
-        }
-        _ => {
-            let mut case = ReplayCase::of_run(tree, policy, workers, seed);
-            let call = match *contestant {
-                "tuned" => ReplayCase::tuned,
-                "library" => ReplayCase::library,
-                _ => ReplayCase::simulator,
-            };
-            measured_call(&mut || {
-                black_box(call(&mut case));
-            });
+    if *what == "record" {
+        let mut case = RecordCase::new(tree, policy, workers, seed);
+        let call = [RecordCase::tuned, RecordCase::library, RecordCase::simulator][contestant];
+        measured_call(&mut || _ = black_box(call(&mut case)));
+    } else {
+        let mut case = ReplayCase::of_run(tree, policy, workers, seed);
+        let call = [ReplayCase::tuned, ReplayCase::library, ReplayCase::simulator][contestant];
+        measured_call(&mut || _ = black_box(call(&mut case)));
+    }
+}
+
+/// The instructions of one call, counted by `valgrind`.
+fn instructions(words: [&str; 5]) -> f64 {
+    let program = std::env::current_exe().expect("this program has a name");
+    let output = Command::new("valgrind")
+        .args(["--tool=callgrind", "--callgrind-out-file=/dev/null", "--toggle-collect=measured_call"])
+        .arg(program)
+        .arg("--call")
+        .args(words)
+        // Clearing and copying by vectors: an instruction with a repeat prefix would be counted once for each repeat.
+        .env("GLIBC_TUNABLES", "glibc.cpu.x86_rep_stosb_threshold=1000000:glibc.cpu.x86_rep_movsb_threshold=1000000")
+        .output()
+        .expect("valgrind runs");
+    let text = String::from_utf8_lossy(&output.stderr);
+    let count = text.lines().find_map(|line| line.split_once("Collected :")).and_then(|(_, count)| count.trim().parse().ok());
+    count.unwrap_or_else(|| panic!("valgrind counts nothing for {words:?}: {text}"))
+}
+
+fn instructions_table(what: &str) {
+    let units = if what == "record" { "events" } else { "steps" };
+    let mut table = Table::new(&format!("{what}, instructions of a call"), units, CONTESTANTS);
+    for shape in SHAPES {
+        for (policy, byte) in POLICIES {
+            for workers in WORKERS {
+                let seed = SEEDS.start;
+                let mut case = RecordCase::new(tree(shape, LARGEST, seed), byte, workers, seed);
+                let (events, steals) = (case.events(), case.check());
+                let units = if what == "record" { events } else { LARGEST };
+                let count = |contestant| instructions([what, contestant, shape.0, policy, &workers.to_string()]);
+                let counts = CONTESTANTS.map(|contestant| count(contestant) / units as f64);
+                table.line(&Row { shape: shape.0, n: LARGEST, policy, workers, units, steals }, counts);
+            }
         }
     }
+    table.summary();
 }
 
 fn main() {
     let words: Vec<String> = std::env::args().skip(1).collect();
     let words: Vec<&str> = words.iter().map(String::as_str).collect();
-    if let ["--call", words @ ..] = &words[..] {
-        return call(words);
-    }
-    let asked = |table| words.is_empty() || words.contains(&table);
-    if asked("record") {
-        record_table();
-    }
-    if asked("replay") {
-        replay_table();
-    }
-    if asked("event") {
-        event_table();
+    match words[..] {
+        ["--call", ref words @ ..] => make_call(words),
+        ["--instructions"] => ["record", "replay"].into_iter().for_each(instructions_table),
+        _ => {
+            let tables: [(&str, fn()); 3] = [("record", record_table), ("replay", replay_table), ("event", event_table)];
+            for word in &words {
+                assert!(tables.iter().any(|(name, _)| name == word), "there is no table {word}");
+            }
+            for (name, table) in tables {
+                if words.is_empty() || words.contains(&name) {
+                    table();
+                }
+            }
+        }
     }
 }
