@@ -267,7 +267,9 @@ fn replay_table() {
         table.line(&Row::new(shape, n, policy, workers, units, steals), times);
     });
     table.summary();
-    println!("replay where thieves are robbed in turn of all but their first child: the most steals, and long ranges (one input)");
+    println!(
+        "replay where thieves are robbed in turn of all but their first child: the most steals, and long ranges (one input)"
+    );
     for (name, spine) in SPINES {
         for (policy, byte) in POLICIES {
             let (units, steals, times) = ReplayCase::times(&mut [ReplayCase::of_thieves(byte, spine)]);
@@ -379,7 +381,6 @@ fn for_each_case(mut each: impl FnMut(Shape, usize, (&'static str, u8), usize)) 
         }
     }
 }
-
 
 // ---- Instructions ----
 
