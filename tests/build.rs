@@ -1,4 +1,4 @@
-//! Links the proved library's archive, which `rt staticlib frame` makes, into the integration tests and the benchmarks.
+//! Links the proved library's archive, which `rt staticlib frame` makes, into the integration tests.
 
 use std::path::Path;
 
@@ -7,5 +7,4 @@ fn main() {
     let archive = Path::new(&here).join("../target/staticlib/libframe.a");
     println!("cargo:rerun-if-changed={}", archive.display());
     println!("cargo:rustc-link-arg-tests={}", archive.display());
-    println!("cargo:rustc-link-arg-benches={}", archive.display());
 }

@@ -1,0 +1,112 @@
+//! The trees and the schedules that are measured.
+
+use frame_tests::random::{accepted_bytes, drive, tree_of_kinds, Plan, Rng};
+use frame_tests::record::MAX_EVENTS;
+use frame_tests::tree::MAX_OPEN;
+use frame_tests::{Run, Tree};
+
+pub const POLICIES: [(&str, u8); 2] = [("work-first", 1), ("help-first", 2)];
+pub const WORKERS: [usize; 3] = [1, 4, 16];
+pub const COUNTS: [usize; 4] = [63, 255, 1_023, 4_095];
+pub const LARGEST: usize = COUNTS[COUNTS.len() - 1];
+pub const SHAPES: [Shape; 4] = [("balanced", balanced), ("flat", flat), ("deep", deep), ("random", random)];
+
+/// A case has so many inputs, which take turns: a processor foresees the branches of a single one that is repeated.
+pub const SEEDS: std::ops::Range<u64> = 1..9;
+
+/// In so many of a hundred cases an idle worker steals where it can, before anybody runs a step.
+const STEALS: usize = 30;
+
+// ---- Trees ----
+
+/// A name, and what makes the kinds.
+pub type Shape = (&'static str, fn(&mut Kinds, &mut Rng));
+
+const ASYNC: u8 = 1;
+const FINISH: u8 = 2;
+const END: u8 = 3;
+
+/// The kinds of a tree's records so far, and how many tasks are to be spawned yet.
+pub struct Kinds {
+    kinds: Vec<u8>,
+    spawned: usize,
+    left: usize,
+}
+
+impl Kinds {
+    /// Every third spawned task in serial order is a finish child, the others are async children.
+    fn open(&mut self) {
+        self.spawned += 1;
+        self.left -= 1;
+        self.kinds.push(if self.spawned % 3 == 0 { FINISH } else { ASYNC });
+    }
+
+    fn end(&mut self) {
+        self.kinds.push(END);
+    }
+}
+
+/// Each task has two children of the same size, or the first has one task more.
+fn balanced(out: &mut Kinds, _: &mut Rng) {
+    fn children(out: &mut Kinds, tasks: usize) {
+        for part in [tasks.div_ceil(2), tasks / 2] {
+            if part > 0 {
+                out.open();
+                children(out, part - 1);
+                out.end();
+            }
+        }
+    }
+    children(out, out.left);
+}
+
+/// The root opens all tasks, single ends.
+fn flat(out: &mut Kinds, _: &mut Rng) {
+    while out.left > 0 {
+        out.open();
+        out.end();
+    }
+}
+
+/// The root opens chains, each down to the most open tasks; the last chain may be shorter.
+fn deep(out: &mut Kinds, _: &mut Rng) {
+    while out.left > 0 {
+        let chain = out.left.min(MAX_OPEN - 1);
+        (0..chain).for_each(|_| out.open());
+        (0..chain).for_each(|_| out.end());
+    }
+}
+
+/// Opens and ends in random order, somewhat more opens while tasks are left.
+fn random(out: &mut Kinds, rng: &mut Rng) {
+    let mut open = 1;
+    while out.left > 0 {
+        if open < MAX_OPEN && (open == 1 || rng.percent(55)) {
+            out.open();
+            open += 1;
+        } else {
+            out.end();
+            open -= 1;
+        }
+    }
+    (1..open).for_each(|_| out.end());
+}
+
+/// A tree of exactly n records, all weights 1. Only random trees differ by the seed.
+pub fn tree((_, build): Shape, n: usize, seed: u64) -> Vec<u8> {
+    let mut out = Kinds { kinds: Vec::new(), spawned: 0, left: (n - 1) / 2 };
+    build(&mut out, &mut Rng::new(seed));
+    out.end();
+    let bytes = tree_of_kinds(&out.kinds);
+    assert_eq!(Tree::parse(&bytes).expect("the tree is accepted").count(), n);
+    bytes
+}
+
+/// Events by so many workers, all accepted, that finish the run from this start.
+pub fn schedule(start: &Run, workers: usize, seed: u64) -> Vec<u8> {
+    let plan = Plan { workers, events: MAX_EVENTS, bad: 0, steals: STEALS };
+    let mut run = start.clone();
+    let tried = drive(&mut Rng::new(seed), &mut run, &plan);
+    assert!(run.finished(), "the run is finished");
+    accepted_bytes(&tried)
+}

@@ -1,0 +1,468 @@
+//! Prints the tables of the benchmarks. `bench/run` builds all that they need and runs this; its words go here:
+//!
+//! - `record`, `replay`, `event`: only these tables
+//! - `--instructions`: instructions of whole calls on the largest trees in place of times
+//! - `--call WHAT CONTESTANT SHAPE POLICY WORKERS`: makes one such call
+
+use std::hint::black_box;
+use std::process::Command;
+
+use frame_bench::cases::{schedule, tree, Shape, COUNTS, LARGEST, POLICIES, SEEDS, SHAPES, WORKERS};
+use frame_bench::library::{self, FrameRecord, FrameReplay, RunState};
+use frame_bench::times::{divided, geometric_mean, least, medians, most, turn};
+use frame_bench::tuned;
+use frame_tests::random::robbed_in_turn;
+use frame_tests::record::{record, record_to_vecs, EVENT_BYTES};
+use frame_tests::replay::{replay, MAX_TRACE, TRACE_BYTES};
+use frame_tests::tree::{MAX_OPEN, TREE_RECORD};
+use frame_tests::{Policy, Run};
+
+// ---- Tables ----
+
+/// What tells cases of one table apart.
+struct Row {
+    shape: &'static str,
+    n: usize,
+    policy: &'static str,
+    workers: usize,
+    units: usize,
+    steals: usize,
+}
+
+impl Row {
+    /// Of a case by the sums over its inputs: a row has their means.
+    fn new(shape: Shape, n: usize, policy: &'static str, workers: usize, units: usize, steals: usize) -> Row {
+        let inputs = SEEDS.count();
+        Row { shape: shape.0, n, policy, workers, units: units / inputs, steals: steals / inputs }
+    }
+}
+
+/// The columns after the first, the tuned baseline, which all ratios of the library are taken to. The last is the simulator.
+struct Table<const N: usize> {
+    columns: [&'static str; N],
+    /// For each size the times of its cases, by column.
+    sizes: Vec<(usize, [Vec<f64>; N])>,
+}
+
+impl<const N: usize> Table<N> {
+    /// Prints the heading. `units` is what a number is divided by.
+    fn new(what: &str, units: &str, columns: [&'static str; N]) -> Table<N> {
+        println!("{what}, by {units}");
+        print!("{:9}{:>5}  {:10}{:>8}{units:>8}{:>8}", "shape", "n", "policy", "workers", "steals");
+        Table::<N>::headings(&columns);
+        Table { columns, sizes: Vec::new() }
+    }
+
+    fn headings(columns: &[&'static str; N]) {
+        columns.iter().for_each(|column| print!("{column:>11}"));
+        columns[1..N - 1].iter().for_each(|column| print!("{:>20}", format!("{column}/tuned")));
+        println!("{:>20}", format!("simulator/{}", columns[1]));
+    }
+
+    /// Ratios of the library's columns to the baseline, and of the simulator to the first of them.
+    fn ratios(times: &[Vec<f64>; N]) -> Vec<Vec<f64>> {
+        let to_tuned = times[1..N - 1].iter().map(|library| divided(library, &times[0]));
+        to_tuned.chain([divided(&times[N - 1], &times[1])]).collect()
+    }
+
+    /// Prints a case's line.
+    fn line(&mut self, row: &Row, times: [f64; N]) {
+        self.print(row, times);
+        if self.sizes.last().is_none_or(|(n, _)| *n != row.n) {
+            self.sizes.push((row.n, [const { Vec::new() }; N]));
+        }
+        let (_, size) = self.sizes.last_mut().expect("a size was pushed");
+        size.iter_mut().zip(times).for_each(|(times, time)| times.push(time));
+    }
+
+    /// The line alone: the case does not count in the means.
+    fn print(&self, row: &Row, times: [f64; N]) {
+        let Row { shape, n, policy, workers, units, steals } = row;
+        print!("{shape:9}{n:>5}  {policy:10}{workers:>8}{units:>8}{steals:>8}");
+        times.iter().for_each(|time| print!("{time:>11.2}"));
+        let ratios = Table::ratios(&times.map(|time| vec![time]));
+        ratios.iter().for_each(|ratio| print!("{:>20.2}", ratio[0]));
+        println!();
+    }
+
+    /// Prints the means of each size.
+    fn summary(&self) {
+        println!("geometric means over the cases of each n; of the ratios also the least and the most:");
+        print!("{:>50}", "n");
+        Table::<N>::headings(&self.columns);
+        for (n, times) in &self.sizes {
+            print!("{n:>50}");
+            times.iter().for_each(|times| print!("{:>11.2}", geometric_mean(times)));
+            for ratio in Table::ratios(times) {
+                let range = format!("({:.1}..{:.1})", least(&ratio), most(&ratio));
+                print!("{:>20}", format!("{:.2} {range}", geometric_mean(&ratio)));
+            }
+            println!();
+        }
+        let ((least, first), (most, last)) = (&self.sizes[0], &self.sizes[self.sizes.len() - 1]);
+        if most > least {
+            print!("{:>50}", format!("growth from {least} to {most}"));
+            for (last, first) in last.iter().zip(first) {
+                print!("{:>11.2}", geometric_mean(&divided(last, first)));
+            }
+            println!();
+        }
+        println!();
+    }
+}
+
+/// The columns where the library has one.
+const CONTESTANTS: [&str; 3] = ["tuned", "library", "simulator"];
+
+// ---- Recording ----
+
+struct RecordCase {
+    tree: Vec<u8>,
+    policy: u8,
+    /// All accepted; they finish the run.
+    events: Vec<u8>,
+    log: Vec<u8>,
+    trace: Vec<u8>,
+}
+
+impl RecordCase {
+    fn new(tree: Vec<u8>, policy: u8, workers: usize, seed: u64) -> RecordCase {
+        let start = Run::start(policy, &tree).expect("the tree is accepted");
+        let n = start.tree.count();
+        RecordCase { events: schedule(&start, workers, seed), tree, policy, log: vec![0; 4 * n], trace: vec![0; 2 * (n - 1)] }
+    }
+
+    fn events(&self) -> usize {
+        self.events.len() / EVENT_BYTES
+    }
+
+    fn tuned(&mut self) -> FrameRecord {
+        tuned::record(black_box(&self.tree), self.policy, &self.events, &mut self.log, &mut self.trace)
+    }
+
+    fn library(&mut self) -> FrameRecord {
+        library::record(black_box(&self.tree), self.policy, &self.events, &mut self.log, &mut self.trace)
+    }
+
+    fn simulator(&mut self) -> FrameRecord {
+        record(self.policy, black_box(&self.tree), &self.events, &mut self.log, &mut self.trace).into()
+    }
+
+    /// All three give the same answer and the same outputs, and all steps have run. Gives the count of steals.
+    fn check(&mut self) -> usize {
+        let want = (self.simulator(), self.log.clone(), self.trace.clone());
+        for call in [RecordCase::tuned, RecordCase::library] {
+            self.log.fill(255);
+            self.trace.fill(255);
+            assert_eq!((call(self), &self.log), (want.0, &want.1));
+            assert_eq!(self.trace[..4 * want.0.steals], want.2[..4 * want.0.steals]);
+        }
+        assert_eq!((want.0.number, want.0.finished), (0, 1));
+        want.0.steals
+    }
+}
+
+fn record_table() {
+    let mut table = Table::new("record, ns", "events", CONTESTANTS);
+    for_each_case(|shape, n, (policy, byte), workers| {
+        let case = |seed| RecordCase::new(tree(shape, n, seed), byte, workers, seed);
+        let inputs: &mut Vec<_> = &mut SEEDS.map(case).collect();
+        let (units, steals) = inputs.iter_mut().fold((0, 0), |sum, case| (sum.0 + case.events(), sum.1 + case.check()));
+        let times = medians(
+            inputs,
+            [RecordCase::tuned, RecordCase::library, RecordCase::simulator]
+                .map(|call| move |inputs: &mut [_]| turn(inputs, units, |_| (), |case, ()| _ = black_box(call(case))))
+                .each_ref()
+                .map(|turn| turn as &dyn Fn(&mut [_]) -> f64),
+        );
+        table.line(&Row::new(shape, n, policy, workers, units, steals), times);
+    });
+    table.summary();
+}
+
+// ---- Replay ----
+
+struct ReplayCase {
+    tree: Vec<u8>,
+    policy: u8,
+    /// Accepted.
+    trace: Vec<u8>,
+    list: Vec<u8>,
+}
+
+impl ReplayCase {
+    fn new(tree: Vec<u8>, policy: u8, trace: Vec<u8>) -> ReplayCase {
+        let list = vec![0; 4 * (tree.len() / TREE_RECORD)];
+        ReplayCase { tree, policy, trace, list }
+    }
+
+    /// The trace of a run by so many workers.
+    fn of_run(tree: Vec<u8>, policy: u8, workers: usize, seed: u64) -> ReplayCase {
+        let start = Run::start(policy, &tree).expect("the tree is accepted");
+        let (_, _, trace) = record_to_vecs(policy, &tree, &schedule(&start, workers, seed));
+        ReplayCase::new(tree, policy, trace)
+    }
+
+    /// Every spawned task is stolen, and most ranges are long; so many tasks stand one in another.
+    fn of_thieves(policy: u8, spine: usize) -> ReplayCase {
+        let reading = Policy::parse(policy).expect("the policy is one");
+        let (tree, trace) = robbed_in_turn(reading, spine, MAX_TRACE - spine);
+        ReplayCase::new(tree, policy, trace)
+    }
+
+    fn steps(&self) -> usize {
+        self.tree.len() / TREE_RECORD
+    }
+
+    fn tuned(&mut self) -> FrameReplay {
+        tuned::replay(black_box(&self.tree), self.policy, &self.trace, &mut self.list)
+    }
+
+    fn library(&mut self) -> FrameReplay {
+        library::replay(black_box(&self.tree), self.policy, &self.trace, &mut self.list)
+    }
+
+    fn simulator(&mut self) -> FrameReplay {
+        replay(self.policy, black_box(&self.tree), &self.trace, &mut self.list).into()
+    }
+
+    /// All three give the same answer and the same list.
+    fn check(&mut self) {
+        let want = (self.simulator(), self.list.clone());
+        for call in [ReplayCase::tuned, ReplayCase::library] {
+            self.list.fill(255);
+            assert_eq!((call(self), &self.list), (want.0, &want.1));
+        }
+        assert_eq!((want.0.number, want.0.phases), (0, self.trace.len() / TRACE_BYTES + 1));
+    }
+
+    fn steals(&self) -> usize {
+        self.trace.len() / TRACE_BYTES
+    }
+
+    /// The sums of steps and of steals, and the times.
+    fn times(inputs: &mut [ReplayCase]) -> (usize, usize, [f64; 3]) {
+        inputs.iter_mut().for_each(ReplayCase::check);
+        let (units, steals) = inputs.iter().fold((0, 0), |sum, case| (sum.0 + case.steps(), sum.1 + case.steals()));
+        let times = medians(
+            inputs,
+            [ReplayCase::tuned, ReplayCase::library, ReplayCase::simulator]
+                .map(|call| move |inputs: &mut [_]| turn(inputs, units, |_| (), |case, ()| _ = black_box(call(case))))
+                .each_ref()
+                .map(|turn| turn as &dyn Fn(&mut [_]) -> f64),
+        );
+        (units, steals, times)
+    }
+}
+
+/// How many tasks stand one in another where thieves are robbed in turn: none, and as many as leave room for one child more.
+const SPINES: [(&str, usize); 2] = [("flat", 0), ("deep", MAX_OPEN - 2)];
+
+fn replay_table() {
+    let mut table = Table::new("replay, ns", "steps", CONTESTANTS);
+    for_each_case(|shape, n, (policy, byte), workers| {
+        let case = |seed| ReplayCase::of_run(tree(shape, n, seed), byte, workers, seed);
+        let inputs: &mut Vec<_> = &mut SEEDS.map(case).collect();
+        let (units, steals, times) = ReplayCase::times(inputs);
+        table.line(&Row::new(shape, n, policy, workers, units, steals), times);
+    });
+    table.summary();
+    println!(
+        "replay where thieves are robbed in turn of all but their first child: the most steals, and long ranges (one input)"
+    );
+    for (name, spine) in SPINES {
+        for (policy, byte) in POLICIES {
+            let (units, steals, times) = ReplayCase::times(&mut [ReplayCase::of_thieves(byte, spine)]);
+            table.print(&Row { shape: name, n: units, policy, workers: 16, units, steals }, times);
+        }
+    }
+    println!();
+}
+
+// ---- Single events ----
+
+struct EventCase {
+    tree: Vec<u8>,
+    policy: u8,
+    state: RunState,
+    run: Run,
+    /// All accepted; they finish the run.
+    events: Vec<[u8; EVENT_BYTES]>,
+}
+
+impl EventCase {
+    fn new(tree: Vec<u8>, policy: u8, workers: usize, seed: u64) -> EventCase {
+        let state = library::start(&tree, policy).state;
+        let run = Run::start(policy, &tree).expect("the tree is accepted");
+        let events = schedule(&run, workers, seed).chunks(EVENT_BYTES).map(|event| [event[0], event[1]]).collect();
+        EventCase { tree, policy, state, run, events }
+    }
+
+    fn tuned_start(&self) -> tuned::Run<'_> {
+        tuned::Run::start(&self.tree, self.policy).expect("the tree is accepted")
+    }
+
+    // The first two begin with a new state; the simulator's is made beforehand, because it takes long.
+
+    fn tuned(&self, run: &mut tuned::Run) {
+        run.restart();
+        for &[first, second] in &self.events {
+            black_box(&run.event(first, second));
+        }
+    }
+
+    fn by_value(&self, state: &mut RunState) {
+        *state = self.state;
+        for &[first, second] in &self.events {
+            let answer = library::event(*state, &self.tree, first, second);
+            *state = answer.state;
+        }
+    }
+
+    fn simulator(&self, run: &mut Run) {
+        for &[first, second] in &self.events {
+            black_box(run.event(first, second).is_ok());
+        }
+    }
+
+    /// All give each event the same answer, no refusal, and in the end all steps have run. Gives the count of steals.
+    fn check(&self) -> usize {
+        let mut state = self.state;
+        let mut tuned = self.tuned_start();
+        let mut run = self.run.clone();
+        for &[first, second] in &self.events {
+            run.event(first, second).expect("the event is accepted");
+            let want = if first == second {
+                let ran = run.log.last().expect("a step ran");
+                [0, 1, ran.phase, ran.step, 0]
+            } else {
+                [0, 2, 0, 0, run.trace.last().expect("a step was stolen").number]
+            };
+            let got = library::event(state, &self.tree, first, second);
+            assert_eq!([got.number, got.what, got.phase, got.step, got.trace], want);
+            state = got.state;
+            let got = tuned.event(first, second);
+            assert_eq!([got.number, got.what, got.phase, got.step, got.trace], want);
+        }
+        assert!(run.finished());
+        run.trace.len()
+    }
+}
+
+fn event_table() {
+    let mut table = Table::new("single event, ns", "events", ["tuned", "by value", "simulator"]);
+    for_each_case(|shape, n, (policy, byte), workers| {
+        let cases: Vec<_> = SEEDS.map(|seed| EventCase::new(tree(shape, n, seed), byte, workers, seed)).collect();
+        let (units, steals) = cases.iter().fold((0, 0), |sum, case| (sum.0 + case.events.len(), sum.1 + case.check()));
+        let inputs: &mut Vec<_> = &mut cases.iter().map(|case| (case, case.tuned_start(), case.state)).collect();
+        let times = medians(
+            inputs,
+            [
+                &|inputs| turn(inputs, units, |_| (), |(case, run, _), ()| case.tuned(run)),
+                &|inputs| turn(inputs, units, |_| (), |(case, _, state), ()| case.by_value(state)),
+                &|inputs| turn(inputs, units, |(case, ..)| case.run.clone(), |(case, ..), run| case.simulator(run)),
+            ],
+        );
+        table.line(&Row::new(shape, n, policy, workers, units, steals), times);
+    });
+    table.summary();
+}
+
+// ---- All cases ----
+
+fn for_each_case(mut each: impl FnMut(Shape, usize, (&'static str, u8), usize)) {
+    for n in COUNTS {
+        for shape in SHAPES {
+            for policy in POLICIES {
+                for workers in WORKERS {
+                    each(shape, n, policy, workers);
+                }
+            }
+        }
+    }
+}
+
+// ---- Instructions ----
+
+/// The name by which `valgrind` knows what it is to count.
+#[no_mangle]
+#[inline(never)]
+fn measured_call(call: &mut dyn FnMut()) {
+    call();
+}
+
+/// Makes one call on a tree of the largest count.
+fn make_call(words: &[&str]) {
+    let [what, contestant, shape, policy, workers] = words else { panic!("five words, not {words:?}") };
+    let shape = SHAPES.into_iter().find(|(name, _)| name == shape).expect("a shape");
+    let (_, policy) = POLICIES.into_iter().find(|(name, _)| name == policy).expect("a policy");
+    let workers = workers.parse().expect("a count of workers");
+    let contestant = CONTESTANTS.iter().position(|name| name == contestant).expect("a contestant");
+    let seed = SEEDS.start;
+    let tree = tree(shape, LARGEST, seed);
+    if *what == "record" {
+        let mut case = RecordCase::new(tree, policy, workers, seed);
+        let call = [RecordCase::tuned, RecordCase::library, RecordCase::simulator][contestant];
+        measured_call(&mut || _ = black_box(call(&mut case)));
+    } else {
+        let mut case = ReplayCase::of_run(tree, policy, workers, seed);
+        let call = [ReplayCase::tuned, ReplayCase::library, ReplayCase::simulator][contestant];
+        measured_call(&mut || _ = black_box(call(&mut case)));
+    }
+}
+
+/// The instructions of one call, counted by `valgrind`.
+fn instructions(words: [&str; 5]) -> f64 {
+    let program = std::env::current_exe().expect("this program has a name");
+    let output = Command::new("valgrind")
+        .args(["--tool=callgrind", "--callgrind-out-file=/dev/null", "--toggle-collect=measured_call"])
+        .arg(program)
+        .arg("--call")
+        .args(words)
+        // Clearing and copying by vectors: an instruction with a repeat prefix would be counted once for each repeat.
+        .env("GLIBC_TUNABLES", "glibc.cpu.x86_rep_stosb_threshold=1000000:glibc.cpu.x86_rep_movsb_threshold=1000000")
+        .output()
+        .expect("valgrind runs");
+    let text = String::from_utf8_lossy(&output.stderr);
+    let count = text.lines().find_map(|line| line.split_once("Collected :")).and_then(|(_, count)| count.trim().parse().ok());
+    count.unwrap_or_else(|| panic!("valgrind counts nothing for {words:?}: {text}"))
+}
+
+fn instructions_table(what: &str) {
+    let units = if what == "record" { "events" } else { "steps" };
+    let mut table = Table::new(&format!("{what}, instructions of a call"), units, CONTESTANTS);
+    for shape in SHAPES {
+        for (policy, byte) in POLICIES {
+            for workers in WORKERS {
+                let seed = SEEDS.start;
+                let mut case = RecordCase::new(tree(shape, LARGEST, seed), byte, workers, seed);
+                let (events, steals) = (case.events(), case.check());
+                let units = if what == "record" { events } else { LARGEST };
+                let count = |contestant| instructions([what, contestant, shape.0, policy, &workers.to_string()]);
+                let counts = CONTESTANTS.map(|contestant| count(contestant) / units as f64);
+                table.line(&Row { shape: shape.0, n: LARGEST, policy, workers, units, steals }, counts);
+            }
+        }
+    }
+    table.summary();
+}
+
+fn main() {
+    let words: Vec<String> = std::env::args().skip(1).collect();
+    let words: Vec<&str> = words.iter().map(String::as_str).collect();
+    match words[..] {
+        ["--call", ref words @ ..] => make_call(words),
+        ["--instructions"] => ["record", "replay"].into_iter().for_each(instructions_table),
+        _ => {
+            let tables: [(&str, fn()); 3] = [("record", record_table), ("replay", replay_table), ("event", event_table)];
+            for word in &words {
+                assert!(tables.iter().any(|(name, _)| name == word), "there is no table {word}");
+            }
+            for (name, table) in tables {
+                if words.is_empty() || words.contains(&name) {
+                    table();
+                }
+            }
+        }
+    }
+}

@@ -1,0 +1,101 @@
+//! The baseline of `tuned.c`: all declarations, and safe calls.
+
+use crate::library::{FrameRecord, FrameReplay};
+
+#[repr(C)]
+#[derive(Clone, Copy, Debug, PartialEq, Eq)]
+pub struct Refusal {
+    pub number: usize,
+    pub position: usize,
+}
+
+/// What an event did: `what` is 1 for a run and 2 for a steal. What is not answered is 0.
+#[repr(C)]
+#[derive(Clone, Copy, Debug, PartialEq, Eq)]
+pub struct Outcome {
+    pub number: usize,
+    pub position: usize,
+    pub what: usize,
+    pub phase: usize,
+    pub step: usize,
+    pub trace: usize,
+}
+
+mod c {
+    use super::{FrameRecord, FrameReplay, Outcome, Refusal};
+
+    extern "C" {
+        pub fn tuned_record(
+            tree: *const u8,
+            tree_len: usize,
+            policy: u8,
+            events: *const u8,
+            events_len: usize,
+            log: *mut u8,
+            log_len: usize,
+            trace: *mut u8,
+            trace_len: usize,
+        ) -> FrameRecord;
+        pub fn tuned_replay(
+            tree: *const u8,
+            tree_len: usize,
+            policy: u8,
+            trace: *const u8,
+            trace_len: usize,
+            list: *mut u8,
+            list_len: usize,
+        ) -> FrameReplay;
+        pub fn tuned_state_bytes() -> usize;
+        pub fn tuned_start(state: *mut u64, tree: *const u8, tree_len: usize, policy: u8) -> Refusal;
+        pub fn tuned_restart(state: *mut u64);
+        pub fn tuned_event(state: *mut u64, tree: *const u8, first: u8, second: u8) -> Outcome;
+    }
+}
+
+pub fn record(tree: &[u8], policy: u8, events: &[u8], log: &mut [u8], trace: &mut [u8]) -> FrameRecord {
+    unsafe {
+        c::tuned_record(
+            tree.as_ptr(),
+            tree.len(),
+            policy,
+            events.as_ptr(),
+            events.len(),
+            log.as_mut_ptr(),
+            log.len(),
+            trace.as_mut_ptr(),
+            trace.len(),
+        )
+    }
+}
+
+pub fn replay(tree: &[u8], policy: u8, trace: &[u8], list: &mut [u8]) -> FrameReplay {
+    unsafe { c::tuned_replay(tree.as_ptr(), tree.len(), policy, trace.as_ptr(), trace.len(), list.as_mut_ptr(), list.len()) }
+}
+
+/// A run by single events, with the tree that it began with.
+pub struct Run<'a> {
+    tree: &'a [u8],
+    /// It has pointers into itself, so it is never moved.
+    state: Box<[u64]>,
+}
+
+impl<'a> Run<'a> {
+    pub fn start(tree: &'a [u8], policy: u8) -> Result<Run<'a>, Refusal> {
+        let mut state = vec![0; unsafe { c::tuned_state_bytes() }.div_ceil(8)].into_boxed_slice();
+        let refusal = unsafe { c::tuned_start(state.as_mut_ptr(), tree.as_ptr(), tree.len(), policy) };
+        if refusal.number == 0 {
+            Ok(Run { tree, state })
+        } else {
+            Err(refusal)
+        }
+    }
+
+    /// Back to the start.
+    pub fn restart(&mut self) {
+        unsafe { c::tuned_restart(self.state.as_mut_ptr()) }
+    }
+
+    pub fn event(&mut self, first: u8, second: u8) -> Outcome {
+        unsafe { c::tuned_event(self.state.as_mut_ptr(), self.tree.as_ptr(), first, second) }
+    }
+}

@@ -1,0 +1,147 @@
+//! The tuned baseline against the simulator, so that what the benchmarks compare with does the same work.
+
+use frame_bench::library::{FrameRecord, FrameReplay};
+use frame_bench::tuned;
+use frame_tests::random::{self, any_event, events_to_record, robbed_in_turn, trace_to_replay, Rng};
+use frame_tests::record::record;
+use frame_tests::replay::{replay, MAX_TRACE};
+use frame_tests::{Policy, Run, Tree};
+
+/// How many random calls a test makes; `BENCH_CHECKS` asks for another count.
+fn checks() -> u64 {
+    std::env::var("BENCH_CHECKS").map_or(6_000, |count| count.parse().expect("BENCH_CHECKS is a count"))
+}
+
+/// A tree, sometimes a damaged one, and now and then as large as can be.
+fn tree(rng: &mut Rng) -> Vec<u8> {
+    let most = rng.pick(&[3, 20, 20, 100, 100, 2_047]);
+    let tasks = rng.between(0, most);
+    if rng.percent(10) {
+        random::damaged_tree(rng, tasks)
+    } else {
+        random::tree(rng, tasks)
+    }
+}
+
+fn policy(rng: &mut Rng) -> u8 {
+    if rng.percent(3) {
+        rng.next() as u8
+    } else {
+        rng.between(1, 2) as u8
+    }
+}
+
+/// A buffer of so many bytes or, rarely, a few less or more; no byte of it is 0.
+fn buffer(rng: &mut Rng, bytes: usize) -> Vec<u8> {
+    let bytes = match rng.below(20) {
+        0 => bytes.saturating_sub(rng.between(1, 5)),
+        1 | 2 => bytes + rng.between(1, 9),
+        _ => bytes,
+    };
+    rng.bytes(bytes).into_iter().map(|byte| byte | 1).collect()
+}
+
+/// A list for a tree and a policy, or any bytes where one of them is refused.
+fn list(rng: &mut Rng, policy: u8, tree: &[u8], make: fn(&mut Rng, Policy, &Tree) -> Vec<u8>) -> Vec<u8> {
+    match (Policy::parse(policy), Tree::parse(tree)) {
+        (Ok(policy), Ok(tree)) => {
+            let mut list = make(rng, policy, &tree);
+            if rng.percent(3) {
+                let bytes = rng.pick(&[1, 2, 3, 8_190, 20_000]);
+                list.extend(rng.bytes(bytes));
+            }
+            list
+        }
+        _ => rng.bytes(8),
+    }
+}
+
+#[test]
+fn recording() {
+    let mut refusals = [0; 16];
+    for seed in 0..checks() {
+        let rng = &mut Rng::new(seed);
+        let (policy, tree) = (policy(rng), tree(rng));
+        let events = list(rng, policy, &tree, events_to_record);
+        let n = tree.len() / 8;
+        let (log, trace) = (buffer(rng, 4 * n), buffer(rng, 2 * n.max(1) - 2));
+        let (mut got, mut want) = ((log.clone(), trace.clone()), (log, trace));
+        let answer = tuned::record(&tree, policy, &events, &mut got.0, &mut got.1);
+        let expected: FrameRecord = record(policy, &tree, &events, &mut want.0, &mut want.1).into();
+        assert_eq!(answer, expected, "seed {seed}");
+        assert!(got == want, "seed {seed}: log or trace");
+        refusals[answer.number] += 1;
+    }
+    assert!((0..=12).all(|number| refusals[number] > 0), "numbers seen: {refusals:?}");
+}
+
+#[test]
+fn replaying() {
+    let mut refusals = [0; 16];
+    for seed in 0..checks() {
+        let rng = &mut Rng::new(seed);
+        let (policy, tree) = (policy(rng), tree(rng));
+        let trace = list(rng, policy, &tree, trace_to_replay);
+        let list = buffer(rng, 4 * (tree.len() / 8));
+        let (mut got, mut want) = (list.clone(), list);
+        let answer = tuned::replay(&tree, policy, &trace, &mut got);
+        let expected: FrameReplay = replay(policy, &tree, &trace, &mut want).into();
+        assert_eq!(answer, expected, "seed {seed}");
+        assert!(got == want, "seed {seed}: the run list");
+        refusals[answer.number] += 1;
+    }
+    assert!([0, 1, 2, 3, 4, 5, 6, 7, 8, 13, 14, 15].iter().all(|&number| refusals[number] > 0), "numbers seen: {refusals:?}");
+}
+
+#[test]
+fn replaying_long_ranges() {
+    for policy in [Policy::WorkFirst, Policy::HelpFirst] {
+        for spine in [0, 1, 62] {
+            let (tree, trace) = robbed_in_turn(policy, spine, MAX_TRACE - spine);
+            let byte = if policy == Policy::WorkFirst { 1 } else { 2 };
+            let (mut got, mut want) = (vec![0; tree.len() / 2], vec![0; tree.len() / 2]);
+            let answer = tuned::replay(&tree, byte, &trace, &mut got);
+            assert_eq!(answer, replay(byte, &tree, &trace, &mut want).into(), "{policy:?}, spine {spine}");
+            assert!(got == want, "{policy:?}, spine {spine}: the run list");
+            assert_eq!(answer.phases, MAX_TRACE + 1);
+        }
+    }
+}
+
+/// Single events, refused ones among them, each with the answer of the simulator.
+#[test]
+fn single_events() {
+    let mut refusals = [0; 16];
+    for seed in 0..checks() {
+        let rng = &mut Rng::new(seed);
+        let (policy, tree) = (policy(rng), tree(rng));
+        let started = Run::start(policy, &tree);
+        let tuned = tuned::Run::start(&tree, policy);
+        let (mut run, mut tuned) = match (started, tuned) {
+            (Ok(run), Ok(tuned)) => (run, tuned),
+            (Err(want), Err(got)) => {
+                assert_eq!((got.number, got.position), (want.number as usize, want.position), "seed {seed}");
+                refusals[got.number] += 1;
+                continue;
+            }
+            _ => panic!("seed {seed}: one start is refused, the other is not"),
+        };
+        let workers = rng.between(1, 16);
+        for at in 0..3 * run.tree.count() {
+            let [first, second] = any_event(rng, workers);
+            let got = tuned.event(first, second);
+            let want = match run.event(first, second) {
+                Err(refusal) => [refusal.number as usize, 0, 0, 0, 0],
+                Ok(()) if first == second => {
+                    let ran = run.log.last().expect("a step ran");
+                    [0, 1, ran.phase, ran.step, 0]
+                }
+                Ok(()) => [0, 2, 0, 0, run.trace.last().expect("a step was stolen").number],
+            };
+            assert_eq!([got.number, got.what, got.phase, got.step, got.trace], want, "seed {seed}, event {at}");
+            assert_eq!(got.position, 0, "seed {seed}, event {at}");
+            refusals[got.number] += 1;
+        }
+    }
+    assert!([0, 1, 2, 3, 4, 5, 8, 9, 10, 11, 12].iter().all(|&number| refusals[number] > 0), "numbers seen: {refusals:?}");
+}
