@@ -302,7 +302,7 @@ impl EventCase {
         tuned::Run::start(&self.tree, self.policy).expect("the tree is accepted")
     }
 
-    // The first two begin with a new state; the simulator's is made beforehand, because it takes long.
+    // The first three begin with a new state; the simulator's is made beforehand, because it takes long.
 
     fn tuned(&self, run: &mut tuned::Run) {
         run.restart();
@@ -316,6 +316,13 @@ impl EventCase {
         for &[first, second] in &self.events {
             let answer = library::event(*state, &self.tree, first, second);
             *state = answer.state;
+        }
+    }
+
+    fn in_place(&self, state: &mut RunState) {
+        *state = self.state;
+        for &[first, second] in &self.events {
+            black_box(&library::event_in_place(state, &self.tree, first, second));
         }
     }
 
@@ -338,11 +345,12 @@ impl EventCase {
             } else {
                 [0, 2, 0, 0, run.trace.last().expect("a step was stolen").number]
             };
-            let got = library::event(state, &self.tree, first, second);
-            assert_eq!([got.number, got.what, got.phase, got.step, got.trace], want);
-            state = got.state;
-            let got = tuned.event(first, second);
-            assert_eq!([got.number, got.what, got.phase, got.step, got.trace], want);
+            let by_value = library::event(state, &self.tree, first, second);
+            let in_place = library::event_in_place(&mut state, &self.tree, first, second);
+            assert!(state == by_value.state);
+            for got in [by_value.outcome, in_place, tuned.event(first, second)] {
+                assert_eq!([got.number, got.what, got.phase, got.step, got.trace], want);
+            }
         }
         assert!(run.finished());
         run.trace.len()
@@ -350,7 +358,7 @@ impl EventCase {
 }
 
 fn event_table() {
-    let mut table = Table::new("single event, ns", "events", ["tuned", "by value", "simulator"]);
+    let mut table = Table::new("single event, ns", "events", ["tuned", "in place", "by value", "simulator"]);
     for_each_case(|shape, n, (policy, byte), workers| {
         let cases: Vec<_> = SEEDS.map(|seed| EventCase::new(tree(shape, n, seed), byte, workers, seed)).collect();
         let (units, steals) = cases.iter().fold((0, 0), |sum, case| (sum.0 + case.events.len(), sum.1 + case.check()));
@@ -359,6 +367,7 @@ fn event_table() {
             inputs,
             [
                 &|inputs| turn(inputs, units, |_| (), |(case, run, _), ()| case.tuned(run)),
+                &|inputs| turn(inputs, units, |_| (), |(case, _, state), ()| case.in_place(state)),
                 &|inputs| turn(inputs, units, |_| (), |(case, _, state), ()| case.by_value(state)),
                 &|inputs| turn(inputs, units, |(case, ..)| case.run.clone(), |(case, ..), run| case.simulator(run)),
             ],

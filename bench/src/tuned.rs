@@ -1,6 +1,6 @@
 //! The baseline of `tuned.c`: all declarations, and safe calls.
 
-use crate::library::{FrameRecord, FrameReplay};
+use crate::library::{FrameOutcome, FrameRecord, FrameReplay};
 
 #[repr(C)]
 #[derive(Clone, Copy, Debug, PartialEq, Eq)]
@@ -9,20 +9,8 @@ pub struct Refusal {
     pub position: usize,
 }
 
-/// What an event did: `what` is 1 for a run and 2 for a steal. What is not answered is 0.
-#[repr(C)]
-#[derive(Clone, Copy, Debug, PartialEq, Eq)]
-pub struct Outcome {
-    pub number: usize,
-    pub position: usize,
-    pub what: usize,
-    pub phase: usize,
-    pub step: usize,
-    pub trace: usize,
-}
-
 mod c {
-    use super::{FrameRecord, FrameReplay, Outcome, Refusal};
+    use super::{FrameOutcome, FrameRecord, FrameReplay, Refusal};
 
     extern "C" {
         pub fn tuned_record(
@@ -48,7 +36,7 @@ mod c {
         pub fn tuned_state_bytes() -> usize;
         pub fn tuned_start(state: *mut u64, tree: *const u8, tree_len: usize, policy: u8) -> Refusal;
         pub fn tuned_restart(state: *mut u64);
-        pub fn tuned_event(state: *mut u64, tree: *const u8, first: u8, second: u8) -> Outcome;
+        pub fn tuned_event(state: *mut u64, tree: *const u8, first: u8, second: u8) -> FrameOutcome;
     }
 }
 
@@ -95,7 +83,7 @@ impl<'a> Run<'a> {
         unsafe { c::tuned_restart(self.state.as_mut_ptr()) }
     }
 
-    pub fn event(&mut self, first: u8, second: u8) -> Outcome {
+    pub fn event(&mut self, first: u8, second: u8) -> FrameOutcome {
         unsafe { c::tuned_event(self.state.as_mut_ptr(), self.tree.as_ptr(), first, second) }
     }
 }
