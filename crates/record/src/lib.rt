@@ -75,7 +75,7 @@ pub fn record(tree: &[u8], policy: u8, events: &[u8], log: &mut [u8], trace: &mu
     outputs::copy_out(&own_trace, outputs::RECORD * walked.steals, trace);
     let last = n - 1;
     let loads = walked.loads;
-    let heaviest = outputs::heaviest(&loads);
+    let heaviest = balance::heaviest(&loads);
     Recorded {
         number: 0,
         position: 0,

@@ -76,7 +76,7 @@ pub fn replay(tree: &[u8], policy: u8, trace: &[u8], list: &mut [u8]) -> Replaye
         list,
     );
     let loads = walked.loads;
-    let heaviest = outputs::heaviest(&loads);
+    let heaviest = balance::heaviest(&loads);
     Replayed {
         number: 0,
         position: 0,

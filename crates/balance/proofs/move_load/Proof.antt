@@ -1,13 +1,13 @@
--- `outputs::move_load` meets its contract: the first store leaves the thief's load. Assumes nothing.
+-- `balance::move_load` meets its contract: the first store leaves the thief's load. Assumes nothing.
 use Prim.Native.Nat.{_-_}
 use mathlib.Core.Path.{refl}
 use native.Mathlib.Omega.{arith}
 use lib.ListN.{getD}
 use lib.Seq.{getD-set-other}
 use borrow.Author.Needs.{needs}
-use Rattle.outputs.specs.Answers.{loadMoved}
-use Rattle.outputs.proofs.move_load.Statement.{statement}
-use Rattle.outputs.proofs.move_load.Tie as tie
+use Rattle.balance.specs.Answers.{loadMoved}
+use Rattle.balance.proofs.move_load.Statement.{statement}
+use Rattle.balance.proofs.move_load.Tie as tie
 
 mul-loads : tie.Need-mul-loads
 mul-loads c = search needs

@@ -1,10 +1,10 @@
--- `outputs::heaviest` meets its contract: the loop holds which worker leads so far, and a law says what each turn does to that.
+-- `balance::heaviest` meets its contract: the loop holds which worker leads so far, and a law says what each turn does to that.
 -- Assumes nothing.
 use Prim.Native.Nat.{_-_}
 use native.Mathlib.Omega.{arith}
-use Rattle.outputs.specs.Laws.Heaviest.{Leads, leads-start, leads-more, leads-still, leads-done}
-use Rattle.outputs.proofs.heaviest.Statement.{statement}
-use Rattle.outputs.proofs.heaviest.Tie as tie
+use Rattle.balance.specs.Laws.Heaviest.{Leads, leads-start, leads-more, leads-still, leads-done}
+use Rattle.balance.proofs.heaviest.Statement.{statement}
+use Rattle.balance.proofs.heaviest.Tie as tie
 
 abbrev Inv-loop : tie.InvT-loop
 Inv-loop loads best₀ w₀ best w = Leads loads best w
