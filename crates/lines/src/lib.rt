@@ -1,12 +1,9 @@
-// The lines that program `phases` prints of a replayed trace: a heading, and a line for each record of the run list.
+// The lines that program `phases` prints of a run list: phase, worker and step of each record.
 ghost use mathlib.Core.Path.{_≡_};
-ghost use mathlib.Core.List.{_++_};
 ghost use Prim.Native.Nat.{_+_, _*_, _≤_};
 ghost use lib.ListN.{length};
-ghost use Rattle.rules.specs.Program.{heading};
 ghost use Rattle.rules.specs.Calls.{written};
 ghost use Rattle.lines.specs.Answers.{numberAt, workerBy, linesOf, Phased};
-use text::put_bytes;
 use text::put_line;
 
 // The number of two bytes of a record.
@@ -29,7 +26,7 @@ fn worker_of(trace: &[u8], phase: usize) -> usize
 }
 
 // Writes a line for each of the first records of a run list. Gives the count of all bytes.
-fn put_lines(text: &mut [u8], trace: &[u8], list: &[u8], records: usize) -> usize
+pub fn put_lines(text: &mut [u8], trace: &[u8], list: &[u8], records: usize) -> usize
     requires { ⌜ (4 * records ≤ length (now list)) × (18 * records ≤ length (now text)) × Phased (now trace) (now list) records ⌝ }
     ensures counts { λ r. ⌜ r ≡ length (linesOf (now (trace .entry)) (now (list .entry)) records) ⌝ }
     ensures text { λ r. ⌜ now (text .exit) ≡ written (linesOf (now (trace .entry)) (now (list .entry)) records) (now (text .entry)) ⌝ }
@@ -45,14 +42,4 @@ fn put_lines(text: &mut [u8], trace: &[u8], list: &[u8], records: usize) -> usiz
         at += put_line(&mut text[at..], phase, worker, step);
     }
     at
-}
-
-// Writes the heading, and a line for each of the first records of a run list. Gives the count of all bytes.
-pub fn put_listing(text: &mut [u8], trace: &[u8], list: &[u8], records: usize) -> usize
-    requires { ⌜ (4 * records ≤ length (now list)) × (18 + 18 * records ≤ length (now text)) × Phased (now trace) (now list) records ⌝ }
-    ensures counts { λ r. ⌜ r ≡ length (heading ++ linesOf (now (trace .entry)) (now (list .entry)) records) ⌝ }
-    ensures text { λ r. ⌜ now (text .exit) ≡ written (heading ++ linesOf (now (trace .entry)) (now (list .entry)) records) (now (text .entry)) ⌝ }
-{
-    let at = put_bytes(text, b"phase worker step\n");
-    at + put_lines(&mut text[at..], trace, list, records)
 }

@@ -5,8 +5,8 @@ ghost use Prim.Native.Nat.{_≤_};
 ghost use lib.ListN.{length};
 ghost use Rattle.rules.specs.Program.{phasesText};
 ghost use Rattle.rules.specs.Calls.{written};
-use lines::put_listing;
-use text::put_refusal;
+use report::put_listing;
+use report::put_refusal;
 
 // The most bytes of a text: a heading and a line for each step, of three numbers of five digits and a byte each.
 pub const MOST_TEXT: usize = 73728;

@@ -1,17 +1,15 @@
-// Pieces of the text that program `phases` prints: numbers, lines of numbers, and a refusal. Each is written at the front of a
-// buffer, and its length given.
+// Numbers as text, alone and in lines. What is written stands at the front of a buffer, and its length is given.
 ghost use mathlib.Core.Path.{_≡_};
 ghost use mathlib.Core.List.{[], _∷_, _++_};
 ghost use Prim.Native.Nat.{_≤_};
 ghost use lib.ListN.{length};
 ghost use Rattle.rules.specs.Program.{decimal, line};
 ghost use Rattle.rules.specs.Calls.{written};
-ghost use Rattle.text.specs.Answers.{refusalText};
 
 // Between numbers, and after the last.
-const SPACE: u8 = 32;
+pub const SPACE: u8 = 32;
 
-const LINE_FEED: u8 = 10;
+pub const LINE_FEED: u8 = 10;
 
 // How many decimal digits are printed of a number, at most five.
 fn places(number: usize) -> usize
@@ -33,7 +31,7 @@ fn places(number: usize) -> usize
 }
 
 // Writes a number in decimal digits, and a byte behind it. Gives the count of both.
-fn put_number(text: &mut [u8], number: usize, end: u8) -> usize
+pub fn put_number(text: &mut [u8], number: usize, end: u8) -> usize
     requires { ⌜ 6 ≤ length (now text) ⌝ }
     ensures counts { λ r. ⌜ r ≡ length (decimal number ++ (end ∷ [])) ⌝ }
     ensures text { λ r. ⌜ now (text .exit) ≡ written (decimal number ++ (end ∷ [])) (now (text .entry)) ⌝ }
@@ -50,16 +48,6 @@ fn put_number(text: &mut [u8], number: usize, end: u8) -> usize
     count + 1
 }
 
-// Writes some bytes. Gives their count.
-pub fn put_bytes(text: &mut [u8], bytes: &[u8]) -> usize
-    requires { ⌜ length (now bytes) ≤ length (now text) ⌝ }
-    ensures counts { λ r. ⌜ r ≡ length (now (bytes .entry)) ⌝ }
-    ensures text { λ r. ⌜ now (text .exit) ≡ written (now (bytes .entry)) (now (text .entry)) ⌝ }
-{
-    outputs::copy_out(bytes, bytes.len(), text);
-    bytes.len()
-}
-
 // Writes a line of three numbers. Gives its length.
 pub fn put_line(text: &mut [u8], first: usize, second: usize, third: usize) -> usize
     requires { ⌜ 18 ≤ length (now text) ⌝ }
@@ -69,15 +57,4 @@ pub fn put_line(text: &mut [u8], first: usize, second: usize, third: usize) -> u
     let a = put_number(text, first, SPACE);
     let b = a + put_number(&mut text[a..], second, SPACE);
     b + put_number(&mut text[b..], third, LINE_FEED)
-}
-
-// Writes a refusal. Gives its length.
-pub fn put_refusal(text: &mut [u8], number: usize, position: usize) -> usize
-    requires { ⌜ 20 ≤ length (now text) ⌝ }
-    ensures counts { λ r. ⌜ r ≡ length (refusalText number position) ⌝ }
-    ensures text { λ r. ⌜ now (text .exit) ≡ written (refusalText number position) (now (text .entry)) ⌝ }
-{
-    let a = put_bytes(text, b"refused ");
-    let b = a + put_number(&mut text[a..], number, SPACE);
-    b + put_number(&mut text[b..], position, LINE_FEED)
 }

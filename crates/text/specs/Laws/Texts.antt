@@ -1,13 +1,12 @@
--- The pieces of a text: numbers with a byte behind each, lines, a refusal.
+-- The pieces of a text: numbers with a byte behind each, and lines.
 use Prim.Native.Nat.{ℕ, _+_, _-_, _≤_}
 use mathlib.Core.Path.{_≡_, ap, _∙_}
 use mathlib.Core.List.{List, [], _∷_, _++_, append-assoc}
 use native.Mathlib.Omega.{arith}
 use lib.ListN.{length, length-append}
-use Rattle.rules.specs.Program.{decimal, line, refusedLine}
+use Rattle.rules.specs.Program.{decimal, line}
 use Rattle.rules.specs.Calls.{written}
 use Rattle.outputs.specs.Laws.Fronts.{Front}
-use Rattle.text.specs.Answers.{refusalText}
 use Rattle.text.specs.Laws.Numbers.{decimal-most}
 
 -- A text by another name of its bytes.
@@ -19,8 +18,6 @@ pub front-is : {before xs text : List ℕ} {at : ℕ} → Front before xs text a
     → (at ≡ length ys) × (text ≡ written ys before)
 front-is {before} {xs} {text} {at} front same = text-is before text at same (front .many, front .same)
 
--- ---- lines
-
 -- A number and the byte behind it.
 abbrev pub piece : ℕ → ℕ → List ℕ
 piece x end = decimal x ++ (end ∷ [])
@@ -28,12 +25,8 @@ piece x end = decimal x ++ (end ∷ [])
 pub piece-most : (x end : ℕ) → length (piece x end) ≤ 6
 piece-most x end = omega (arith, length-append (decimal x) (end ∷ []), decimal-most x)
 
-snoc-append : (xs ys : List ℕ) (a : ℕ) → (xs ++ (a ∷ [])) ++ ys ≡ xs ++ (a ∷ ys)
+pub snoc-append : (xs ys : List ℕ) (a : ℕ) → (xs ++ (a ∷ [])) ++ ys ≡ xs ++ (a ∷ ys)
 snoc-append xs ys a = append-assoc xs (a ∷ []) ys
-
-line-two : (x y : ℕ) → piece x 32 ++ piece y 10 ≡ line (x ∷ y ∷ [])
-unfolding line
-line-two x y = snoc-append (decimal x) (piece y 10) 32
 
 pub line-three : (x y z : ℕ) → (piece x 32 ++ piece y 32) ++ piece z 10 ≡ line (x ∷ y ∷ z ∷ [])
 unfolding line
@@ -52,15 +45,3 @@ line-most x y z =
       piece-most y 32,
       piece-most z 10,
     ))
-
--- ---- a refusal
-
--- "refused", and a space.
-abbrev pub word : List ℕ
-word = 114 ∷ 101 ∷ 102 ∷ 117 ∷ 115 ∷ 101 ∷ 100 ∷ 32 ∷ []
-
-pub refusal-pieces : (number position : ℕ)
-    → (word ++ piece number 32) ++ piece position 10 ≡ refusalText number position
-unfolding refusalText refusedLine
-refusal-pieces number position =
-    append-assoc word (piece number 32) (piece position 10) ∙ ap (λ (l : List ℕ). word ++ l) (line-two number position)

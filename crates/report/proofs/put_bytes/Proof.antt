@@ -1,12 +1,12 @@
--- `text::put_bytes` meets its contract: all bytes are copied. Assumes nothing.
+-- `report::put_bytes` meets its contract: all bytes are copied. Assumes nothing.
 use Prim.Native.Nat.{ℕ}
 use mathlib.Core.Path.{refl, ap, _∙_}
 use mathlib.Core.List.{List}
 use lib.Seq.{take-length}
 use borrow.Author.Needs.{needs}
 use Rattle.rules.specs.Calls.{written}
-use Rattle.text.proofs.put_bytes.Statement.{statement}
-use Rattle.text.proofs.put_bytes.Tie as tie
+use Rattle.report.proofs.put_bytes.Statement.{statement}
+use Rattle.report.proofs.put_bytes.Tie as tie
 
 copy-out-requires : tie.Need-copy-out-requires
 copy-out-requires c κs = search needs

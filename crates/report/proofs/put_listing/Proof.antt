@@ -1,16 +1,16 @@
--- `lines::put_listing` meets its contract: the heading, and the lines behind it. Assumes nothing.
+-- `report::put_listing` meets its contract: the heading, and the lines behind it. Assumes nothing.
 use Prim.Native.Nat.{_+_}
 use mathlib.Core.Path.{refl}
 use mathlib.Core.List.{_++_}
 use native.Mathlib.Omega.{arith}
 use borrow.Author.Needs.{needs}
 use Rattle.rules.specs.Program.{heading}
 use Rattle.lines.specs.Answers.{linesOf}
 use Rattle.lines.specs.Laws.Lines.{lines-most}
 use Rattle.outputs.specs.Laws.Fronts.{withPart, Front, front-first, front-next}
 use Rattle.text.specs.Laws.Texts.{front-is}
-use Rattle.lines.proofs.put_listing.Statement.{statement}
-use Rattle.lines.proofs.put_listing.Tie as tie
+use Rattle.report.proofs.put_listing.Statement.{statement}
+use Rattle.report.proofs.put_listing.Tie as tie
 
 -- ---- what is written, after the heading and after the lines
 

@@ -1,12 +1,13 @@
--- `text::put_refusal` meets its contract: a word and two numbers, each behind what is before it. Assumes nothing.
+-- `report::put_refusal` meets its contract: a word and two numbers, each behind what is before it. Assumes nothing.
 use Prim.Native.Nat.{ℕ, _+_, _≤_}
 use mathlib.Core.List.{List, _++_}
 use native.Mathlib.Omega.{arith}
 use borrow.Author.Needs.{needs}
 use Rattle.outputs.specs.Laws.Fronts.{withPart, Front, front-first, front-next, front-within, front-room}
-use Rattle.text.specs.Laws.Texts.{piece, piece-most, front-is, word, refusal-pieces}
-use Rattle.text.proofs.put_refusal.Statement.{statement}
-use Rattle.text.proofs.put_refusal.Tie as tie
+use Rattle.text.specs.Laws.Texts.{piece, piece-most, front-is}
+use Rattle.report.specs.Laws.{word, refusal-pieces}
+use Rattle.report.proofs.put_refusal.Statement.{statement}
+use Rattle.report.proofs.put_refusal.Tie as tie
 
 -- ---- what is written, after each piece
 
