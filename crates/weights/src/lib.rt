@@ -1,6 +1,6 @@
 // The weights of steps (document 01, "The tree file"): of one step, and the table of what all steps before each weigh.
 ghost use mathlib.Core.Path.{_≡_};
-ghost use Prim.Native.Nat.{_≤_, _<_};
+ghost use Prim.Native.Nat.{_+_, _*_, _≤_, _<_};
 ghost use lib.ListN.{length, getD};
 ghost use Rattle.rules.specs.Tree.{kinds, weights};
 ghost use Rattle.tables.specs.Answers.{Sums};
@@ -14,6 +14,16 @@ fn wide(b: u8) -> u32
     b as u32
 }
 
+// Two bytes of a weight as a number.
+fn half(tree: &[u8], at: usize) -> u32
+    requires { ⌜ at + 1 < length (now tree) ⌝ }
+    ensures { λ r. ⌜ (r ≡ getD (now (tree .entry)) at 0 + 256 * getD (now (tree .entry)) (at + 1) 0) × (r < 65536) ⌝ }
+{
+    let low = wide(tree[at]);
+    let high = wide(tree[at + 1]);
+    low + 256 * high
+}
+
 // The weight of a step, 0 where the tree has no such step.
 pub fn weight(tree: &[u8], step: Step) -> u32
     ensures { λ r. ⌜ r ≡ getD (weights (now (tree .entry))) (step .0) 0 ⌝ }
@@ -23,9 +33,7 @@ pub fn weight(tree: &[u8], step: Step) -> u32
         return 0;
     }
     let at = RECORD * i;
-    let high = wide(tree[at + 6]) + 256 * wide(tree[at + 7]);
-    let low = wide(tree[at + 4]) + 256 * wide(tree[at + 5]);
-    low + 65536 * high
+    half(tree, at + 4) + 65536 * half(tree, at + 6)
 }
 
 // Adds up the weights.

@@ -1,7 +1,7 @@
--- `weights::weight` meets its contract: the sum of the four bytes is the law of a step's weight, and the bounds on bytes make each
--- sum fit. Assumes nothing.
+-- `weights::weight` meets its contract: its two halves are the four bytes of the law of a step's weight. Assumes nothing.
+use Prim.Native.Nat.{_+_, _*_}
+use mathlib.Core.Path.{_≡_, sym}
 use native.Mathlib.Omega.{arith}
-use mathlib.Core.Path.{sym}
 use Rattle.tree.specs.Laws.Records.{weight-at, weight-past}
 use borrow.Author.Needs.{needs}
 use Rattle.weights.proofs.weight.Statement.{statement}
@@ -13,53 +13,17 @@ returns c = sym (weight-past (c .before .before .args .tree .now) (c .before .be
 mul-at : tie.Need-mul-at
 mul-at c = search needs
 
-add-wide : tie.Need-add-wide
-add-wide c = search needs
+add-half : tie.Need-add-half
+add-half c = search needs
 
-shared-slice-read-wide : tie.Need-shared-slice-read-wide
-shared-slice-read-wide c = search needs
+half-requires : tie.Need-half-requires
+half-requires c κs = search needs
 
-wide-requires : tie.Need-wide-requires
-wide-requires c κs = search needs
+add-half-2 : tie.Need-add-half-2
+add-half-2 c = search needs
 
-add-wide-2 : tie.Need-add-wide-2
-add-wide-2 c = search needs
-
-shared-slice-read-wide-2 : tie.Need-shared-slice-read-wide-2
-shared-slice-read-wide-2 c = search needs
-
-wide-requires-2 : tie.Need-wide-requires-2
-wide-requires-2 c κs = search needs
-
-mul-high : tie.Need-mul-high
-mul-high c = search needs
-
-add-high : tie.Need-add-high
-add-high c = search needs
-
-add-wide-3 : tie.Need-add-wide-3
-add-wide-3 c = search needs
-
-shared-slice-read-wide-3 : tie.Need-shared-slice-read-wide-3
-shared-slice-read-wide-3 c = search needs
-
-wide-requires-3 : tie.Need-wide-requires-3
-wide-requires-3 c κs = search needs
-
-add-wide-4 : tie.Need-add-wide-4
-add-wide-4 c = search needs
-
-shared-slice-read-wide-4 : tie.Need-shared-slice-read-wide-4
-shared-slice-read-wide-4 c = search needs
-
-wide-requires-4 : tie.Need-wide-requires-4
-wide-requires-4 c κs = search needs
-
-mul-low : tie.Need-mul-low
-mul-low c = search needs
-
-add-low : tie.Need-add-low
-add-low c = search needs
+half-requires-2 : tie.Need-half-requires-2
+half-requires-2 c κs = search needs
 
 mul-result : tie.Need-mul-result
 mul-result c = search needs
@@ -69,14 +33,15 @@ add-result c = search needs
 
 returns-2 : tie.Need-returns-2
 returns-2 c =
-    let start = c .before .before .before .before .before .before .before .before .before .before .args in
+    let start = c .before .before .before .before .args in
+    let at = 8 * start .step .0 in
+    let fifth : at + 4 + 1 ≡ at + 5 = omega arith in
+    let last : at + 6 + 1 ≡ at + 7 = omega arith in
     omega (
       arith,
       weight-at (start .tree .now) (start .step .0) (omega arith),
-      c .before .before .before .before .before .before .wide .ensures .0,
-      c .before .before .before .before .wide2 .ensures .0,
-      c .before .before .wide3 .ensures .0,
-      c .wide4 .ensures .0,
+      rw fifth at (c .before .half .ensures .0),
+      rw last at (c .half2 .ensures .0),
     )
 
 pub weight-spec : {M : Type 1} → statement M
@@ -85,22 +50,10 @@ weight-spec =
     (tie.spec
     returns
     mul-at
-    add-wide
-    shared-slice-read-wide
-    wide-requires
-    add-wide-2
-    shared-slice-read-wide-2
-    wide-requires-2
-    mul-high
-    add-high
-    add-wide-3
-    shared-slice-read-wide-3
-    wide-requires-3
-    add-wide-4
-    shared-slice-read-wide-4
-    wide-requires-4
-    mul-low
-    add-low
+    add-half
+    half-requires
+    add-half-2
+    half-requires-2
     mul-result
     add-result
     returns-2)
