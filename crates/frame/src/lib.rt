@@ -26,7 +26,7 @@ pub struct FrameTree {
 pub extern "C" fn frame_tree(tree: &[u8]) -> FrameTree
     ensures { λ r. ⌜ r ≡ flatTree (acceptance (now (tree .entry))) ⌝ }
 {
-    let a = tree::accept(tree);
+    let a = admission::accept(tree);
     FrameTree {
         number: a.number as usize,
         position: a.position,
@@ -47,7 +47,7 @@ pub extern "C" fn frame_kind(tree: &[u8], step: usize) -> u8
 pub extern "C" fn frame_weight(tree: &[u8], step: usize) -> u32
     ensures { λ r. ⌜ r ≡ getD (weights (now (tree .entry))) step 0 ⌝ }
 {
-    tree::weight(tree, Step(step))
+    weights::weight(tree, Step(step))
 }
 
 // The step after the end of the child that a step opens.
@@ -55,7 +55,7 @@ pub extern "C" fn frame_weight(tree: &[u8], step: usize) -> u32
 pub extern "C" fn frame_cont(tree: &[u8], step: usize) -> usize
     ensures { λ r. ⌜ r ≡ cont (kinds (now (tree .entry))) step ⌝ }
 {
-    let after = tasks::cont(tree, Step(step));
+    let after = children::cont(tree, Step(step));
     after.0
 }
 
@@ -82,7 +82,7 @@ pub extern "C" fn frame_task(tree: &[u8], step: usize) -> FrameTask
 pub extern "C" fn frame_finish_before(tree: &[u8], step: usize) -> usize
     ensures { λ r. ⌜ r ≡ flatChild (childOf (finishBefore (kinds (now (tree .entry))) step)) ⌝ }
 {
-    match tasks::finish_before(tree, Step(step)) {
+    match children::finish_before(tree, Step(step)) {
         tasks::FinishChild::From(first) => first.0,
         tasks::FinishChild::Nothing => 0,
     }
@@ -100,7 +100,7 @@ pub struct FrameRunning {
 pub extern "C" fn frame_running(tree: &[u8], policy: u8, step: usize) -> FrameRunning
     ensures { λ r. ⌜ r ≡ flatRunning (runningOf policy (kinds (now (tree .entry))) step) ⌝ }
 {
-    match tasks::running_of(tree, policy, Step(step)) {
+    match policy::running_of(tree, policy, Step(step)) {
         tasks::Running::Opens { hold, push } => FrameRunning {
             opens: 1,
             hold: hold.0,

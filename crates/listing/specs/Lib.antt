@@ -1,6 +1,3 @@
 -- What need not be believed: everything here is proved from the rules.
--- The text that program `phases` prints.
---     Answers   what the functions write
---     Laws      that it is the rules' text
-pub mod Answers
+--     Laws      that what is printed of a replay is the rules' text
 pub mod Laws

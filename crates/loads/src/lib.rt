@@ -2,7 +2,7 @@
 // that is spawned there, leaves the victim's load for the thief's (document 01, "Trace, log, run list").
 ghost use mathlib.Core.Path.{_≡_};
 ghost use Prim.Native.Nat.{_<_};
-ghost use Rattle.outputs.specs.Answers.{loadMoved};
+ghost use Rattle.balance.specs.Answers.{loadMoved};
 ghost use Rattle.loads.specs.Answers.{weightBetween, Movable};
 use tables::wide;
 
@@ -21,5 +21,5 @@ pub fn move_part(
 {
     let end = wide(ends[step]);
     let weight = sums[end] - sums[step];
-    outputs::move_load(loads, thief, victim, weight);
+    balance::move_load(loads, thief, victim, weight);
 }

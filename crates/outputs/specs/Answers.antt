@@ -1,15 +1,9 @@
 -- What the functions leave in the arrays that they are lent.
-use Prim.Native.Nat.{ℕ, _+_, _-_, _*_, _/_, _%_}
+use Prim.Native.Nat.{ℕ, _+_, _*_, _/_, _%_}
 use mathlib.Core.List.{List}
-use lib.ListN.{getD, set}
+use lib.ListN.{set}
 
 -- Record k of a log, a trace or a run list: two bytes and a number of two bytes.
 unfoldable pub recordPut : List ℕ → ℕ → ℕ → ℕ → ℕ → List ℕ
 recordPut bytes k first second number =
     set (set (set (set bytes (4 * k) first) (4 * k + 1) second) (4 * k + 2) (number % 256)) (4 * k + 3) (number / 256 % 256)
-
--- Some weight leaves the victim's load for the thief's.
-unfoldable pub loadMoved : List ℕ → ℕ → ℕ → ℕ → List ℕ
-loadMoved loads thief victim weight =
-    let less = set loads victim (getD loads victim 0 - weight) in
-    set less thief (getD less thief 0 + weight)

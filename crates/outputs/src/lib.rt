@@ -1,13 +1,11 @@
 // What recording and replay share beside their rules: whether what they are given is whole records, the records of four bytes
-// that they write, the bytes that are copied out, loads and the heaviest worker (document 01, "Trace, log, run list" and
-// "Refusals").
+// that they write, and the bytes that are copied out (document 01, "Trace, log, run list" and "Refusals").
 ghost use mathlib.Core.Path.{_≡_};
-ghost use Prim.Native.Nat.{_+_, _*_, _≤_, _<_};
-ghost use lib.ListN.{length, take, getD};
+ghost use Prim.Native.Nat.{_+_, _*_, _≤_};
+ghost use lib.ListN.{length, take};
 ghost use Rattle.rules.specs.Bytes.{wholeRecords};
-ghost use Rattle.rules.specs.Traces.{heaviest as heaviestOf};
 ghost use Rattle.rules.specs.Calls.{written};
-ghost use Rattle.outputs.specs.Answers.{recordPut, loadMoved};
+ghost use Rattle.outputs.specs.Answers.{recordPut};
 
 // Bytes of a record of a log, a trace or a run list.
 pub const RECORD: usize = 4;
@@ -45,30 +43,4 @@ pub fn copy_out(from: &[u8], count: usize, to: &mut [u8])
         to[i] = from[i];
         i += 1;
     }
-}
-
-// Some weight leaves the victim's load for the thief's.
-pub fn move_load(loads: &mut [u64; 16], thief: usize, victim: usize, weight: u64)
-    requires { ⌜ (thief < 16) × (victim < 16) × (thief ≡ victim → ⊥) × (weight ≤ getD (now loads) victim 0) × (getD (now loads) thief 0 + weight < 18446744073709551616) ⌝ }
-    ensures { λ r. ⌜ now (loads .exit) ≡ loadMoved (now (loads .entry)) thief victim weight ⌝ }
-{
-    loads[victim] -= weight;
-    loads[thief] += weight;
-}
-
-// The heaviest worker, the lowest numbered among equals.
-pub fn heaviest(loads: &[u64; 16]) -> usize
-    requires { ⌜ length (now loads) ≡ 16 ⌝ }
-    ensures { λ r. ⌜ r ≡ heaviestOf (now (loads .entry)) ⌝ }
-{
-    let mut best = 0;
-    let mut w = 1;
-    while w < 16 {
-        let k = w;
-        w += 1;
-        if loads[best] < loads[k] {
-            best = k;
-        }
-    }
-    best
 }

@@ -53,7 +53,7 @@ pub fn record(tree: &[u8], policy: u8, events: &[u8], log: &mut [u8], trace: &mu
     ensures log { λ r. ⌜ now (log .exit) ≡ recordCall 16 policy (now (tree .entry)) (now (events .entry)) (now (log .entry)) (now (trace .entry)) .log ⌝ }
     ensures trace { λ r. ⌜ now (trace .exit) ≡ recordCall 16 policy (now (tree .entry)) (now (events .entry)) (now (log .entry)) (now (trace .entry)) .trace ⌝ }
 {
-    let admitted = tasks::admit(tree, policy);
+    let admitted = admission::admit(tree, policy);
     if admitted.number != 0 {
         return refused(admitted.number, admitted.position);
     }
@@ -74,7 +74,7 @@ pub fn record(tree: &[u8], policy: u8, events: &[u8], log: &mut [u8], trace: &mu
     outputs::copy_out(&own_trace, outputs::RECORD * walked.steals, trace);
     let last = n - 1;
     let loads = walked.loads;
-    let heaviest = outputs::heaviest(&loads);
+    let heaviest = balance::heaviest(&loads);
     Recorded {
         number: 0,
         position: 0,

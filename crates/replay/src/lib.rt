@@ -35,7 +35,7 @@ pub fn replay(tree: &[u8], policy: u8, trace: &[u8], list: &mut [u8]) -> Replaye
     ensures answers { λ r. ⌜ r ≡ answers (replayCall 16 policy (now (tree .entry)) (now (trace .entry)) (now (list .entry))) ⌝ }
     ensures list { λ r. ⌜ now (list .exit) ≡ replayCall 16 policy (now (tree .entry)) (now (trace .entry)) (now (list .entry)) .list ⌝ }
 {
-    let admitted = tasks::admit(tree, policy);
+    let admitted = admission::admit(tree, policy);
     if admitted.number != 0 {
         return refused(admitted.number, admitted.position);
     }
@@ -52,7 +52,7 @@ pub fn replay(tree: &[u8], policy: u8, trace: &[u8], list: &mut [u8]) -> Replaye
     let mut labels: [u16; 4095] = [FREE; 4095];
     let mut firsts: [u16; 2048] = [0; 2048];
     tables::fill(tree, &mut ends, &mut openers);
-    tables::add_up(tree, &mut sums);
+    weights::add_up(tree, &mut sums);
     let walked = traces::walk(
         tree,
         &ends[..n],
@@ -76,7 +76,7 @@ pub fn replay(tree: &[u8], policy: u8, trace: &[u8], list: &mut [u8]) -> Replaye
         list,
     );
     let loads = walked.loads;
-    let heaviest = outputs::heaviest(&loads);
+    let heaviest = balance::heaviest(&loads);
     Replayed {
         number: 0,
         position: 0,

@@ -9,7 +9,7 @@ ghost use Rattle.running.specs.Answers.{allRun, waitsFor, runNumber, hel
 use deques::MOST_WORKERS;
 use deques::NOT_RUN;
 use deques::Pusher;
-use tables::finish_by;
+use lookup::finish_by;
 use tables::wide;
 use tasks::FinishChild;
 use tree::END;
@@ -94,13 +94,13 @@ pub fn advance(
 {
     let i = step.0;
     if tree::kind(tree, step) != END {
-        let held = parts::held_after(tree, ends, policy, step);
+        let held = policy::held_after(tree, ends, policy, step);
         place[i] = worker;
         return held.0 as u16;
     }
     match deques::pop(openers, place, worker, low, step) {
         Pusher::At(q) => {
-            let held = parts::pushed_by(tree, ends, policy, q);
+            let held = policy::pushed_by(tree, ends, policy, q);
             held.0 as u16
         }
         Pusher::Nothing => NO_STEP,

@@ -140,7 +140,7 @@ pub fn take_step(
     let n = tree::steps(tree);
     match deques::take(place, victim, low, n) {
         Pusher::At(pusher) => {
-            let step = parts::pushed_by(tree, ends, policy, pusher);
+            let step = policy::pushed_by(tree, ends, policy, pusher);
             let ordinal = ordinal_from(tree, policy, base, low, pusher.0);
             Taken::Of {
                 pusher,

@@ -1,4 +1,4 @@
--- What the tree crate's functions answer, in the rules' words.
+-- What accepting a tree answers, in the rules' words.
 use Prim.Native.Nat.{ℕ}
 use mathlib.Core.Bool.{cond}
 use mathlib.Core.List.{List}

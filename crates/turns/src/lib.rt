@@ -3,7 +3,8 @@
 ghost use mathlib.Core.Path.{_≡_};
 ghost use Prim.Native.Nat.{_+_, _*_, _/_, _%_, _≤_, _<_};
 ghost use lib.ListN.{length};
-ghost use Rattle.outputs.specs.Answers.{recordPut, loadMoved};
+ghost use Rattle.outputs.specs.Answers.{recordPut};
+ghost use Rattle.balance.specs.Answers.{loadMoved};
 ghost use Rattle.loads.specs.Answers.{weightBetween, Movable};
 ghost use Rattle.stealing.specs.Answers.{numberValue};
 ghost use Rattle.state.specs.Answers.{Hints, stateOf, answerOf, eventAnswer};

@@ -132,7 +132,7 @@ pub fn walk_events(
     let mut openers: [u16; 4095] = [0; 4095];
     let mut sums: [u64; 4096] = [0; 4096];
     tables::fill(tree, &mut ends, &mut openers);
-    tables::add_up(tree, &mut sums);
+    weights::add_up(tree, &mut sums);
     walk(
         tree,
         &ends[..n],

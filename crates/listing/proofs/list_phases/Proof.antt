@@ -8,30 +8,23 @@ use lib.ListN.{length}
 use borrow.Author.Needs.{needs}
 use Rattle.rules.specs.Tree.{kinds}
 use Rattle.rules.specs.Program.{inputTree}
-use Rattle.listing.specs.Laws.Texts.{text-is}
-use Rattle.listing.specs.Laws.Inputs.{Parts, input-parts}
+use Rattle.text.specs.Laws.Texts.{text-is}
+use Rattle.inputs.specs.Laws.{Parts}
 use Rattle.listing.specs.Laws.Phases.{Called, parts-called, called-refused, called-steps, called-room, called-phases, called-listed}
 use Rattle.listing.proofs.list_phases.Statement.{statement}
 use Rattle.listing.proofs.list_phases.Tie as tie
 
 -- ---- what is known past the call
 
-abbrev entry : tie.After-place2 → tie.Start
-entry c = c .before .before .before .before .before .before .before
+abbrev entry : tie.After-parts-of → tie.Start
+entry c = c .before .before .before
 
-parts : (c : tie.After-place2)
-    → let policy = c .before .before .before .before .byte in
-    Parts (entry c .args .input .now) (policy .result) (c .before .place .result) (c .place2 .result)
-parts c =
-    let policy = c .before .before .before .before .byte in
-    let low = c .before .before .before .byte2 in
-    let high = c .before .before .byte3 in
-    let start = c .before .place in
-    let end = c .place2 in
-    input-parts (entry c .args .input .now) (policy .result) (low .result) (high .result) (start .result) (end .result)
-    (policy .ensures) (low .ensures) (high .ensures) (start .ensures) (end .ensures)
+parts : (c : tie.After-parts-of)
+    → let r = c .parts-of .result in
+    Parts (entry c .args .input .now) (r .policy) (r .start) (r .end)
+parts c = c .parts-of .ensures
 
-abbrev read : tie.After-replay → tie.After-place2
+abbrev read : tie.After-replay → tie.After-parts-of
 read c = c .before .before .before .before
 
 called : (c : tie.After-replay)
@@ -49,38 +42,8 @@ steps-are c = c .steps .ensures ∙ ap (λ (l : List ℕ). length (kinds l)) (pa
 
 -- ---- the needs
 
-byte-requires : tie.Need-byte-requires
-byte-requires c κs = search needs
-
-byte-requires-2 : tie.Need-byte-requires-2
-byte-requires-2 c κs = search needs
-
-cast-n : tie.Need-cast-n
-cast-n c = search needs
-
-byte-requires-3 : tie.Need-byte-requires-3
-byte-requires-3 c κs = search needs
-
-cast-n-2 : tie.Need-cast-n-2
-cast-n-2 c = search needs
-
-mul-n : tie.Need-mul-n
-mul-n c = search needs
-
-add-n : tie.Need-add-n
-add-n c = search needs
-
-place-requires : tie.Need-place-requires
-place-requires c κs = search needs
-
-mul-place : tie.Need-mul-place
-mul-place c = search needs
-
-add-place : tie.Need-add-place
-add-place c = search needs
-
-place-requires-2 : tie.Need-place-requires-2
-place-requires-2 c κs = search needs
+parts-of-requires : tie.Need-parts-of-requires
+parts-of-requires c κs = search needs
 
 sub-tree : tie.Need-sub-tree
 sub-tree c = search needs
@@ -154,17 +117,7 @@ pub list-phases-spec : {M : Type 1} → statement M
 list-phases-spec =
     tie.close
     (tie.spec
-    byte-requires
-    byte-requires-2
-    cast-n
-    byte-requires-3
-    cast-n-2
-    mul-n
-    add-n
-    place-requires
-    mul-place
-    add-place
-    place-requires-2
+    parts-of-requires
     sub-tree
     part-tree-start
     part-tree-end

@@ -16,7 +16,7 @@ use Rattle.runs.specs.Invariant.{logOf, self}
 use Rattle.runs.specs.Laws.Counts.{and-both}
 use Rattle.splits.specs.Splits.{phasesOf, Splits}
 use Rattle.splits.specs.Laws.Consequences.{splits, list-none}
-use Rattle.listing.specs.Answers.{numberAt}
+use Rattle.lines.specs.Answers.{numberAt}
 
 -- What stands at entry i.
 abbrev pub entryAt : List Entry → ℕ → Entry

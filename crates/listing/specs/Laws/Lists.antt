@@ -14,7 +14,7 @@ use Rattle.rules.specs.Program.{phaseLines, line}
 use Rattle.outputs.specs.Laws.Records.{length-entries}
 use Rattle.splits.specs.Splits.{phasesOf, Splits}
 use Rattle.splits.specs.Laws.Consequences.{splits}
-use Rattle.listing.specs.Answers.{numberAt, workerBy, lineOf, linesOf, Phased}
+use Rattle.lines.specs.Answers.{numberAt, workerBy, lineOf, linesOf, Phased}
 use Rattle.listing.specs.Laws.Verdicts.{start-steps, accepted-start, accepted-trace, accepted-walk}
 use Rattle.listing.specs.Laws.Workers.{phases-many, phase-worker}
 use Rattle.listing.specs.Laws.Entries.{entryAt, number-phase, number-step, entry-phase, entry-step}

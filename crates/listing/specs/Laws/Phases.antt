@@ -13,8 +13,9 @@ use Rattle.rules.specs.Program.{inputPolicy, inputTree, inputTrace, heading, ph
 use Rattle.splits.specs.Splits.{phasesOf}
 use Rattle.replay.specs.declared.Replayed.{Replayed}
 use Rattle.replay.specs.Answers.{answers}
-use Rattle.listing.specs.Answers.{linesOf, Phased, refusalText}
-use Rattle.listing.specs.Laws.Inputs.{Parts}
+use Rattle.report.specs.Answers.{refusalText}
+use Rattle.lines.specs.Answers.{linesOf, Phased}
+use Rattle.inputs.specs.Laws.{Parts}
 use Rattle.listing.specs.Laws.Verdicts.{start-steps, same-verdict, call-accepted, call-refused, call-number, accepted-start}
 use Rattle.listing.specs.Laws.Lists.{runOf, listed-lines, listed-phases, listed-room}
 

@@ -1,5 +1,5 @@
 -- The workers of the phases of an accepted trace: worker 0 of phase 0, of a later one the thief of the record that began it.
-use Prim.Native.Nat.{ℕ, zero, suc, _+_, _-_, _*_, _/_, _≤_, _<_}
+use Prim.Native.Nat.{ℕ, zero, suc, _+_, _*_, _/_, _≤_, _<_}
 use mathlib.Core.Path.{_≡_, refl, sym, ap, _∙_}
 use mathlib.Core.List.{List, [], _∷_, _++_, map, append-nil, append-assoc}
 use native.Mathlib.Decide.{ℕ-discrete}
@@ -12,18 +12,7 @@ use Rattle.rules.specs.Traces.{judgeTraceRecord, nextPhases, stolenStep, record
 use Rattle.tree.specs.Laws.Records.{length-records, field-at}
 use Rattle.runs.specs.Laws.Moves.{begin-map}
 use Rattle.splits.specs.Laws.Always.{judged-read, read-next}
-use Rattle.listing.specs.Answers.{workerBy}
-
--- ---- by the trace's bytes
-
-pub worker-later : (trace : List ℕ) (k : ℕ) → 0 < k → getD trace (4 * (k - 1)) 0 ≡ workerBy trace k
-unfolding workerBy
-worker-later trace zero h = absurd (omega arith)
-worker-later trace (suc k) h =
-    let same : suc k - 1 ≡ k = omega arith in
-    rw same refl
-
--- ---- by the walk
+use Rattle.lines.specs.Answers.{workerBy}
 
 -- The worker that a record gives a phase to.
 thief : List ℕ → ℕ

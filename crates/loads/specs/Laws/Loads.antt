@@ -22,7 +22,7 @@ use Rattle.tables.specs.Answers.{Ends, Sums, weightBefore}
 use Rattle.runs.specs.Laws.Counts.{any-one, any-sum, sum-plus, sum-two}
 use Rattle.runs.specs.Laws.Weights.{span, end-within}
 use Rattle.runs.specs.Laws.Moves.{sum-one, sum-set, robbed}
-use Rattle.outputs.specs.Answers.{loadMoved}
+use Rattle.balance.specs.Answers.{loadMoved}
 use Rattle.loads.specs.Answers.{weightBetween, Movable}
 
 -- ---- sums

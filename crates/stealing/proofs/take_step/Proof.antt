@@ -7,7 +7,7 @@ use lib.ListN.{length}
 use Rattle.rules.specs.Tree.{kinds}
 use Rattle.deques.specs.Answers.{oldestMark, pusherOf, robbed}
 use Rattle.deques.specs.Laws.Marks.{pusher-at, pusher-nothing, oldest-before}
-use Rattle.parts.specs.Laws.Parts.{pushes-most}
+use Rattle.policy.specs.Laws.Parts.{pushes-most}
 use Rattle.stealing.specs.Laws.Stealing.{takes-nothing, takes-step}
 use borrow.Author.Needs.{needs}
 use Rattle.stealing.proofs.take_step.Statement.{statement}

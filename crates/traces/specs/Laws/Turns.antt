@@ -29,7 +29,7 @@ use Rattle.reads.specs.declared.Named.{Named}
 use Rattle.reads.specs.declared.Named.the-variants.{At, Nothing}
 use Rattle.reads.specs.Answers.{named, Reading}
 use Rattle.reads.specs.Laws.Reading.{opener-parts, read-allowed, read-broken}
-use Rattle.outputs.specs.Answers.{loadMoved}
+use Rattle.balance.specs.Answers.{loadMoved}
 use Rattle.loads.specs.Answers.{weightBetween, Movable}
 use Rattle.loads.specs.Laws.Loads.{Takes, part-between, begin-loads, begin-whole, begin-movable}
 use Rattle.traces.specs.declared.Ended.{Ended}

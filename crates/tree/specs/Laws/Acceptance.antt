@@ -9,7 +9,7 @@ use native.Mathlib.Nat.{lt-of-not-le}
 use native.Mathlib.Numerals.{add-one, sub-one}
 use native.Mathlib.Omega.{arith}
 use lib.ListN.{length, drop, getD}
-use lib.Dec.{eqb}
+use lib.Dec.{eqb, leb}
 use borrow.Author.Tests.{eq-eqb, ne-eqb, le-leb, lt-leb}
 use Rattle.rules.specs.Bytes.{Verdict, accepted, Walked, walk, wholeRecords, refusedIf, firstRefused}
 use Rattle.rules.specs.Tree.{treeRecords, kind, isAsync, isFinish, isEnd, kinds, openAfter, wellFormed, judgeTreeRecord, nextOpen, treeWalk, wrongLength, treeVerdict}
@@ -53,6 +53,30 @@ one-of-three (suc (suc (suc (suc k)))) l h = absurd (omega arith)
 pub formed-last : (k a b c : ℕ) → 1 ≤ k → k ≤ 3 → a ≡ 0 → b ≡ 0 → formed k a b c ≡ eqb c 0
 unfolding formed
 formed-last k a b c l h x y = rw (one-of-three k l h, eq-eqb a 0 x, eq-eqb b 0 y) refl
+
+-- The four bytes as one number, the kind lowest: from 1 to 3 where they are well formed, and nowhere else.
+module _ (k a b c head : ℕ) (number : head ≡ k + 256 * a + 65536 * b + 16777216 * c) where
+  pub head-none : head < 1 → false ≡ formed k a b c
+  head-none h = sym (formed-other k a b c (λ j l u e. absurd (omega arith)))
+
+  pub head-most : 1 ≤ head → leb head 3 ≡ formed k a b c
+  head-most l =
+      elim (decLe head 3) [
+        | yes h ↦ le-leb head 3 h ∙ sym (formed-last k a b c (omega arith) (omega arith) (omega arith) (omega arith) ∙ eq-eqb c 0 (omega arith))
+        | no n ↦ lt-leb head 3 (omega arith) ∙ sym (elim (ℕ-discrete a 0) [
+          | no m ↦ formed-first k a b c m
+          | yes x ↦ elim (ℕ-discrete b 0) [
+            | no m ↦ formed-second k a b c m
+            | yes y ↦ elim (decLe k 3) [
+              | no m ↦ formed-other k a b c (λ j o u e. absurd (omega arith))
+              | yes u ↦ elim (decLe 1 k) [
+                | no m ↦ formed-other k a b c (λ j o v e. absurd (omega arith))
+                | yes o ↦ formed-last k a b c o u x y ∙ ne-eqb c 0 (λ z. absurd (omega arith))
+              ]
+            ]
+          ]
+        ])
+      ]
 
 module _ (tree : List ℕ) (i : ℕ) (h : i < length (kinds tree)) where
   byte : (j : ℕ) → j < 8 → getD (getD (treeRecords tree) i []) j 0 ≡ getD tree (8 * i + j) 0

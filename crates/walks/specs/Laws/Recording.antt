@@ -38,7 +38,8 @@ use Rattle.live.specs.Tie.{Shows, heldStep, told}
 use Rattle.live.specs.Follows.{number-traced}
 use Rattle.live.specs.Laws.Moves.{Known, held-some}
 use Rattle.live.specs.Laws.Events.{start-shows, event-tells, event-shows}
-use Rattle.outputs.specs.Answers.{recordPut, loadMoved}
+use Rattle.outputs.specs.Answers.{recordPut}
+use Rattle.balance.specs.Answers.{loadMoved}
 use Rattle.outputs.specs.Laws.Records.{length-entries, entries-one, length-trace, trace-one, put-length, put-front}
 use Rattle.loads.specs.Answers.{Movable}
 use Rattle.loads.specs.Laws.Loads.{partWeight, start-loads, Takes, begin-loads, begin-whole, begin-movable}

@@ -16,7 +16,8 @@ use Rattle.state.specs.declared.Outcome.the-variants.{Ran, Stole, Refused}
 use Rattle.state.specs.declared.Answer.{Answer}
 use Rattle.stealing.specs.Answers.{numberValue}
 use Rattle.state.specs.Answers.{stateOf, answerOf, fresh, eventAnswer}
-use Rattle.outputs.specs.Answers.{recordPut, loadMoved}
+use Rattle.outputs.specs.Answers.{recordPut}
+use Rattle.balance.specs.Answers.{loadMoved}
 use Rattle.tree.specs.declared.Phase.{Phase}
 use Rattle.tree.specs.declared.Step.{Step}
 use Rattle.loads.specs.Answers.{weightBetween, Movable}

@@ -1,0 +1,62 @@
+// Whether a tree may be read (document 01, "Refusals"): its length, and each of its records while some tasks are open.
+ghost use mathlib.Core.Path.{_≡_};
+ghost use mathlib.Core.List.{[]};
+ghost use Prim.Native.Nat.{_<_};
+ghost use lib.ListN.{length, getD};
+ghost use Rattle.rules.specs.Tree.{kinds, treeRecords, wrongLength, wellFormed, judgeTreeRecord};
+use tree::ASYNC;
+use tree::END;
+use tree::MOST_STEPS;
+use tree::RECORD;
+
+// The most tasks open together, the root counted.
+const MOST_OPEN: usize = 64;
+
+// Whether the tree is empty, not whole records, or too long.
+pub fn wrong_length(tree: &[u8]) -> bool
+    ensures { λ r. ⌜ r ≡ wrongLength (now (tree .entry)) ⌝ }
+{
+    let n = tree.len() / RECORD;
+    if n == 0 {
+        return true;
+    }
+    if tree.len() % RECORD != 0 {
+        return true;
+    }
+    if MOST_STEPS < n {
+        return true;
+    }
+    false
+}
+
+// Whether a record's kind is one of the three and its bytes 1 to 3 are zero: these four bytes are a number from 1 to 3.
+fn well_formed(tree: &[u8], i: usize) -> bool
+    requires { ⌜ i < length (kinds (now tree)) ⌝ }
+    ensures { λ r. ⌜ r ≡ wellFormed (getD (treeRecords (now (tree .entry))) i []) ⌝ }
+{
+    let head = words::word(tree, RECORD * i);
+    if head < ASYNC as u32 {
+        return false;
+    }
+    head <= END as u32
+}
+
+// The refusal of a record while so many tasks are open, 0 for none.
+pub fn judge(tree: &[u8], i: usize, depth: usize) -> u8
+    requires { ⌜ i < length (kinds (now tree)) ⌝ }
+    ensures { λ r. ⌜ r ≡ judgeTreeRecord depth (getD (treeRecords (now (tree .entry))) i []) ⌝ }
+{
+    if !well_formed(tree, i) {
+        return 3;
+    }
+    if depth == MOST_OPEN {
+        if tree[RECORD * i] == END {
+            return 0;
+        }
+        return 4;
+    }
+    if depth == 0 {
+        return 5;
+    }
+    0
+}
