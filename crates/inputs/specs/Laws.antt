@@ -1,5 +1,5 @@
 -- The parts of an input, as the code takes them: policy, tree and trace.
-use Prim.Native.Nat.{ℕ, _+_, _-_, _*_, _≤_, min}
+use Prim.Native.Nat.{ℕ, _+_, _-_, _*_, min}
 use mathlib.Core.Path.{_≡_, refl, sym, _∙_}
 use mathlib.Core.List.{List, []}
 use native.Mathlib.Decide.{decLe}
@@ -7,6 +7,7 @@ use native.Mathlib.Omega.{arith}
 use lib.ListN.{length, take, drop, getD, length-drop, drop-of-length-le}
 use lib.Seq.{take-all, take-nil, drop-drop}
 use Rattle.rules.specs.Program.{inputPolicy, inputCount, inputTree, inputTrace}
+use Rattle.inputs.specs.Answers.{Parts}
 
 module _ (input : List ℕ) (n start end : ℕ) (s : start ≡ min 3 (length input)) (e : end ≡ min (3 + 8 * n) (length input)) where
   tree-by : take (end - start) (drop start input) ≡ take (8 * n) (drop 3 input)
@@ -41,14 +42,6 @@ module _ (input : List ℕ) (n start end : ℕ) (s : start ≡ min 3 (length inp
             let past : drop (3 + 8 * n) input ≡ [] = drop-of-length-le input {i = 3 + 8 * n} (omega arith) in
             rw (drop-drop (8 * n) 3 input, none, past, take-nil) refl
       ]
-
--- What the code takes of an input.
-pub record Parts (input : List ℕ) (policy start end : ℕ) : Type 0 where
-  pub policy-is : policy ≡ inputPolicy input
-  pub ordered : start ≤ end
-  pub within : end ≤ length input
-  pub tree-is : take (end - start) (drop start input) ≡ inputTree input
-  pub trace-is : take (length input - end) (drop end input) ≡ inputTrace input
 
 pub input-parts : (input : List ℕ) (policy low high start end : ℕ) → policy ≡ getD input 0 0 → low ≡ getD input 1 0
     → high ≡ getD input 2 0 → start ≡ min 3 (length input) → end ≡ min (3 + 8 * (low + 256 * high)) (length input)

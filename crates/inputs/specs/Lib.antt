@@ -1,3 +1,6 @@
 -- What need not be believed: everything here is proved from the rules.
---     Laws      the parts of an input
+-- The parts of an input.
+--     Answers   what is taken of it
+--     Laws      that this is the rules' policy, tree and trace
+pub mod Answers
 pub mod Laws

@@ -3,7 +3,7 @@
 ghost use mathlib.Core.Path.{_≡_};
 ghost use Prim.Native.Nat.{min};
 ghost use lib.ListN.{length, getD};
-ghost use Rattle.inputs.specs.Laws.{Parts};
+ghost use Rattle.inputs.specs.Answers.{Parts};
 
 // A byte of the input, 0 where there is none.
 fn byte(input: &[u8], i: usize) -> u8

@@ -1,4 +1,4 @@
-// What is looked up in the tables of a tree. Past a table's end a lookup scans the tree, so empty tables serve as well.
+// What is looked up in the tables of a tree. A lookup past a table's end scans the tree.
 ghost use mathlib.Core.Path.{_≡_};
 ghost use lib.ListN.{length};
 ghost use Rattle.rules.specs.Tree.{kinds, cont as contAt, finishBefore};

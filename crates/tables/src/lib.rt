@@ -1,6 +1,6 @@
 // Tables of a tree: for each step the step after its task's end, its opener, and the weight of all steps before it. They are
 // filled once where a whole list of events is run, so that no event scans the tree. A single event has none: its tables are
-// empty, and a lookup past a table's end scans.
+// empty.
 ghost use mathlib.Core.Path.{_≡_};
 ghost use Prim.Native.Nat.{_≤_};
 ghost use lib.ListN.{length};

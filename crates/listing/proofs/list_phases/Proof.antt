@@ -9,7 +9,7 @@ use borrow.Author.Needs.{needs}
 use Rattle.rules.specs.Tree.{kinds}
 use Rattle.rules.specs.Program.{inputTree}
 use Rattle.text.specs.Laws.Texts.{text-is}
-use Rattle.inputs.specs.Laws.{Parts}
+use Rattle.inputs.specs.Answers.{Parts}
 use Rattle.listing.specs.Laws.Phases.{Called, parts-called, called-refused, called-steps, called-room, called-phases, called-listed}
 use Rattle.listing.proofs.list_phases.Statement.{statement}
 use Rattle.listing.proofs.list_phases.Tie as tie

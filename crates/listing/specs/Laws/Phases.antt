@@ -15,7 +15,7 @@ use Rattle.replay.specs.declared.Replayed.{Replayed}
 use Rattle.replay.specs.Answers.{answers}
 use Rattle.report.specs.Answers.{refusalText}
 use Rattle.lines.specs.Answers.{linesOf, Phased}
-use Rattle.inputs.specs.Laws.{Parts}
+use Rattle.inputs.specs.Answers.{Parts}
 use Rattle.listing.specs.Laws.Verdicts.{start-steps, same-verdict, call-accepted, call-refused, call-number, accepted-start}
 use Rattle.listing.specs.Laws.Lists.{runOf, listed-lines, listed-phases, listed-room}
 
