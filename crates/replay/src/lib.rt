@@ -3,7 +3,7 @@
 ghost use mathlib.Core.Path.{_≡_};
 ghost use Rattle.rules.specs.Calls.{replayCall};
 ghost use Rattle.replay.specs.Answers.{answers, refusal};
-use reads::FREE;
+use labels::FREE;
 
 // The most records of a trace.
 pub const MOST_TRACE_RECORDS: usize = 2047;

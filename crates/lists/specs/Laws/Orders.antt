@@ -21,7 +21,7 @@ use Rattle.splits.specs.Invariant.{Split}
 use Rattle.splits.specs.Laws.Labels.{free, labelOf, Labels, label-drops}
 use Rattle.splits.specs.Laws.Order.{order-sum}
 use Rattle.splits.specs.Laws.Parts.{covered-inside, first-covered, held-covered, pushed-covered, stolen-uncovered, covered-sum}
-use Rattle.reads.specs.Laws.Claims.{label-read}
+use Rattle.labels.specs.Laws.Claims.{label-read}
 use Rattle.lists.specs.Answers.{dropped, phaseOrder, inPhase, listed}
 
 -- ---- lists of phases, by places
