@@ -1,7 +1,7 @@
 -- What the functions on labels answer, and the labels that they leave.
 use Prim.Native.Nat.{ℕ, _<_}
 use mathlib.Core.Path.{_≡_}
-use mathlib.Core.Bool.{Bool, false}
+use mathlib.Core.Bool.{Bool, false, _&&_, not}
 use mathlib.Core.List.{List}
 use mathlib.Core.Logic.{_⊎_}
 use lib.ListN.{length, getD}
@@ -25,3 +25,7 @@ abbrev pub Taking : List ℕ → List ℕ → ℕ → ℕ → Bool → List ℕ 
 Taking openers labels s k r after =
     ((labelOf labels s ≡ free → ⊥) × (r ≡ false))
     ⊎ ((labelOf labels s ≡ free) × ((found : ℕ) × Claimed openers labels s k after found × (r ≡ eqb found k)))
+
+-- A step that phase k pushes is dropped: it has the label of another phase.
+unfoldable pub dropped : List ℕ → ℕ → ℕ → Bool
+dropped labels k x = not (eqb (labelOf labels x) free) && not (eqb (labelOf labels x) k)

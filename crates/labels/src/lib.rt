@@ -2,10 +2,11 @@
 // can be stolen no more, because a phase begins with it or with a step in its part. So each step is labelled once, and the
 // nearest labelled step above another tells whose that one is.
 ghost use mathlib.Core.Path.{_≡_};
+ghost use mathlib.Core.Bool.{not};
 ghost use Prim.Native.Nat.{_≤_, _<_};
 ghost use lib.ListN.{length};
 ghost use Rattle.splits.specs.Laws.Labels.{labelOf};
-ghost use Rattle.labels.specs.Answers.{Upward, Claimed, Taking};
+ghost use Rattle.labels.specs.Answers.{Upward, Claimed, Taking, dropped};
 use tables::wide;
 
 // The label of a step that has none.
@@ -37,4 +38,15 @@ pub fn take(openers: &[u16], labels: &mut [u16], step: usize, phase: u16) -> boo
     }
     let found = claim(openers, labels, step, phase);
     found == phase
+}
+
+// Whether a step that a phase pushes stays with it: it has no label, or the phase's.
+pub fn stays(labels: &[u16], phase: usize, step: usize) -> bool
+    requires { ⌜ step < length (now labels) ⌝ }
+    ensures { λ r. ⌜ r ≡ not (dropped (now (labels .entry)) phase step) ⌝ }
+{
+    if labels[step] == FREE {
+        return true;
+    }
+    wide(labels[step]) == phase
 }

@@ -1,6 +1,5 @@
 -- `replay::replay` meets its contract: each return is a law of the call's answers. Assumes nothing.
 use mathlib.Core.Path.{_≡_}
-use native.Mathlib.Omega.{arith}
 use lib.ListN.{length}
 use borrow.Author.Needs.{needs}
 use Rattle.calls.specs.Answers.{admitted}

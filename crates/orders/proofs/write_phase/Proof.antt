@@ -1,4 +1,4 @@
--- `lists::write_phase` meets its contract: the loop holds that the phase has run alone so far, and a law says what each kind of
+-- `orders::write_phase` meets its contract: the loop holds that the phase has run alone so far, and a law says what each kind of
 -- turn does to that. Assumes nothing.
 use Prim.Native.Nat.{_+_, _-_, _*_, _≤_, _<_}
 use mathlib.Core.Path.{_≡_, sym, ap, _∙_}
@@ -7,9 +7,9 @@ use lib.ListN.{length}
 use borrow.Author.Needs.{needs}
 use Rattle.rules.specs.Tree.{kinds}
 use Rattle.outputs.specs.Laws.Records.{put-length}
-use Rattle.lists.specs.Laws.Stacks.{Writing, writing-start, record-fits, phase-done, step-popped, step-dropped, push-fits, step-pushed, pushed-inside}
-use Rattle.lists.proofs.write_phase.Statement.{statement}
-use Rattle.lists.proofs.write_phase.Tie as tie
+use Rattle.orders.specs.Laws.Stacks.{Writing, writing-start, record-fits, phase-done, step-popped, step-dropped, push-fits, step-pushed, pushed-inside}
+use Rattle.orders.proofs.write_phase.Statement.{statement}
+use Rattle.orders.proofs.write_phase.Tie as tie
 
 abbrev Inv-loop : tie.InvT-loop
 Inv-loop tree ends labels policy phase first stack₀ list₀ i₀ depth₀ count₀ stack list i depth count =

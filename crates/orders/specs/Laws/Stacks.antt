@@ -22,8 +22,9 @@ use Rattle.splits.specs.Laws.Order.{Alone, alone-start, alone-end, alone-drops,
 use Rattle.outputs.specs.Answers.{recordPut}
 use Rattle.outputs.specs.Laws.Records.{length-entries, entries-one, put-sets}
 use Rattle.outputs.specs.Laws.Fronts.{length-written}
-use Rattle.lists.specs.Answers.{dropped, phaseOrder, inPhase, Writable}
-use Rattle.lists.specs.Laws.Orders.{length-in-phase, stays-covered, order-labelled}
+use Rattle.labels.specs.Answers.{dropped}
+use Rattle.orders.specs.Answers.{phaseOrder, inPhase, Writable}
+use Rattle.orders.specs.Laws.Orders.{length-in-phase, stays-covered, order-labelled}
 
 -- The stack has the steps of a deque at its front, the newest last.
 abbrev pub Stacked : List ℕ → List ℕ → Type 0

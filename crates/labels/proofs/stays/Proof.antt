@@ -1,8 +1,8 @@
--- `lists::stays` meets its contract: an entry of the labels decides. Assumes nothing.
+-- `labels::stays` meets its contract: an entry of the labels decides. Assumes nothing.
 use borrow.Author.Needs.{needs}
-use Rattle.lists.specs.Laws.Orders.{entry-free, entry-other}
-use Rattle.lists.proofs.stays.Statement.{statement}
-use Rattle.lists.proofs.stays.Tie as tie
+use Rattle.labels.specs.Laws.Dropping.{entry-free, entry-other}
+use Rattle.labels.proofs.stays.Statement.{statement}
+use Rattle.labels.proofs.stays.Tie as tie
 
 mul-if1 : tie.Need-mul-if1
 mul-if1 c = search needs
