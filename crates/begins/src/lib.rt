@@ -7,12 +7,12 @@ ghost use lib.ListN.{length, getD, set};
 // Phase 0 begins: worker 0 has step 0 and all the weight.
 pub fn begin_first(
     labels: &mut [u16],
-    firsts: &mut [u16],
+    firsts: &mut [u16; 2048],
     latest: &mut [u16; 16],
     loads: &mut [u64; 16],
     weight: u64,
 )
-    requires { ⌜ (0 < length (now labels)) × (0 < length (now firsts)) × (length (now latest) ≡ 16) × (length (now loads) ≡ 16) ⌝ }
+    requires { ⌜ (0 < length (now labels)) × (length (now firsts) ≡ 2048) × (length (now latest) ≡ 16) × (length (now loads) ≡ 16) ⌝ }
     ensures labels { λ r. ⌜ now (labels .exit) ≡ set (now (labels .entry)) 0 0 ⌝ }
     ensures firsts { λ r. ⌜ now (firsts .exit) ≡ set (now (firsts .entry)) 0 0 ⌝ }
     ensures latest { λ r. ⌜ now (latest .exit) ≡ set (now (latest .entry)) 0 0 ⌝ }
@@ -30,12 +30,12 @@ pub fn begin_first(
 pub fn begin(
     openers: &[u16],
     labels: &mut [u16],
-    firsts: &mut [u16],
+    firsts: &mut [u16; 2048],
     bases: &mut [u16; 2048],
     ordinals: &mut [u16; 2048],
     latest: &mut [u16; 16],
     phase: usize,
-    from: usize,
+    from: u16,
     thief: usize,
     step: usize,
     number: u16,
@@ -48,11 +48,12 @@ pub fn begin(
     ensures ordinals { λ r. ⌜ now (ordinals .exit) ≡ set (set (now (ordinals .entry)) from 0) phase number ⌝ }
     ensures latest { λ r. ⌜ now (latest .exit) ≡ set (now (latest .entry)) thief phase ⌝ }
 {
+    let at = from as usize;
     labels[step] = phase as u16;
     firsts[phase] = step as u16;
-    bases[from] = openers[step] + 1;
+    bases[at] = openers[step] + 1;
     bases[phase] = step as u16;
-    ordinals[from] = 0;
+    ordinals[at] = 0;
     ordinals[phase] = number;
     latest[thief] = phase as u16;
 }

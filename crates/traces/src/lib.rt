@@ -12,7 +12,6 @@ ghost use Rattle.tables.specs.Answers.{Ends, Openers, Sums};
 ghost use Rattle.traces.specs.Answers.{Retraced};
 use names::Named;
 use steals::NO_PHASE;
-use tables::wide;
 
 // What the walk over the records comes to.
 pub struct Ended {
@@ -44,7 +43,7 @@ pub fn walk(
     policy: u8,
     trace: &[u8],
     labels: &mut [u16],
-    firsts: &mut [u16],
+    firsts: &mut [u16; 2048],
 ) -> Ended
     requires { ⌜ (startVerdict policy (now tree) .number ≡ 0) × (wholeRecords 4 2047 (now trace) ≡ true) ⌝ }
     requires { ⌜ (length (now ends) ≡ length (kinds (now tree))) × Ends (kinds (now tree)) (now ends) (length (now ends)) ⌝ }
@@ -92,7 +91,7 @@ pub fn walk(
                     &mut ordinals,
                     &mut latest,
                     k,
-                    wide(phase),
+                    phase,
                     thief,
                     step.0,
                     steal.number,

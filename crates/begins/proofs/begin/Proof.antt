@@ -19,8 +19,8 @@ cast-firsts c = search needs
 mul-firsts : tie.Need-mul-firsts
 mul-firsts c = search needs
 
-slice-write-firsts : tie.Need-slice-write-firsts
-slice-write-firsts c = search needs
+element-write-firsts : tie.Need-element-write-firsts
+element-write-firsts c = search needs
 
 mul-bases : tie.Need-mul-bases
 mul-bases c = search needs
@@ -70,9 +70,6 @@ element-write-latest c = search needs
 same-length : tie.Need-same-length
 same-length c = search needs
 
-same-length-2 : tie.Need-same-length-2
-same-length-2 c = search needs
-
 returns : tie.Need-returns
 returns c = (refl, (refl, (refl, (refl, refl))))
 
@@ -85,7 +82,7 @@ begin-spec =
     slice-write-labels
     cast-firsts
     mul-firsts
-    slice-write-firsts
+    element-write-firsts
     mul-bases
     shared-slice-read-bases
     add-bases
@@ -102,5 +99,4 @@ begin-spec =
     mul-latest
     element-write-latest
     same-length
-    same-length-2
     returns)

@@ -7,8 +7,8 @@ use Rattle.begins.proofs.begin_first.Tie as tie
 slice-write-labels : tie.Need-slice-write-labels
 slice-write-labels c = search needs
 
-slice-write-firsts : tie.Need-slice-write-firsts
-slice-write-firsts c = search needs
+element-write-firsts : tie.Need-element-write-firsts
+element-write-firsts c = search needs
 
 element-write-latest : tie.Need-element-write-latest
 element-write-latest c = search needs
@@ -19,9 +19,6 @@ element-write-loads c = search needs
 same-length : tie.Need-same-length
 same-length c = search needs
 
-same-length-2 : tie.Need-same-length-2
-same-length-2 c = search needs
-
 returns : tie.Need-returns
 returns c = (refl, (refl, (refl, refl)))
 
@@ -30,9 +27,8 @@ begin-first-spec =
     tie.close
     (tie.spec
     slice-write-labels
-    slice-write-firsts
+    element-write-firsts
     element-write-latest
     element-write-loads
     same-length
-    same-length-2
     returns)

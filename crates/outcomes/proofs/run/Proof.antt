@@ -70,7 +70,7 @@ labels-many : (c : tie.After-walk) → length (labels c) ≡ start c .args .n
 labels-many c = walked c .sizes .0 ∙ sym (start c .pre .steps)
 
 abbrev walk-at : tie.Else1 → tie.After-walk
-walk-at c = c .before .before .before .before
+walk-at c = c .before .before .before
 
 -- ---- the needs
 
@@ -120,9 +120,6 @@ slice-aggregate-walk-4 c =
     let at = entry (filled (c .before .before .before .before .before)) in
     sym (length-take-le (at .args .n) (replicate 4095 65535) (fits at refl))
 
-slice-aggregate-walk-5 : tie.Need-slice-aggregate-walk-5
-slice-aggregate-walk-5 c = search needs
-
 walk-requires : tie.Need-walk-requires
 walk-requires c κs =
     let sums = summed c in
@@ -138,7 +135,7 @@ walk-requires c κs =
 
 returns : tie.Need-returns
 returns c =
-    let at = c .before .before .before .before in
+    let at = c .before .before .before in
     lost-outcome (start at .pre) (walked at) (c .if1 .taken)
 
 array-share-prefix-ends-2 : tie.Need-array-share-prefix-ends-2
@@ -197,7 +194,6 @@ run-spec =
     slice-aggregate-walk-3
     array-borrow-prefix-labels
     slice-aggregate-walk-4
-    slice-aggregate-walk-5
     walk-requires
     returns
     array-share-prefix-ends-2

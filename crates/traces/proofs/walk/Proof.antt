@@ -29,25 +29,22 @@ abbrev μ-loop : tie.MeasureT-loop
 -- ---- the function's entry
 
 abbrev counted : tie.At-loop Inv-loop μ-loop → tie.After-steps Inv-loop μ-loop
-counted c = c .before .before .before .before .before .before .before .before .before .before .before
+counted c = c .before .before .before .before .before .before .before .before .before
 
 abbrev entry : tie.At-loop Inv-loop μ-loop → tie.Start Inv-loop μ-loop
-entry c = counted c .before .before .before .before .before .before .before .before
+entry c = counted c .before .before .before .before .before .before .before
 
 tables : (c : tie.At-loop Inv-loop μ-loop)
     → Tables (entry c .args .tree .now) (entry c .args .ends .now) (entry c .args .openers .now) (entry c .args .sums .now)
 tables c =
     let start = entry c in
     let n = length (kinds (start .args .tree .now)) in
-    let light = counted c .before .before .before .before .shared-slice-known4 .given n in
+    let light = counted c .before .before .before .shared-slice-known4 .given n in
     tables-filled _ _ _ _ (start .pre .1 .0) (start .pre .1 .1 .0) (start .pre .1 .1 .1 .0) (omega (arith, light))
 
--- Labels and first steps have kept their lengths.
+-- The labels have kept their length.
 lent-labels : (c : tie.At-loop Inv-loop μ-loop) → length (c .loop .labels) ≡ length (entry c .args .labels .now)
 lent-labels c = c .loop .inv .labelRoom ∙ sym (label-room _ _ (entry c .pre .0 .0) _ (entry c .pre .1 .1 .1 .1 .0) .0)
-
-lent-firsts : (c : tie.At-loop Inv-loop μ-loop) → length (c .loop .firsts) ≡ length (entry c .args .firsts .now)
-lent-firsts c = c .loop .inv .firstRoom ∙ sym (entry c .pre .1 .1 .1 .1 .1)
 
 -- ---- a turn
 
@@ -147,15 +144,15 @@ shared-slice-read-weight c = search needs
 
 begin-first-requires : tie.Need-begin-first-requires Inv-loop μ-loop
 begin-first-requires c κs =
-    let start = c .before .before .before .before .before .before .before .before .before .before .before .before .before in
+    let start = c .before .before .before .before .before .before .before .before .before .before .before .before in
     let room = label-room _ _ (start .pre .0 .0) _ (start .pre .1 .1 .1 .1 .0) in
-    (omega (arith, room), omega (arith, start .pre .1 .1 .1 .1 .1), refl, refl)
+    (omega (arith, room), start .pre .1 .1 .1 .1 .1, refl, refl)
 
 loop-holds : tie.Need-loop-holds Inv-loop μ-loop
 loop-holds c =
-    let begun = c .before .before .before .before .begin-first .ensures in
-    let steps = c .before .before .before .before .before .before .before .before .before .before .steps in
-    let start = c .before .before .before .before .before .before .before .before .before .before .before .before .before .before .before .before .before .before in
+    let begun = c .before .before .begin-first .ensures in
+    let steps = c .before .before .before .before .before .before .before .before .steps in
+    let start = c .before .before .before .before .before .before .before .before .before .before .before .before .before .before .before in
     let a = start .args in
     retrace-start (a .policy) (a .tree .now) (a .trace .now) (start .pre .0 .0) (start .pre .0 .1) (a .sums .now) (steps .result)
     (start .pre .1 .1 .1 .0 .1) (steps .ensures) (a .labels .now) (start .pre .1 .1 .1 .1 .0) (a .firsts .now)
@@ -175,9 +172,6 @@ refused-requires c κs = search needs
 
 same-length : tie.Need-same-length Inv-loop μ-loop
 same-length c = lent-labels (top (c .before .before .before .before))
-
-same-length-2 : tie.Need-same-length-2 Inv-loop μ-loop
-same-length-2 c = lent-firsts (top (c .before .before .before .before))
 
 returns : tie.Need-returns Inv-loop μ-loop
 returns c =
@@ -212,19 +206,16 @@ read-requires c κs =
 enum-known-step : tie.Need-enum-known-step Inv-loop μ-loop
 enum-known-step c = search needs
 
-wide-requires : tie.Need-wide-requires Inv-loop μ-loop
-wide-requires c κs = search needs
-
 begin-requires : tie.Need-begin-requires Inv-loop μ-loop
 begin-requires c κs =
-    let at = c .before .before .before .before .before .before in
+    let at = c .before .before .before .before .before in
     let l = told at in
     let room = start l .loop .inv in
     let two = workers (turn l) in
     let begun = ready (turn l) in (
       (
         begun .0,
-        omega (arith, begun .0, begun .1, c .wide .ensures),
+        omega (arith, begun .0, begun .1),
         two .0,
         omega (arith, given at),
         omega (arith, given at, entry (start l) .pre .1 .1 .0 .0),
@@ -241,22 +232,22 @@ begin-requires c κs =
 
 move-part-requires : tie.Need-move-part-requires Inv-loop μ-loop
 move-part-requires c κs =
-    let at = c .before .before .before .before .before .before .before .before .before .before .before .before in
+    let at = c .before .before .before .before .before .before .before .before .before in
     let two = workers (turn (told at)) in
     ((two .0, two .1, two .2), movable at)
 
 loop-less : tie.Need-loop-less Inv-loop μ-loop
 loop-less c =
-    let l = told (c .before .before .before .before .before .before .before .before .before .before .before .before .before) in
+    let l = told (c .before .before .before .before .before .before .before .before .before .before) in
     omega (arith, this (bytes (turn l)) .more)
 
 loop-again : tie.Need-loop-again Inv-loop μ-loop
 loop-again c =
-    let at = c .before .before .before .before .before .before .before .before .before .before .before .before .before in
+    let at = c .before .before .before .before .before .before .before .before .before .before in
     let l = told at in
-    let begun = c .before .before .before .before .before .before .begin .ensures in
+    let begun = c .before .before .before .before .begin .ensures in
     retrace-begun (start l .loop .inv) (this (bytes (turn l))) (fine (turn l)) (tables (start l)) _ _ (reading l) (kept l)
-    (at .before .step .given .1) _ (c .before .before .before .before .before .before .before .wide .ensures) _ _ _ _ _ _ (begun .0) (begun .1 .0) (begun .1 .1 .0)
+    (at .before .step .given .1) _ _ _ _ _ _ (begun .0) (begun .1 .0) (begun .1 .1 .0)
     (begun .1 .1 .1 .0) (begun .1 .1 .1 .1) (c .move-part .ensures)
 
 enum-told : tie.Need-enum-told Inv-loop μ-loop
@@ -265,13 +256,10 @@ enum-told c = search needs
 refused-requires-2 : tie.Need-refused-requires-2 Inv-loop μ-loop
 refused-requires-2 c κs = search needs
 
-same-length-3 : tie.Need-same-length-3 Inv-loop μ-loop
-same-length-3 c =
+same-length-2 : tie.Need-same-length-2 Inv-loop μ-loop
+same-length-2 c =
     let l = c .before .before .before .before in
     kept l ∙ lent-labels (start l)
-
-same-length-4 : tie.Need-same-length-4 Inv-loop μ-loop
-same-length-4 c = lent-firsts (start (c .before .before .before .before))
 
 returns-2 : tie.Need-returns-2 Inv-loop μ-loop
 returns-2 c =
@@ -284,11 +272,8 @@ add-t22 c =
     let so = c .before .loop .inv in
     omega (arith, so .reached, so .short)
 
-same-length-5 : tie.Need-same-length-5 Inv-loop μ-loop
-same-length-5 c = lent-labels (c .before)
-
-same-length-6 : tie.Need-same-length-6 Inv-loop μ-loop
-same-length-6 c = lent-firsts (c .before)
+same-length-3 : tie.Need-same-length-3 Inv-loop μ-loop
+same-length-3 c = lent-labels (c .before)
 
 returns-3 : tie.Need-returns-3 Inv-loop μ-loop
 returns-3 c = retrace-end (c .before .loop .inv) (omega arith)
@@ -309,7 +294,6 @@ walk-spec =
     judge-requires
     refused-requires
     same-length
-    same-length-2
     returns
     cast-thief
     cast-victim
@@ -317,17 +301,14 @@ walk-spec =
     array-read-phase
     read-requires
     enum-known-step
-    wide-requires
     begin-requires
     move-part-requires
     loop-less
     loop-again
     enum-told
     refused-requires-2
-    same-length-3
-    same-length-4
+    same-length-2
     returns-2
     add-t22
-    same-length-5
-    same-length-6
+    same-length-3
     returns-3)

@@ -189,11 +189,11 @@ module _ {p : ℕ} {tree trace : List ℕ} {k : ℕ} {labels firsts bases ordina
           rw (part-between ks (weights tree) sh ends sums (tables .right) (tables .added) s within, so .loaded)
           (sym (begin-loads ks (weights tree) sh takes))
 
-      -- The tables then, of which j is an index of the victim's phase.
-      module _ (j : ℕ) (same : j ≡ from) (labels' firsts' bases' ordinals' latest' ls' : List ℕ)
+      -- The tables then.
+      module _ (labels' firsts' bases' ordinals' latest' ls' : List ℕ)
           (label : labels' ≡ set after s (k + 1)) (first : firsts' ≡ set firsts (k + 1) s)
-          (base : bases' ≡ set (set bases j (getD openers s 0 + 1)) (k + 1) s)
-          (ordinal : ordinals' ≡ set (set ordinals j 0) (k + 1) number)
+          (base : bases' ≡ set (set bases from (getD openers s 0 + 1)) (k + 1) s)
+          (ordinal : ordinals' ≡ set (set ordinals from 0) (k + 1) number)
           (last : latest' ≡ set latest thief (k + 1)) (load : ls' ≡ loadMoved ls thief victim (weightBetween ends sums s)) where
         pub retrace-begun : Retracing p tree trace (k + 1) labels' firsts' bases' ordinals' latest' ls'
         retrace-begun =
@@ -222,9 +222,9 @@ module _ {p : ℕ} {tree trace : List ℕ} {k : ℕ} {labels firsts bases ordina
               latestRoom = rw last (length-set latest thief (k + 1) ∙ so .latestRoom);
               begins = rw first
                   (firsts-next (so .phs) thief from s (k + 1) begun (so .many) firsts (omega (arith, so .firstRoom)) (so .begins));
-              within = rw (base, same)
+              within = rw base
                   (bases-within (so .phs) thief from s (k + 1) begun (so .many) ks sh q opener bases baseFits (so .within));
-              based = rw (base, ordinal, same)
+              based = rw (base, ordinal)
                   (bases-next (so .phs) thief from s (k + 1) begun (so .many) ks sh q opener bases baseFits ordinals
                   (omega (arith, so .ordinalRoom)) p number (so .based) allowed step-is taken);
               latests = rw (last, so .many)
