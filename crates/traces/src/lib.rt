@@ -10,8 +10,8 @@ ghost use Rattle.rules.specs.Bytes.{wholeRecords};
 ghost use Rattle.rules.specs.Calls.{startVerdict};
 ghost use Rattle.tables.specs.Answers.{Ends, Openers, Sums};
 ghost use Rattle.traces.specs.Answers.{Retraced};
+use entries::NO_PHASE;
 use names::Named;
-use steals::NO_PHASE;
 
 // What the walk over the records comes to.
 pub struct Ended {
@@ -62,8 +62,8 @@ pub fn walk(
     while k < trace.len() / outputs::RECORD {
         let at = k;
         k += 1;
-        let steal = steals::record_at(trace, at);
-        let refusal = steals::judge(&latest, steal.thief, steal.victim);
+        let steal = entries::record_at(trace, at);
+        let refusal = entries::judge(&latest, steal.thief, steal.victim);
         if refusal != 0 {
             return refused(refusal, at);
         }

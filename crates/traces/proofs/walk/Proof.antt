@@ -12,7 +12,7 @@ use Rattle.splits.specs.Laws.Labels.{free, labelOf}
 use Rattle.names.specs.Answers.{named}
 use Rattle.reads.specs.Answers.{Reading}
 use Rattle.loads.specs.Answers.{Movable}
-use Rattle.steals.specs.Answers.{judgedWorkers, Entry}
+use Rattle.entries.specs.Answers.{judgedWorkers, Entry}
 use Rattle.traces.specs.Laws.Retracing.{Retracing, Tables, tables-filled, label-room, retrace-start, retrace-end, retrace-judged}
 use Rattle.traces.specs.Laws.Turns.{two-workers, read-ready, retrace-broken, begin-ready, part-movable, retrace-begun}
 use Rattle.traces.proofs.walk.Statement.{statement}

@@ -27,8 +27,8 @@ use Rattle.splits.specs.Laws.Reads.{Based, based-fresh}
 use Rattle.splits.specs.Laws.Labels.{free, labelOf, Labels, first-labels}
 use Rattle.splits.specs.Laws.Always.{first-split}
 use Rattle.loads.specs.Laws.Loads.{start-loads}
-use Rattle.steals.specs.Answers.{judgedWorkers, Entry}
-use Rattle.steals.specs.Laws.Workers.{Latest, judged-stop}
+use Rattle.entries.specs.Answers.{judgedWorkers, Entry}
+use Rattle.entries.specs.Laws.Workers.{Latest, judged-stop}
 use Rattle.traces.specs.declared.Ended.{Ended}
 use Rattle.traces.specs.Answers.{Retraced}
 use Rattle.traces.specs.Laws.Begins.{based-at}

@@ -33,8 +33,8 @@ use Rattle.reads.specs.Laws.Reading.{opener-parts, read-allowed, read-broken}
 use Rattle.outputs.specs.Answers.{loadMoved}
 use Rattle.loads.specs.Answers.{weightBetween, Movable}
 use Rattle.loads.specs.Laws.Loads.{Takes, part-between, begin-loads, begin-whole, begin-movable}
-use Rattle.steals.specs.Answers.{judgedWorkers, Entry}
-use Rattle.steals.specs.Laws.Workers.{fine-workers, latest-some, latest-next, judged-on}
+use Rattle.entries.specs.Answers.{judgedWorkers, Entry}
+use Rattle.entries.specs.Laws.Workers.{fine-workers, latest-some, latest-next, judged-on}
 use Rattle.traces.specs.declared.Ended.{Ended}
 use Rattle.traces.specs.Answers.{Retraced}
 use Rattle.traces.specs.Laws.Begins.{firsts-next, bases-within, bases-next}

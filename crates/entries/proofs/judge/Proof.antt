@@ -1,9 +1,9 @@
--- `steals::judge` meets its contract: a law for each return. Assumes nothing.
+-- `entries::judge` meets its contract: a law for each return. Assumes nothing.
 use native.Mathlib.Omega.{arith}
 use borrow.Author.Needs.{needs}
-use Rattle.steals.specs.Laws.Workers.{thief-refused, victim-refused, same-refused, unseen-refused, none-refused}
-use Rattle.steals.proofs.judge.Statement.{statement}
-use Rattle.steals.proofs.judge.Tie as tie
+use Rattle.entries.specs.Laws.Workers.{thief-refused, victim-refused, same-refused, unseen-refused, none-refused}
+use Rattle.entries.proofs.judge.Statement.{statement}
+use Rattle.entries.proofs.judge.Tie as tie
 
 returns : tie.Need-returns
 returns c = thief-refused _ _ _ (omega arith)

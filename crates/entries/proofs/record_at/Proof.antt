@@ -1,8 +1,8 @@
--- `steals::record_at` meets its contract: the four bytes of record k are read. Assumes nothing.
+-- `entries::record_at` meets its contract: the four bytes of record k are read. Assumes nothing.
 use borrow.Author.Needs.{needs}
-use Rattle.steals.specs.Laws.Records.{entry-bytes}
-use Rattle.steals.proofs.record_at.Statement.{statement}
-use Rattle.steals.proofs.record_at.Tie as tie
+use Rattle.entries.specs.Laws.Records.{entry-bytes}
+use Rattle.entries.proofs.record_at.Statement.{statement}
+use Rattle.entries.proofs.record_at.Tie as tie
 
 mul-at : tie.Need-mul-at
 mul-at c = search needs

@@ -15,7 +15,7 @@ use Rattle.rules.specs.Scheduling.{mostWorkers, Phase, phaseAt, begin}
 use Rattle.rules.specs.Traces.{latestPhase, numberAllowed, recordNumber, judgeRead, judgeTraceRecord}
 use Rattle.runs.specs.Laws.Counts.{or-none}
 use Rattle.splits.specs.Laws.Always.{latest-own, latest-begin}
-use Rattle.steals.specs.Answers.{judgedWorkers}
+use Rattle.entries.specs.Answers.{judgedWorkers}
 
 -- A worker's latest phase, by the table.
 abbrev pub LatestShown : Option ℕ → ℕ → Type 0

@@ -8,7 +8,7 @@ use lib.Seq.{drop-cons}
 use Rattle.rules.specs.Bytes.{littleEndian, records}
 use Rattle.rules.specs.Traces.{recordNumber}
 use Rattle.tree.specs.Laws.Records.{length-record, field-at}
-use Rattle.steals.specs.Answers.{Entry}
+use Rattle.entries.specs.Answers.{Entry}
 
 pub entry-bytes : (trace : List ℕ) (k number : ℕ) → k < length trace / 4
     → number ≡ getD trace (4 * k + 2) 0 + 256 * getD trace (4 * k + 3) 0

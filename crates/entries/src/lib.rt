@@ -3,7 +3,7 @@
 ghost use mathlib.Core.Path.{_≡_};
 ghost use Prim.Native.Nat.{_+_, _*_, _/_, _<_};
 ghost use lib.ListN.{length};
-ghost use Rattle.steals.specs.Answers.{judgedWorkers, Entry};
+ghost use Rattle.entries.specs.Answers.{judgedWorkers, Entry};
 
 // The latest phase of a worker that has had none.
 pub const NO_PHASE: u16 = 65535;
