@@ -71,8 +71,7 @@ from c = getD (top (bytes c) .loop .latest) (victim (bytes c)) 0
 
 fine : (c : tie.Else1 Inv-loop μ-loop) → judgedWorkers (top (bytes c) .loop .latest) (thief (bytes c)) (victim (bytes c)) ≡ 0
 fine c =
-    let none : c .before .judge .result ≡ 0 = omega arith in
-    sym (c .before .judge .ensures) ∙ none
+    sym (c .before .judge .ensures) ∙ c .if1 .left
 
 workers : (c : tie.Else1 Inv-loop μ-loop)
     → (thief (bytes c) < 16) × (victim (bytes c) < 16) × (thief (bytes c) ≡ victim (bytes c) → ⊥) × (from c ≡ free → ⊥)
@@ -176,7 +175,7 @@ same-length c = lent-labels (top (c .before .before .before .before))
 returns : tie.Need-returns Inv-loop μ-loop
 returns c =
     let b = c .before .before .before .before in
-    retrace-judged (top b .loop .inv) (this b) _ (c .before .before .judge .ensures) (λ z. omega arith) _ (c .refused .ensures)
+    retrace-judged (top b .loop .inv) (this b) _ (c .before .before .judge .ensures) (c .before .if1 .taken) _ (c .refused .ensures)
 
 cast-thief : tie.Need-cast-thief Inv-loop μ-loop
 cast-thief c = omega (arith, workers (c .before))
@@ -276,7 +275,7 @@ same-length-3 : tie.Need-same-length-3 Inv-loop μ-loop
 same-length-3 c = lent-labels (c .before)
 
 returns-3 : tie.Need-returns-3 Inv-loop μ-loop
-returns-3 c = retrace-end (c .before .loop .inv) (omega arith)
+returns-3 c = retrace-end (c .before .loop .inv) (c .loop-test .left)
 
 pub walk-spec : {M : Type 1} → statement M
 walk-spec =
