@@ -1,22 +1,14 @@
 -- What the walk over a trace's records comes to.
 use Prim.Native.Nat.{ℕ, _≤_, _<_}
 use mathlib.Core.Path.{_≡_}
-use mathlib.Core.Bool.{cond, _||_}
 use mathlib.Core.List.{List}
 use lib.ListN.{length, getD}
-use lib.Dec.{eqb, leb}
 use Rattle.rules.specs.Bytes.{records}
 use Rattle.rules.specs.Tree.{kinds, weights}
 use Rattle.rules.specs.Scheduling.{mostWorkers, phaseAt}
 use Rattle.rules.specs.Traces.{replayWalk, loads}
 use Rattle.splits.specs.Laws.Labels.{Labels}
 use Rattle.traces.specs.declared.Ended.{Ended}
-
--- Refusals 8, 13 and 14, by the table of the workers' latest phases, 0 for none.
-unfoldable pub judgedWorkers : List ℕ → ℕ → ℕ → ℕ
-judgedWorkers latest thief victim =
-    cond (leb mostWorkers thief || leb mostWorkers victim) 8
-    (cond (eqb thief victim) 13 (cond (eqb (getD latest victim 0) 65535) 14 0))
 
 -- By the rules, and what the code leaves for the run list.
 pub record Retraced (p : ℕ) (tree trace : List ℕ) (r : Ended) (labels firsts : List ℕ) : Type 0 where

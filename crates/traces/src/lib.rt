@@ -3,18 +3,15 @@
 // and the loads.
 ghost use mathlib.Core.Path.{_≡_};
 ghost use mathlib.Core.Bool.{true};
-ghost use Prim.Native.Nat.{_+_, _*_, _<_};
-ghost use lib.ListN.{length, getD, set, replicate};
+ghost use Prim.Native.Nat.{_<_};
+ghost use lib.ListN.{length, replicate};
 ghost use Rattle.rules.specs.Tree.{kinds, weights};
 ghost use Rattle.rules.specs.Bytes.{wholeRecords};
 ghost use Rattle.rules.specs.Calls.{startVerdict};
 ghost use Rattle.tables.specs.Answers.{Ends, Openers, Sums};
-ghost use Rattle.traces.specs.Answers.{judgedWorkers, Retraced};
-use reads::Named;
-use tables::wide;
-
-// The latest phase of a worker that has had none.
-const NO_PHASE: u16 = 65535;
+ghost use Rattle.traces.specs.Answers.{Retraced};
+use entries::NO_PHASE;
+use names::Named;
 
 // What the walk over the records comes to.
 pub struct Ended {
@@ -36,58 +33,6 @@ fn refused(number: u8, position: usize) -> Ended
     }
 }
 
-// Refusals 8, 13 and 14 of a record, 0 for none.
-fn judge(latest: &[u16; 16], thief: u8, victim: u8) -> u8
-    requires { ⌜ length (now latest) ≡ 16 ⌝ }
-    ensures { λ r. ⌜ r ≡ judgedWorkers (now (latest .entry)) thief victim ⌝ }
-{
-    if 15 < thief {
-        return 8;
-    }
-    if 15 < victim {
-        return 8;
-    }
-    if thief == victim {
-        return 13;
-    }
-    if latest[victim as usize] == NO_PHASE {
-        return 14;
-    }
-    0
-}
-
-// A number of two bytes.
-fn two_bytes(low: u8, high: u8) -> u16
-    ensures { λ r. ⌜ r ≡ low + 256 * high ⌝ }
-{
-    low as u16 + 256 * (high as u16)
-}
-
-// A new phase begins with a step stolen from another, as the record's number names it. The victim's frontier task is now the
-// child whose end stands just before the step: it is walked from its first step, which follows the step's opener.
-fn begin(
-    openers: &[u16],
-    firsts: &mut [u16],
-    bases: &mut [u16],
-    ordinals: &mut [u16],
-    phases: usize,
-    from: usize,
-    step: usize,
-    number: u16,
-)
-    requires { ⌜ (phases < length (now firsts)) × (length (now bases) ≡ length (now firsts)) × (length (now ordinals) ≡ length (now firsts)) ⌝ }
-    requires { ⌜ (from < length (now firsts)) × (step < length (now openers)) × (step < 65536) × (getD (now openers) step 0 < 65535) ⌝ }
-    ensures firsts { λ r. ⌜ now (firsts .exit) ≡ set (now (firsts .entry)) phases step ⌝ }
-    ensures bases { λ r. ⌜ now (bases .exit) ≡ set (set (now (bases .entry)) from (getD (now (openers .entry)) step 0 + 1)) phases step ⌝ }
-    ensures ordinals { λ r. ⌜ now (ordinals .exit) ≡ set (set (now (ordinals .entry)) from 0) phases number ⌝ }
-{
-    firsts[phases] = step as u16;
-    bases[from] = openers[step] + 1;
-    bases[phases] = step as u16;
-    ordinals[from] = 0;
-    ordinals[phases] = number;
-}
-
 // Reads the records from the first on, up to the first that is refused, with the tree's tables. The labels are all free at
 // first.
 pub fn walk(
@@ -98,7 +43,7 @@ pub fn walk(
     policy: u8,
     trace: &[u8],
     labels: &mut [u16],
-    firsts: &mut [u16],
+    firsts: &mut [u16; 2048],
 ) -> Ended
     requires { ⌜ (startVerdict policy (now tree) .number ≡ 0) × (wholeRecords 4 2047 (now trace) ≡ true) ⌝ }
     requires { ⌜ (length (now ends) ≡ length (kinds (now tree))) × Ends (kinds (now tree)) (now ends) (length (now ends)) ⌝ }
@@ -107,65 +52,51 @@ pub fn walk(
     requires { ⌜ (now labels ≡ replicate (length (kinds (now tree))) 65535) × (length (now firsts) ≡ 2048) ⌝ }
     ensures { λ r. ⌜ Retraced policy (now (tree .entry)) (now (trace .entry)) r (now (labels .exit)) (now (firsts .exit)) ⌝ }
 {
-    let n = tree::steps(tree);
-    labels[0] = 0;
-    firsts[0] = 0;
     let mut bases: [u16; 2048] = [0; 2048];
     let mut ordinals: [u16; 2048] = [0; 2048];
     let mut latest: [u16; 16] = [NO_PHASE; 16];
-    latest[0] = 0;
     let mut loads: [u64; 16] = [0; 16];
-    loads[0] = sums[n];
-    let mut phases: usize = 1;
+    let weight = sums[tree::steps(tree)];
+    begins::begin_first(labels, firsts, &mut latest, &mut loads, weight);
     let mut k = 0;
     while k < trace.len() / outputs::RECORD {
         let at = k;
         k += 1;
-        let thief = trace[outputs::RECORD * at];
-        let victim = trace[outputs::RECORD * at + 1];
-        let number = two_bytes(
-            trace[outputs::RECORD * at + 2],
-            trace[outputs::RECORD * at + 3],
-        );
-        let refusal = judge(&latest, thief, victim);
+        let steal = entries::record_at(trace, at);
+        let refusal = entries::judge(&latest, steal.thief, steal.victim);
         if refusal != 0 {
             return refused(refusal, at);
         }
-        let to = thief as usize;
-        let of = victim as usize;
-        // The victim's latest phase, and where its frontier task is walked from.
-        let phase = latest[of];
-        let from = wide(phase);
-        let base = wide(bases[from]);
-        let ordinal = wide(ordinals[from]);
-        let new = phases as u16;
+        let thief = steal.thief as usize;
+        let victim = steal.victim as usize;
+        // The victim's latest phase. The record begins phase k.
+        let phase = latest[victim];
         match reads::read(
             tree,
             ends,
             openers,
             labels,
             policy,
+            &bases,
+            &ordinals,
             phase,
-            base,
-            ordinal,
-            wide(number),
+            steal.number,
         ) {
             Named::At(step) => {
-                let s = step.0;
-                labels[s] = new;
-                begin(
+                begins::begin(
                     openers,
+                    labels,
                     firsts,
                     &mut bases,
                     &mut ordinals,
-                    phases,
-                    from,
-                    s,
-                    number,
+                    &mut latest,
+                    k,
+                    phase,
+                    thief,
+                    step.0,
+                    steal.number,
                 );
-                latest[to] = new;
-                loads::move_part(ends, sums, &mut loads, to, of, s);
-                phases += 1;
+                loads::move_part(ends, sums, &mut loads, thief, victim, step.0);
             }
             Named::Nothing => {
                 return refused(15, at);
@@ -175,7 +106,7 @@ pub fn walk(
     Ended {
         number: 0,
         position: 0,
-        phases,
+        phases: k + 1,
         loads,
     }
 }

@@ -1,6 +1,6 @@
 -- What the loop over the phases holds: the records of the phases so far stand at the front of the list. One law for the start,
 -- for a turn, and for the end.
-use Prim.Native.Nat.{ℕ, _+_, _-_, _*_, _≤_, _<_}
+use Prim.Native.Nat.{ℕ, _+_, _*_, _≤_, _<_}
 use mathlib.Core.Path.{_≡_, refl, sym, _∙_}
 use mathlib.Core.List.{List, [], _∷_, _++_, map, flatten, append-assoc, append-nil}
 use native.Mathlib.Numerals.{add-one}
@@ -16,8 +16,10 @@ use Rattle.tree.specs.Laws.Counts.{count-snoc}
 use Rattle.tasks.specs.Laws.Frames.{Frame, accepted-frame}
 use Rattle.outputs.specs.Laws.Records.{length-entries}
 use Rattle.outputs.specs.Laws.Fronts.{partOf, withPart, Front, front-none, front-within, front-room, front-next}
-use Rattle.lists.specs.Answers.{phaseOrder, inPhase, listed, Writable, Listable}
-use Rattle.lists.specs.Laws.Orders.{length-in-phase, order-labelled, orders-fit}
+use Rattle.orders.specs.Answers.{phaseOrder, inPhase, Writable}
+use Rattle.orders.specs.Laws.Orders.{length-in-phase, order-labelled}
+use Rattle.lists.specs.Answers.{listed, Listable}
+use Rattle.lists.specs.Laws.Orders.{orders-fit}
 
 pub record Listing (p : ℕ) (ks labels firsts : List ℕ) (phases : ℕ) (before list stack : List ℕ) (k at : ℕ) : Type 0 where
   pub upto : k ≤ phases

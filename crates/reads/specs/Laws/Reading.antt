@@ -24,10 +24,12 @@ use Rattle.splits.specs.Laws.Tasks.{hopped-is}
 use Rattle.splits.specs.Laws.Parts.{PartOf}
 use Rattle.splits.specs.Laws.Reads.{Based, based-allowed, allowed-taken}
 use Rattle.splits.specs.Laws.Labels.{free, labelOf, Labels, Climb, labelled, label-covers, taken-free, taken-label}
-use Rattle.reads.specs.declared.Named.{Named}
-use Rattle.reads.specs.declared.Named.the-variants.{At, Nothing}
-use Rattle.reads.specs.Laws.Naming.{only-some, named-within}
-use Rattle.reads.specs.Answers.{named, Claimed, Reading}
+use Rattle.names.specs.declared.Named.{Named}
+use Rattle.names.specs.declared.Named.the-variants.{At, Nothing}
+use Rattle.names.specs.Answers.{named}
+use Rattle.names.specs.Laws.Naming.{only-some, named-within}
+use Rattle.labels.specs.Answers.{Claimed}
+use Rattle.reads.specs.Answers.{Reading}
 
 -- ---- the step that a number names
 

@@ -1,21 +1,21 @@
 -- What the loop over the records holds: after the first k of them, none of them refused, the tables show the rules' phases.
 -- What it comes to at the start, at the end and at a record that is refused for its workers.
-use Prim.Native.Nat.{ℕ, zero, suc, _+_, _*_, _/_, _%_, _≤_, _<_}
+use Prim.Native.Nat.{ℕ, zero, suc, _+_, _/_, _%_, _≤_, _<_}
 use mathlib.Core.Path.{_≡_, refl, sym, ap, _∙_}
 use mathlib.Core.Bool.{true}
 use mathlib.Core.List.{List, []}
 use mathlib.Core.Logic.{_⊎_}
 use native.Mathlib.Omega.{arith}
-use lib.ListN.{length, drop, getD, set, replicate, length-set, length-replicate, getD-replicate, drop-of-length-le}
-use lib.Seq.{drop-cons, getD-set-same, getD-set-other}
+use lib.ListN.{length, drop, getD, set, replicate, length-set, length-replicate, getD-replicate}
+use lib.Seq.{getD-set-same, getD-set-other}
 use lib.Dec.{eqb, leb}
 use borrow.Author.Tests.{leb-true, ne-eqb}
-use Rattle.rules.specs.Bytes.{littleEndian, records, wholeRecords, accepted, sum, Walked, walk}
+use Rattle.rules.specs.Bytes.{records, wholeRecords, accepted, sum, Walked, walk}
 use Rattle.rules.specs.Tree.{kinds, weights, ordinal}
 use Rattle.rules.specs.Scheduling.{workFirst, helpFirst, mostWorkers, Phase, firstPhases, phaseAt}
-use Rattle.rules.specs.Traces.{latestPhase, recordNumber, judgeTraceRecord, nextPhases, replayWalk, loads}
+use Rattle.rules.specs.Traces.{latestPhase, judgeTraceRecord, nextPhases, replayWalk, loads}
 use Rattle.rules.specs.Calls.{startVerdict}
-use Rattle.tree.specs.Laws.Records.{length-records, length-record, field-at}
+use Rattle.tree.specs.Laws.Records.{length-records}
 use Rattle.tree.specs.Laws.Walks.{walk-stop, walk-end}
 use Rattle.tasks.specs.Laws.Frames.{Frame, accepted-frame}
 use Rattle.tasks.specs.Laws.Places.{root-first}
@@ -27,12 +27,13 @@ use Rattle.splits.specs.Laws.Reads.{Based, based-fresh}
 use Rattle.splits.specs.Laws.Labels.{free, labelOf, Labels, first-labels}
 use Rattle.splits.specs.Laws.Always.{first-split}
 use Rattle.loads.specs.Laws.Loads.{start-loads}
+use Rattle.entries.specs.Answers.{judgedWorkers, Entry}
+use Rattle.entries.specs.Laws.Workers.{Latest, judged-stop}
 use Rattle.traces.specs.declared.Ended.{Ended}
-use Rattle.traces.specs.Answers.{judgedWorkers, Retraced}
-use Rattle.traces.specs.Laws.Workers.{Latest, judged-stop}
+use Rattle.traces.specs.Answers.{Retraced}
 use Rattle.traces.specs.Laws.Begins.{based-at}
 
-pub record Retracing (p : ℕ) (tree trace : List ℕ) (k phases : ℕ) (labels firsts bases ordinals latest ls : List ℕ) : Type 0 where
+pub record Retracing (p : ℕ) (tree trace : List ℕ) (k : ℕ) (labels firsts bases ordinals latest ls : List ℕ) : Type 0 where
   pub either : (p ≡ workFirst) ⊎ (p ≡ helpFirst)
   pub frame : Frame tree
   pub short : length trace / 4 ≤ 2047
@@ -43,8 +44,7 @@ pub record Retracing (p : ℕ) (tree trace : List ℕ) (k phases : ℕ) (labels 
   pub split : Split p (kinds tree) phs
   pub shown : Labels (kinds tree) phs labels
   -- Each record has begun one phase.
-  pub many : phases ≡ length phs
-  pub each : phases ≡ k + 1
+  pub many : k + 1 ≡ length phs
   pub labelRoom : length labels ≡ length (kinds tree)
   pub firstRoom : length firsts ≡ 2048
   pub baseRoom : length bases ≡ 2048
@@ -122,7 +122,7 @@ module _ (p : ℕ) (tree trace : List ℕ) (accepts : startVerdict p tree .numbe
   started : (labels firsts bases ordinals sums : List ℕ) (n : ℕ) → labels ≡ replicate (length (kinds tree)) 65535
       → length firsts ≡ 2048 → bases ≡ replicate 2048 0 → ordinals ≡ replicate 2048 0
       → Sums (weights tree) sums (length (kinds tree)) → n ≡ length (kinds tree)
-      → Retracing p tree trace 0 1 (set labels 0 0) (set firsts 0 0) bases ordinals (set (replicate 16 65535) 0 0)
+      → Retracing p tree trace 0 (set labels 0 0) (set firsts 0 0) bases ordinals (set (replicate 16 65535) 0 0)
       (set (replicate 16 0) 0 (getD sums n 0))
   unfolding replayWalk firstPhases phaseAt sum
   started labels firsts bases ordinals sums n unlabelled room zeros also added count =
@@ -144,7 +144,6 @@ module _ (p : ℕ) (tree trace : List ℕ) (accepts : startVerdict p tree .numbe
         split = first-split p either ks (frame .some) sh;
         shown = start .1;
         many = refl;
-        each = refl;
         labelRoom = start .0;
         firstRoom = length-set firsts 0 0 ∙ room;
         baseRoom = rw zeros (length-replicate {A = ℕ} 2048 0);
@@ -167,16 +166,16 @@ module _ (p : ℕ) (tree trace : List ℕ) (accepts : startVerdict p tree .numbe
       → (lent : List ℕ) → lent ≡ replicate (length (kinds tree)) 65535 → (own : List ℕ) → length own ≡ 2048
       → (labels firsts bases ordinals latest ls : List ℕ) → labels ≡ set lent 0 0 → firsts ≡ set own 0 0
       → bases ≡ replicate 2048 0 → ordinals ≡ replicate 2048 0 → latest ≡ set (replicate 16 65535) 0 0
-      → ls ≡ set (replicate 16 0) 0 (getD sums n 0) → Retracing p tree trace 0 1 labels firsts bases ordinals latest ls
+      → ls ≡ set (replicate 16 0) 0 (getD sums n 0) → Retracing p tree trace 0 labels firsts bases ordinals latest ls
   retrace-start sums n added count lent unlabelled own room labels firsts bases ordinals latest ls label first base at last load =
       rw (label, first, last, load) (started lent own bases ordinals sums n unlabelled room base at added count)
 
 -- ---- the end
 
-module _ {p : ℕ} {tree trace : List ℕ} {k phases : ℕ} {labels firsts bases ordinals latest ls : List ℕ}
-    (so : Retracing p tree trace k phases labels firsts bases ordinals latest ls) where
+module _ {p : ℕ} {tree trace : List ℕ} {k : ℕ} {labels firsts bases ordinals latest ls : List ℕ}
+    (so : Retracing p tree trace k labels firsts bases ordinals latest ls) where
   pub retrace-end : length trace / 4 ≤ k
-      → Retraced p tree trace (record { number = 0; position = 0; phases = phases; loads = ls }) labels firsts
+      → Retraced p tree trace (record { number = 0; position = 0; phases = k + 1; loads = ls }) labels firsts
   unfolding accepted
   retrace-end h =
       let done =
@@ -192,39 +191,13 @@ module _ {p : ℕ} {tree trace : List ℕ} {k phases : ℕ} {labels firsts bases
         shown = λ z. rw done (so .shown);
         begins = λ z. rw done (so .begins);
         sizes = (so .labelRoom, so .firstRoom);
-        few = λ z. omega (arith, so .each, so .reached, so .short);
+        few = λ z. omega (arith, so .reached, so .short);
       }
 
 -- ---- a record
 
--- Record k is that of these workers and this number.
-pub record Entry (trace : List ℕ) (k thief victim number : ℕ) : Type 0 where
-  pub more : k < length trace / 4
-  pub first : getD (getD (records 4 trace) k []) 0 0 ≡ thief
-  pub second : getD (getD (records 4 trace) k []) 1 0 ≡ victim
-  pub rest : recordNumber (getD (records 4 trace) k []) ≡ number
-
--- By its bytes.
-pub entry-bytes : (trace : List ℕ) (k number : ℕ) → k < length trace / 4
-    → number ≡ getD trace (4 * k + 2) 0 + 256 * getD trace (4 * k + 3) 0
-    → Entry trace k (getD trace (4 * k) 0) (getD trace (4 * k + 1) 0) number
-unfolding recordNumber littleEndian
-entry-bytes trace k number more is =
-    let r = getD (records 4 trace) k [] in
-    let here : 4 * k + 0 ≡ 4 * k = omega arith in
-    let size = length-record 4 trace k more (omega arith) in
-    let low = field-at 4 trace k 2 more (omega arith) in
-    let high = field-at 4 trace k 3 more (omega arith) in
-    record {
-      more = more;
-      first = rw here at (field-at 4 trace k 0 more (omega arith));
-      second = field-at 4 trace k 1 more (omega arith);
-      rest = rw (drop-cons r 2 0 (omega arith), drop-cons r 3 0 (omega arith), drop-of-length-le r {i = 4} (omega arith))
-          (omega (arith, low, high));
-    }
-
-module _ {p : ℕ} {tree trace : List ℕ} {k phases : ℕ} {labels firsts bases ordinals latest ls : List ℕ}
-    (so : Retracing p tree trace k phases labels firsts bases ordinals latest ls) {thief victim number : ℕ}
+module _ {p : ℕ} {tree trace : List ℕ} {k : ℕ} {labels firsts bases ordinals latest ls : List ℕ}
+    (so : Retracing p tree trace k labels firsts bases ordinals latest ls) {thief victim number : ℕ}
     (entry : Entry trace k thief victim number) where
   -- It is refused: `after` are the labels that are left then.
   pub retrace-stopped : (x : ℕ) → judgeTraceRecord mostWorkers p (kinds tree) (so .phs) (getD (records 4 trace) k []) ≡ x

@@ -25,26 +25,28 @@ use Rattle.splits.specs.Laws.Parts.{PartOf, part-inside, pushes-part}
 use Rattle.splits.specs.Laws.Reads.{allowed-taken}
 use Rattle.splits.specs.Laws.Labels.{free, labelOf, Climb, labelled, root-labelled, begin-labels}
 use Rattle.splits.specs.Laws.Always.{Read, latest-own, read-next, begin-split}
-use Rattle.reads.specs.declared.Named.{Named}
-use Rattle.reads.specs.declared.Named.the-variants.{At, Nothing}
-use Rattle.reads.specs.Answers.{named, Reading}
+use Rattle.names.specs.declared.Named.{Named}
+use Rattle.names.specs.declared.Named.the-variants.{At, Nothing}
+use Rattle.names.specs.Answers.{named}
+use Rattle.reads.specs.Answers.{Reading}
 use Rattle.reads.specs.Laws.Reading.{opener-parts, read-allowed, read-broken}
 use Rattle.balance.specs.Answers.{loadMoved}
 use Rattle.loads.specs.Answers.{weightBetween, Movable}
 use Rattle.loads.specs.Laws.Loads.{Takes, part-between, begin-loads, begin-whole, begin-movable}
+use Rattle.entries.specs.Answers.{judgedWorkers, Entry}
+use Rattle.entries.specs.Laws.Workers.{fine-workers, latest-some, latest-next, judged-on}
 use Rattle.traces.specs.declared.Ended.{Ended}
-use Rattle.traces.specs.Answers.{judgedWorkers, Retraced}
-use Rattle.traces.specs.Laws.Workers.{fine-workers, latest-some, latest-next, judged-on}
+use Rattle.traces.specs.Answers.{Retraced}
 use Rattle.traces.specs.Laws.Begins.{firsts-next, bases-within, bases-next}
-use Rattle.traces.specs.Laws.Retracing.{Retracing, Tables, Entry, retrace-stopped}
+use Rattle.traces.specs.Laws.Retracing.{Retracing, Tables, retrace-stopped}
 
 -- What was pushed is not step 0.
 pushed-past : (ks : List ℕ) → Shape (length ks) (endAt ks) (sizeAt ks) → (p s : ℕ) → Pushed p ks s → 0 < s
 pushed-past ks sh p s by =
     omega (arith, by .3, part-inside ks sh (by .0) (pushes p ks (by .0)) (pushes-part ks sh p (by .0) (by .1) (by .2)))
 
-module _ {p : ℕ} {tree trace : List ℕ} {k phases : ℕ} {labels firsts bases ordinals latest ls : List ℕ}
-    (so : Retracing p tree trace k phases labels firsts bases ordinals latest ls) {thief victim number : ℕ}
+module _ {p : ℕ} {tree trace : List ℕ} {k : ℕ} {labels firsts bases ordinals latest ls : List ℕ}
+    (so : Retracing p tree trace k labels firsts bases ordinals latest ls) {thief victim number : ℕ}
     (entry : Entry trace k thief victim number) (fine : judgedWorkers latest thief victim ≡ 0) where
   abbrev ks : List ℕ
   ks = kinds tree
@@ -69,9 +71,9 @@ module _ {p : ℕ} {tree trace : List ℕ} {k phases : ℕ} {labels firsts bases
   own = latest-own victim (so .phs) from victims
 
   -- What reading asks.
-  pub read-ready : (phases < 2048) × (from < phases) × (getD bases from 0 < length ks) × (labelOf labels 0 ≡ free → ⊥)
+  pub read-ready : (k + 1 < 2048) × (from < k + 1) × (getD bases from 0 < length ks) × (labelOf labels 0 ≡ free → ⊥)
   read-ready = (
-    omega (arith, so .each, so .short, entry .more),
+    omega (arith, so .short, entry .more),
     omega (arith, so .many, own .0),
     so .within from (own .0),
     root-labelled p ks (so .frame .some) sh (so .phs) (so .split) labels (so .shown),
@@ -187,16 +189,16 @@ module _ {p : ℕ} {tree trace : List ℕ} {k phases : ℕ} {labels firsts bases
           rw (part-between ks (weights tree) sh ends sums (tables .right) (tables .added) s within, so .loaded)
           (sym (begin-loads ks (weights tree) sh takes))
 
-      -- The tables then, of which j is an index of the victim's phase.
-      module _ (j : ℕ) (same : j ≡ from) (labels' firsts' bases' ordinals' latest' ls' : List ℕ)
-          (label : labels' ≡ set after s phases) (first : firsts' ≡ set firsts phases s)
-          (base : bases' ≡ set (set bases j (getD openers s 0 + 1)) phases s)
-          (ordinal : ordinals' ≡ set (set ordinals j 0) phases number)
-          (last : latest' ≡ set latest thief phases) (load : ls' ≡ loadMoved ls thief victim (weightBetween ends sums s)) where
-        pub retrace-begun : Retracing p tree trace (k + 1) (phases + 1) labels' firsts' bases' ordinals' latest' ls'
+      -- The tables then.
+      module _ (labels' firsts' bases' ordinals' latest' ls' : List ℕ)
+          (label : labels' ≡ set after s (k + 1)) (first : firsts' ≡ set firsts (k + 1) s)
+          (base : bases' ≡ set (set bases from (getD openers s 0 + 1)) (k + 1) s)
+          (ordinal : ordinals' ≡ set (set ordinals from 0) (k + 1) number)
+          (last : latest' ≡ set latest thief (k + 1)) (load : ls' ≡ loadMoved ls thief victim (weightBetween ends sums s)) where
+        pub retrace-begun : Retracing p tree trace (k + 1) labels' firsts' bases' ordinals' latest' ls'
         retrace-begun =
             let room = read-ready .0 in
-            let baseFits : phases < length bases = omega (arith, so .baseRoom) in
+            let baseFits : k + 1 < length bases = omega (arith, so .baseRoom) in
             let begun = own .0 in
             let q = getD openers s 0 in
             let loaded = load ∙ next-loads in
@@ -213,18 +215,17 @@ module _ {p : ℕ} {tree trace : List ℕ} {k phases : ℕ} {labels firsts bases
                   (opener-parts ks openers (tables .opened)) thief from s begun (omega (arith, so .many)) taken (climbed .0)
                   (climbed .1) (climbed .2));
               many = omega (arith, so .many, begin-length (so .phs) thief from s);
-              each = omega (arith, so .each);
-              labelRoom = rw label (length-set after s phases ∙ kept ∙ so .labelRoom);
-              firstRoom = rw first (length-set firsts phases s ∙ so .firstRoom);
+              labelRoom = rw label (length-set after s (k + 1) ∙ kept ∙ so .labelRoom);
+              firstRoom = rw first (length-set firsts (k + 1) s ∙ so .firstRoom);
               baseRoom = rw base (simp length-set (so .baseRoom));
               ordinalRoom = rw ordinal (simp length-set (so .ordinalRoom));
-              latestRoom = rw last (length-set latest thief phases ∙ so .latestRoom);
+              latestRoom = rw last (length-set latest thief (k + 1) ∙ so .latestRoom);
               begins = rw first
-                  (firsts-next (so .phs) thief from s phases begun (so .many) firsts (omega (arith, so .firstRoom)) (so .begins));
-              within = rw (base, same)
-                  (bases-within (so .phs) thief from s phases begun (so .many) ks sh q opener bases baseFits (so .within));
-              based = rw (base, ordinal, same)
-                  (bases-next (so .phs) thief from s phases begun (so .many) ks sh q opener bases baseFits ordinals
+                  (firsts-next (so .phs) thief from s (k + 1) begun (so .many) firsts (omega (arith, so .firstRoom)) (so .begins));
+              within = rw base
+                  (bases-within (so .phs) thief from s (k + 1) begun (so .many) ks sh q opener bases baseFits (so .within));
+              based = rw (base, ordinal)
+                  (bases-next (so .phs) thief from s (k + 1) begun (so .many) ks sh q opener bases baseFits ordinals
                   (omega (arith, so .ordinalRoom)) p number (so .based) allowed step-is taken);
               latests = rw (last, so .many)
                   (latest-next (so .phs) latest (so .latests) thief from s (omega (arith, so .latestRoom, two-workers .0)) begun);

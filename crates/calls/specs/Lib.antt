@@ -1,0 +1,5 @@
+-- What a replay call is given.
+--     Answers   what is answered of it, by the rules
+--     Laws      each answer
+pub mod Answers
+pub mod Laws
