@@ -1,11 +1,13 @@
 // Running a step (document 01, "Scheduling"): whether a worker may run the step that it holds, and what it holds then.
 ghost use mathlib.Core.Path.{_≡_};
 ghost use Prim.Native.Nat.{_≤_, _<_};
+ghost use mathlib.Core.Bool.{_||_};
 ghost use lib.ListN.{length};
+ghost use lib.Dec.{eqb, leb};
 ghost use Rattle.rules.specs.Tree.{kinds};
 ghost use Rattle.tables.specs.Answers.{Ends, Openers};
 ghost use Rattle.deques.specs.Answers.{Climbs};
-ghost use Rattle.running.specs.Answers.{allRun, waitsFor, runNumber, heldNext, placeNext};
+ghost use Rattle.running.specs.Answers.{allRun, waitsFor, WaitsAtLow, runNumber, heldNext, placeNext};
 use deques::MOST_WORKERS;
 use deques::NOT_RUN;
 use deques::Pusher;
@@ -48,15 +50,27 @@ fn waits(tree: &[u8], openers: &[u16], place: &[u8; 4095], step: Step) -> bool
     }
 }
 
+// Whether a held step may wait: where a table of openers is lent, only one at its worker's `low`.
+fn may_wait(openers: &[u16], step: usize, low: usize) -> bool
+    ensures { λ r. ⌜ r ≡ leb (length (now (openers .entry))) step || eqb step low ⌝ }
+{
+    if openers.len() <= step {
+        return true;
+    }
+    step == low
+}
+
 // The refusal of a worker's run: 8, 9 or 10, or 2 for a tree that is too long; 0 for none.
 pub fn judge_run(
     tree: &[u8],
     openers: &[u16],
     place: &[u8; 4095],
     held: &[u16; 16],
+    low: &[u16; 16],
     worker: u8,
 ) -> u8
     requires { ⌜ Openers (kinds (now tree)) (now openers) (length (now openers)) ⌝ }
+    requires { ⌜ (worker < 16 → WaitsAtLow (kinds (now tree)) (now openers) (now place) (now held) (now low) worker) ⌝ }
     ensures { λ r. ⌜ r ≡ runNumber (kinds (now (tree .entry))) (now (place .entry)) (now (held .entry)) worker ⌝ }
 {
     let w = worker as usize;
@@ -70,6 +84,9 @@ pub fn judge_run(
     let i = wide(held[w]);
     if n <= i {
         return 9;
+    }
+    if !may_wait(openers, i, wide(low[w])) {
+        return 0;
     }
     if waits(tree, openers, place, Step(i)) {
         return 10;

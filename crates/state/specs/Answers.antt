@@ -12,7 +12,7 @@ use Rattle.rules.specs.Scheduling.{mostWorkers, pushes}
 use Rattle.rules.specs.Calls.{startVerdict}
 use Rattle.tables.specs.Answers.{Ends, Openers}
 use Rattle.deques.specs.Answers.{Climbs, oldestMark, robbed}
-use Rattle.running.specs.Answers.{runNumber, heldNext, placeNext}
+use Rattle.running.specs.Answers.{WaitsAtLow, runNumber, heldNext, placeNext}
 use Rattle.stealing.specs.Answers.{stealNumber, numberBy, ordinalFrom}
 use Rattle.state.specs.declared.RunState.{RunState}
 use Rattle.state.specs.declared.Outcome.{Outcome}
@@ -30,10 +30,12 @@ abbrev pub answerOf : Outcome → RunState → Answer
 answerOf outcome s = record { outcome = outcome; state = s }
 
 -- What the calls on arrays ask of the tables that they are lent: they are the tree's, as far as they go, and lead from each held
--- step to the steps that are marked with its worker. A single event lends empty ones, of which nothing is asked.
+-- step to the steps that are marked with its worker; and only a step at `low` may wait. A single event lends empty ones, of which
+-- nothing is asked.
 pub record Hints (tree ends openers place held low : List ℕ) : Type 0 where
   pub taskEnds : Ends (kinds tree) ends (length ends)
   pub opened : Openers (kinds tree) openers (length openers)
+  pub waits : (w : ℕ) → w < mostWorkers → WaitsAtLow (kinds tree) openers place held low w
   pub climbs : (w : ℕ) → w < mostWorkers → getD held w 0 < length openers → Climbs openers place w (getD low w 0) (getD held w 0)
 
 -- ---- the start

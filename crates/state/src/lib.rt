@@ -141,7 +141,7 @@ pub fn run_on(
     requires { ⌜ Hints (now tree) (now ends) (now openers) (now place) (now held) (now low) ⌝ }
     ensures { λ r. ⌜ ((base : List ℕ) → (steals : ℕ) → answerOf r (stateOf (now (place .exit)) (now (held .exit)) (now (phase .entry)) (now (low .entry)) base steals policy) ≡ runAnswer (stateOf (now (place .entry)) (now (held .entry)) (now (phase .entry)) (now (low .entry)) base steals policy) (now (tree .entry)) worker) ⌝ }
 {
-    let refusal = running::judge_run(tree, openers, place, held, worker);
+    let refusal = running::judge_run(tree, openers, place, held, low, worker);
     if refusal != 0 {
         return Outcome::Refused(refusal);
     }

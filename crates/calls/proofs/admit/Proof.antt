@@ -8,7 +8,8 @@ use borrow.Author.Tests.{not-true, not-false}
 use Rattle.rules.specs.Bytes.{wholeRecords}
 use Rattle.tasks.specs.Laws.Admission.{start-tree-accepts}
 use Rattle.tasks.specs.Laws.Frames.{accepted-frame}
-use Rattle.calls.specs.Laws.Cases.{Begun, start-begins, start-refusal, trace-refusal, short-refusal, none-refused}
+use Rattle.tasks.specs.Laws.Starts.{Begun, start-begins}
+use Rattle.calls.specs.Laws.Cases.{start-refusal, trace-refusal, short-refusal, none-refused}
 use Rattle.calls.proofs.admit.Statement.{statement}
 use Rattle.calls.proofs.admit.Tie as tie
 

@@ -12,23 +12,10 @@ use Rattle.rules.specs.Tree.{kinds}
 use Rattle.rules.specs.Calls.{startVerdict}
 use Rattle.tree.specs.declared.Accepted.{Accepted}
 use Rattle.tasks.specs.Answers.{admission}
+use Rattle.tasks.specs.Laws.Starts.{start-judged}
 use Rattle.calls.specs.Answers.{givenVerdict, admitted, refusal}
 
 -- ---- each answer
-
--- What is known once the start is accepted: n is the count of steps.
-pub record Begun (p : ℕ) (tree : List ℕ) (n : ℕ) : Type 0 where
-  pub fine : startVerdict p tree .number ≡ 0
-  pub steps : n ≡ length (kinds tree)
-
-pub start-begins : (p : ℕ) (tree : List ℕ) (a : Accepted) → a ≡ admission p tree → a .number ≡ 0 → Begun p tree (a .steps)
-unfolding admission
-start-begins p tree a e z =
-    let fine = sym (ap (λ (x : Accepted). x .number) e) ∙ z in
-    record {
-      fine = fine;
-      steps = ap (λ (x : Accepted). x .steps) e ∙ rw (eq-eqb (startVerdict p tree .number) 0 fine) refl;
-    }
 
 module _ (p : ℕ) (tree trace : List ℕ) (room : ℕ) where
   -- The answer that a refusal makes.
@@ -39,12 +26,9 @@ module _ (p : ℕ) (tree trace : List ℕ) (room : ℕ) where
 
   pub start-refusal : (a : Accepted) → a ≡ admission p tree → (a .number ≡ 0 → ⊥)
       → refusal (a .number) (a .position) ≡ admitted p tree trace room
-  unfolding givenVerdict firstRefused admission
+  unfolding givenVerdict firstRefused
   start-refusal a e n =
-      let judged : _≡_ {A = Verdict} (record { number = a .number; position = a .position }) (startVerdict p tree) =
-      ap {B = Verdict} (λ (x : Accepted). record { number = x .number; position = x .position }) e
-      in
-      by-refused (record { number = a .number; position = a .position }) (rw (← judged, ne-eqb (a .number) 0 n) refl) n
+      by-refused (record { number = a .number; position = a .position }) (rw (← start-judged p tree a e, ne-eqb (a .number) 0 n) refl) n
 
   module _ (started : startVerdict p tree .number ≡ 0) where
     -- Past the start.

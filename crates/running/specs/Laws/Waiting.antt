@@ -1,15 +1,15 @@
 -- Whether all steps of a finish child have run, as a loop finds it; and whether a step waits, by the finish child before it.
 use Prim.Native.Nat.{ℕ, suc, _+_, _-_, _≤_, _<_}
 use mathlib.Core.Path.{_≡_, refl, sym, ap, _∙_}
-use mathlib.Core.Bool.{true, false, _&&_, not}
+use mathlib.Core.Bool.{Bool, true, false, true≢false, _&&_, _||_, not}
 use mathlib.Core.List.{List}
 use mathlib.Core.Option.{Option, none, some}
 use native.Mathlib.Decide.{ℕ-discrete}
 use native.Mathlib.Numerals.{add-one}
 use native.Mathlib.Omega.{arith}
-use lib.ListN.{getD}
-use lib.Dec.{eqb}
-use borrow.Author.Tests.{eq-eqb, ne-eqb}
+use lib.ListN.{length, getD}
+use lib.Dec.{eqb, leb}
+use borrow.Author.Tests.{eq-eqb, ne-eqb, leb-false}
 use Rattle.rules.specs.Bytes.{all}
 use Rattle.rules.specs.Tree.{finishBefore}
 use Rattle.tree.specs.declared.Step.{Step}
@@ -17,7 +17,7 @@ use Rattle.tasks.specs.declared.FinishChild.{FinishChild}
 use Rattle.tasks.specs.declared.FinishChild.the-variants.{From, Nothing}
 use Rattle.tasks.specs.Answers.{childOf}
 use Rattle.deques.specs.Laws.Marks.{count-low, count-none}
-use Rattle.running.specs.Answers.{allRun, waitsFor}
+use Rattle.running.specs.Answers.{allRun, waitsFor, WaitsAtLow}
 
 run-turn : (place : List ℕ) (j end : ℕ) → j < end
     → allRun place j end ≡ not (eqb (getD place j 0) 17) && allRun place (suc j) end
@@ -89,3 +89,18 @@ module _ (ks place : List ℕ) (i : ℕ) where
   waits-nothing e =
       let found : finishBefore ks i ≡ none = sym (found-same (finishBefore ks i)) ∙ ap found-by e in
       rw (waitsFor, found) refl
+
+-- ---- only at `low`
+
+neither : (a b : Bool) → a || b ≡ false → (a ≡ false) × (b ≡ false)
+neither true b e = absurd (true≢false e)
+neither false b e = (refl, e)
+
+-- A held step that the table has and that is not at `low` does not wait.
+pub waits-at-low : (ks openers place held low : List ℕ) (w : ℕ) → WaitsAtLow ks openers place held low w
+    → (i : ℕ) → i ≡ getD held w 0 → (from : ℕ) → from ≡ getD low w 0 → leb (length openers) i || eqb i from ≡ false
+    → waitsFor ks place i ≡ false
+waits-at-low ks openers place held low w asked i holding from e no-wait =
+    let both = neither (leb (length openers) i) (eqb i from) no-wait in
+    let apart : i ≡ from → ⊥ = λ same. true≢false (sym (eq-eqb i from same) ∙ both .1) in
+    rw holding (asked (rw (← holding) (leb-false (length openers) i (both .0))) (rw (← holding, ← e) apart))

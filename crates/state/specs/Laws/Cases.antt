@@ -47,7 +47,12 @@ module _ (s : RunState) (tree : List ℕ) (w number : ℕ) (judged : number ≡ 
 -- Nothing is asked of empty tables.
 pub no-hints : (tree place held low : List ℕ) → Hints tree [] [] place held low
 no-hints tree place held low =
-    record { taskEnds = λ i h. absurd (omega arith); opened = λ j l h. absurd (omega arith); climbs = λ w l h. absurd (omega arith) }
+    record {
+      taskEnds = λ i h. absurd (omega arith);
+      opened = λ j l h. absurd (omega arith);
+      waits = λ w l h n. absurd (omega arith);
+      climbs = λ w l h. absurd (omega arith);
+    }
 
 -- The openers lead from the step that a worker holds.
 pub lent-climbs : {tree ends openers place held low : List ℕ} → Hints tree ends openers place held low → {w : ℕ} → w < 16
