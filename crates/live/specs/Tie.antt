@@ -61,9 +61,9 @@ PushedBelow p ks bound x = (q : ℕ) × (q < bound) × (x ≡ pushes p ks q)
 
 -- What is so of a worker's held step and of the steps stolen from its latest phase.
 pub record Ready (p : ℕ) (ks : List ℕ) (log : List Entry) (stolen : List ℕ) (low held : ℕ) : Type 0 where
-  -- What was stolen was pushed below `low`. So whatever is between a pusher in the deque and the step it pushed is the phase's own.
+  -- What was stolen was pushed below `low`: nothing between a deque's pusher and its continuation was stolen from the phase.
   pub stolenBelow : (x : ℕ) → any (eqb x) stolen ≡ true → PushedBelow p ks low x
-  -- Only a step that stands at `low` may wait: one just stolen, or the first after a steal from the worker.
+  -- Only a step at `low` may wait: a stolen one, with which the phase begins.
   pub free : (held ≡ low → ⊥) → waits ks log held ≡ false
 
 -- So it is of every worker that holds a step.

@@ -1,23 +1,23 @@
--- Who may wait: a worker whose held step is not its `low` never does. So it is at the start, and every run and steal keeps it.
+-- A worker whose held step is not its `low` never waits: so at the start, and kept by every run and steal.
 use Prim.Native.Nat.{ℕ, zero, suc, _+_, _-_, _≤_, _<_}
 use mathlib.Core.Path.{_≡_, refl, sym, ap, _∙_}
-use mathlib.Core.Bool.{Bool, true, false, true≢false, cond, not}
+use mathlib.Core.Bool.{Bool, true, false, cond, not}
 use mathlib.Core.List.{List, [], _∷_, _++_, map}
 use mathlib.Core.Option.{Option, none, some, Option·none-ne-some}
-use native.Mathlib.Decide.{ℕ-discrete, decLt, decLe}
+use native.Mathlib.Decide.{ℕ-discrete, decLe}
 use native.Mathlib.Omega.{arith}
 use lib.ListN.{length, getD, set, replicate, length-set}
 use lib.Seq.{getD-set-same, getD-set-other}
 use lib.Dec.{eqb}
-use borrow.Author.Tests.{eq-eqb, ne-eqb, eqb-true, not-false, lt-ltb}
+use borrow.Author.Tests.{ne-eqb, eqb-true, not-false, lt-ltb}
 use Rattle.rules.specs.Bytes.{count, all, any, sum}
 use Rattle.rules.specs.Tree.{kindAt, isAsync, isFinish, isEnd, taskEnd, cont, finishBefore}
-use Rattle.rules.specs.Scheduling.{mostWorkers, helpFirst, pushesChild, holds, pushes, pop, afterRun, Phase, phaseAt, firstPhases, begin, Worker, Entry, Run, idleWorker, start, workerAt, hasRun, waits, oldest, steal}
+use Rattle.rules.specs.Scheduling.{mostWorkers, helpFirst, pushesChild, holds, pushes, pop, afterRun, Phase, phaseAt, firstPhases, Worker, Entry, Run, idleWorker, start, workerAt, hasRun, waits, oldest, steal}
 use Rattle.tasks.specs.Laws.Shape.{Shape}
 use Rattle.tasks.specs.Laws.Frames.{endAt, sizeAt}
-use Rattle.runs.specs.Invariant.{Weighs, self, logOf, stack, PhaseFacts, Invariant}
-use Rattle.runs.specs.Laws.Counts.{and-both, all-count, count-all, Has, has-head, has-tail, has-cases, has-none, any-one, any-sum, not-so}
-use Rattle.runs.specs.Laws.Weights.{sum-append, span, self-same, span-weighs, span-most, span-in, span-inside, span-out, span-self, cont-inside, end-within, nested-end, pushes-inside}
+use Rattle.runs.specs.Invariant.{self, logOf, stack, PhaseFacts, Invariant}
+use Rattle.runs.specs.Laws.Counts.{and-both, all-count, count-all, Has, has-head, has-tail, has-cases, has-none, any-one, any-sum}
+use Rattle.runs.specs.Laws.Weights.{span, self-same, span-weighs, span-most, span-in, span-inside, span-out, span-self, cont-inside, nested-end}
 use Rattle.runs.specs.Laws.Waiting.{waits-no-longer, child-never-waits, async-never-waits, run-stays}
 use Rattle.runs.specs.Laws.Phase.{phase-runs, after-ended, after-kept}
 use Rattle.runs.specs.Laws.Moves.{sum-one, getD-alike, log-own, some-holds, held-facts, onward, ran, ran-here, ran-other, begin-new, begin-robbed, begin-other, enriched, lightened, steal-thief, steal-other, steal-victim}
@@ -94,8 +94,11 @@ module _ (p : ℕ) (ks : List ℕ) (sh : Shape (length ks) (endAt ks) (sizeAt ks
           | yes l ↦ l
           | no n ↦ elim (ℕ-discrete (ph .first) (cont ks q)) [
             | yes e ↦ absurd (omega (arith, covered i, ap (span ks i) e, span-most ks i (ph .first)))
-            | no m ↦ absurd (omega (arith, nested-end ks sh (suc q) (ph .first) (omega (arith, cont-inside ks sh q within opens))
-                (omega arith) (omega arith)))
+            | no m ↦ absurd (omega (
+              arith,
+              nested-end ks sh (suc q) (ph .first) (omega (arith, cont-inside ks sh q within opens))
+                  (omega arith) (omega arith),
+            ))
           ]
         ]
 
