@@ -2,6 +2,7 @@
 --     Scans    what a scan of the places finds, from what is marked
 --     Hops     from step to step over a task's children: ordinals, and the children between
 --     Hands    one worker's marks and held step: the newest and the oldest pusher; a push, a pop, a theft, another worker's move
+--     Ready    a worker whose held step is not its `low` never waits
 --     Hints    tables of the tree serve the calls on a state that shows a run
 --     Tables   all workers beside each other: the start, and one worker's change
 --     Moves    an accepted run or steal: the next state shows the next run
@@ -10,6 +11,7 @@
 pub mod Scans
 pub mod Hops
 pub mod Hands
+pub mod Ready
 pub mod Hints
 pub mod Tables
 pub mod Moves

@@ -1,14 +1,14 @@
 -- How a state by value shows a run of the rules, and what its calls answer then. `p` is the policy, `ks` the tree's kinds.
 use Prim.Native.Nat.{ℕ, zero, suc, _≤_, _<_}
 use mathlib.Core.Path.{_≡_}
-use mathlib.Core.Bool.{false, cond, not}
+use mathlib.Core.Bool.{true, false, cond, not}
 use mathlib.Core.List.{List, [], _∷_, map}
 use mathlib.Core.Option.{Option, none, some}
 use lib.ListN.{length, getD}
 use lib.Dec.{eqb}
 use Rattle.rules.specs.Bytes.{any}
 use Rattle.rules.specs.Tree.{kindAt, isEnd, ordinal, taskEnd, cont}
-use Rattle.rules.specs.Scheduling.{workFirst, mostWorkers, pushes, Worker, Run, workerAt, hasRun, isRun, oldest, judgeEvent}
+use Rattle.rules.specs.Scheduling.{workFirst, mostWorkers, pushes, phaseAt, Worker, Entry, Run, workerAt, hasRun, waits, isRun, oldest, judgeEvent}
 use Rattle.rules.specs.Calls.{eventCall}
 use Rattle.deques.specs.Answers.{marked}
 use Rattle.state.specs.declared.RunState.{RunState}
@@ -55,6 +55,23 @@ pub record HandShown (p : ℕ) (ks place : List ℕ) (w held low base phase : �
   pub numbered : p ≡ workFirst → Numbered ks (worker .hand .held) low base pushers
   pub latest : phase ≡ worker .phase
 
+-- Step x is what a step below `bound` pushes.
+abbrev pub PushedBelow : ℕ → List ℕ → ℕ → ℕ → Type 0
+PushedBelow p ks bound x = (q : ℕ) × (q < bound) × (x ≡ pushes p ks q)
+
+-- What is so of a worker's held step and of the steps stolen from its latest phase.
+pub record Ready (p : ℕ) (ks : List ℕ) (log : List Entry) (stolen : List ℕ) (low held : ℕ) : Type 0 where
+  -- What was stolen was pushed below `low`: nothing between a deque's pusher and its continuation was stolen from the phase.
+  pub stolenBelow : (x : ℕ) → any (eqb x) stolen ≡ true → PushedBelow p ks low x
+  -- Only a step at `low` may wait: a stolen one, with which the phase begins.
+  pub free : (held ≡ low → ⊥) → waits ks log held ≡ false
+
+-- So it is of every worker that holds a step.
+abbrev pub AllReady : ℕ → List ℕ → List ℕ → Run → Type 0
+AllReady p ks lows r =
+    (w i : ℕ) → w < mostWorkers → workerAt r w .hand .held ≡ some i
+    → Ready p ks (r .log) (phaseAt (r .phases) (workerAt r w .phase) .stolen) (getD lows w 0) i
+
 -- ---- the state
 
 pub record Shows (p : ℕ) (ks : List ℕ) (s : RunState) (r : Run) : Type 0 where
@@ -71,6 +88,7 @@ pub record Shows (p : ℕ) (ks : List ℕ) (s : RunState) (r : Run) : Type 0 whe
   -- 17 is the mark of the steps that have not run.
   pub unrun : (j : ℕ) → j < length ks → eqb (getD (s .place) j 0) 17 ≡ not (hasRun (r .log) j)
   pub steals : s .steals ≡ length (r .steals)
+  pub ready : AllReady p ks (s .low) r
 
 -- ---- what an event's call tells
 

@@ -21,6 +21,7 @@ use Rattle.running.specs.Answers.{runNumber}
 use Rattle.stealing.specs.Answers.{stealNumber, numberBy}
 use Rattle.state.specs.Answers.{fresh, refused, runAnswer, stealAnswer, eventAnswer, isIdle, idleBits, idleNumber, idleFirst}
 use Rattle.live.specs.Tie.{Shows, heldStep, told}
+use Rattle.live.specs.Laws.Ready.{start-ready}
 use Rattle.live.specs.Laws.Tables.{shows-by, start-table}
 use Rattle.live.specs.Laws.Moves.{Known, held-none, held-some}
 use Rattle.live.specs.Laws.Answers.{keeps-if, keeps-run, keeps-steal, Agrees, refuses, accepts, run-agrees, steal-agrees}
@@ -43,7 +44,7 @@ unfolding fresh start hasRun any
 start-shows p ks some-step most =
     shows-by p ks (fresh p) (start 16)
     (start-table p ks (fresh p .place) (length-replicate {A = ℕ} 4095 17) some-step (λ j l. fresh-unrun p j (omega arith)))
-    refl (λ j l. ap (λ (x : ℕ). eqb x 17) (fresh-unrun p j (omega arith))) refl
+    refl (λ j l. ap (λ (x : ℕ). eqb x 17) (fresh-unrun p j (omega arith))) refl (start-ready p ks)
 
 -- ---- the idle workers
 

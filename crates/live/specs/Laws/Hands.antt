@@ -49,7 +49,7 @@ any-oldest j x xs =
 -- ---- lines
 
 module _ (ks : List ℕ) (low : ℕ) where
-  line-low : (qs : List ℕ) (x : ℕ) → Line ks low x qs → low ≤ x
+  pub line-low : (qs : List ℕ) (x : ℕ) → Line ks low x qs → low ≤ x
   line-low [] x l = l .0
   line-low (q ∷ qs) x l = omega (arith, line-low qs q (l .3))
 
@@ -66,7 +66,7 @@ module _ (ks : List ℕ) (low : ℕ) where
       rw (ne-eqb j q (λ e. omega (arith, line-low qs q (l .3)))) (line-under qs q (l .3) j h)
 
 module _ (ks : List ℕ) (sh : Shape (length ks) (endAt ks) (sizeAt ks)) (low : ℕ) where
-  line-step : (qs : List ℕ) (x : ℕ) → Line ks low x qs → x < length ks
+  pub line-step : (qs : List ℕ) (x : ℕ) → Line ks low x qs → x < length ks
   line-step [] x l = l .1
   line-step (q ∷ qs) x l = omega (arith, end-within ks sh q (line-step qs q (l .3)))
 
@@ -348,14 +348,17 @@ module _ (p : ℕ) (ks : List ℕ) (sh : Shape (length ks) (endAt ks) (sizeAt ks
 
     pub oldest-pusher : (length (worker .hand .deque) ≡ 0 → ⊥)
         → (q : ℕ) × (oldestMark place w low (length ks) ≡ some q) × (oldest (worker .hand .deque) ≡ pushes p ks q) × (q < i)
+        × (low ≤ q)
     oldest-pusher d = by (shown .pushers) (shown .deque) (shows .1) eldest
       where
         by : (qs : List ℕ) → worker .hand .deque ≡ map (pushes p ks) qs → Line ks low i qs
             → oldestMark place w low (length ks) ≡ last qs
             → (q : ℕ) × (oldestMark place w low (length ks) ≡ some q) × (oldest (worker .hand .deque) ≡ pushes p ks q) × (q < i)
+            × (low ≤ q)
         by [] c l f = absurd (d (ap length c))
         by (q ∷ qs) c l f =
-            (oldest (q ∷ qs), f, ap oldest c ∙ oldest-map (pushes p ks) q qs, line-rest ks sh low q qs i l .1)
+            let rest = line-rest ks sh low q qs i l in
+            (oldest (q ∷ qs), f, ap oldest c ∙ oldest-map (pushes p ks) q qs, rest .1, rest .0)
 
     -- Counted from `base`, the stolen step's ordinal is the rules'.
     pub oldest-ordinal : p ≡ workFirst → (q : ℕ) → oldestMark place w low (length ks) ≡ some q

@@ -17,7 +17,7 @@ use Rattle.runs.specs.Invariant.{stack, Chained, Invariant}
 use Rattle.runs.specs.Laws.Counts.{Has, has-head}
 use Rattle.runs.specs.Laws.Phase.{held-within, oldest-within}
 use Rattle.runs.specs.Laws.Waiting.{run-more}
-use Rattle.runs.specs.Laws.Moves.{some-stack, holds-some, rich-holds, held-facts}
+use Rattle.runs.specs.Laws.Moves.{some-stack, holds-some, rich-holds, held-facts, onward, ran}
 use Rattle.runs.specs.Laws.Consequences.{steals-most, phases-count, pending-unrun}
 use Rattle.deques.specs.Answers.{marked, newestMark, oldestMark, popped, robbed}
 use Rattle.state.specs.declared.RunState.{RunState}
@@ -25,6 +25,7 @@ use Rattle.running.specs.Answers.{heldNext, placeNext}
 use Rattle.state.specs.Answers.{stateOf, ranState, nextPhase, takenOrdinal, robbedState}
 use Rattle.live.specs.Tie.{HandShown, Shows}
 use Rattle.live.specs.Laws.Hands.{opened-shown, ended-nothing, ended-newest, ended-idle-shown, ended-shown, oldest-none, oldest-pusher, oldest-ordinal, robbed-shown, idle-none, thief-shown, other-shown, push-other, pop-other, rob-other, push-unrun, push-run, pop-unrun, pop-run, rob-unrun, popped-length, robbed-length}
+use Rattle.live.specs.Laws.Ready.{run-ready, steal-ready}
 use Rattle.live.specs.Laws.Tables.{Table, Spared, tables-of, shows-by, table-set}
 
 -- What a run of step i by worker w does to the places.
@@ -105,8 +106,9 @@ module _ {p : ℕ} {ks : List ℕ} {s : RunState} {r : Run} (known : Known p ks 
         (getD (s .phase) w 0) next
         → Shows p ks (stateOf after (set (s .held) w h) (s .phase) (s .low) (s .base) (s .steals) (s .policy))
         (runStep p ks r w)
-    unfolding runStep next marked
+    unfolding runStep next marked ran onward
     stored-shows after h stored shown =
+        let hand = shows .hands w few in
         let table = rw (set-getD (s .low) w 0, set-getD (s .base) w 0, set-getD (s .phase) w 0) at
         (table-set p ks sh most _ _ _ _ _ _ (tables-of p ks s r shows) after w h (getD (s .low) w 0)
         (getD (s .base) w 0) (getD (s .phase) w 0) next (stored .places) few shown (stored .spared)) in
@@ -116,7 +118,9 @@ module _ {p : ℕ} {ks : List ℕ} {s : RunState} {r : Run} (known : Known p ks 
           | yes e ↦ rw (e, eq-eqb i i refl, or-true) (stored .ran)
           | no n ↦ rw (ne-eqb i j (λ e. n (sym e)), or-false) (stored .rest j l n ∙ shows .unrun j l)
         ]))
-        (shows .steals))
+        (shows .steals)
+        (run-ready p ks sh r inv (s .low) (shows .ready) w i few (omega (arith, shows .workers)) holding (hand .pushers) (hand .deque)
+        (rw holding at (hand .holding) .1)))
 
     -- What it holds next, and its hand then.
     next-opened : isEnd (kindAt ks i) ≡ false → heldNext (s .policy) ks (s .place) w (getD (s .low) w 0) i ≡ holds p ks i
@@ -205,7 +209,7 @@ module _ {p : ℕ} {ks : List ℕ} {s : RunState} {r : Run} (known : Known p ks 
     -- The victim holds step i, and step q pushed what is stolen.
     module _ (i : ℕ) (holding : workerAt r v .hand .held ≡ some i) (q : ℕ)
         (found : oldestMark (s .place) v (getD (s .low) v 0) (length ks) ≡ some q)
-        (pushed-by : step ≡ pushes p ks q) where
+        (pushed-by : step ≡ pushes p ks q) (past : q < i) (not-below : getD (s .low) v 0 ≤ q) where
       taken-ordinal : p ≡ workFirst → takenOrdinal s ks v q ≡ ordinal ks (pushes p ks q)
       unfolding takenOrdinal
       taken-ordinal first =
@@ -248,7 +252,9 @@ module _ {p : ℕ} {ks : List ℕ} {s : RunState} {r : Run} (known : Known p ks 
           rw (taken, thief-phase)
           (shows-by p ks _ _ both-table (shows .policy)
           (λ j l. rob-unrun p ks sh most _ (shows .places) v (getD (s .low) v 0) few j l ∙ shows .unrun j l)
-          (omega (arith, phases-count p ks some-step sh r inv, length-append (r .steals) (stolen ∷ []))))
+          (omega (arith, phases-count p ks some-step sh r inv, length-append (r .steals) (stolen ∷ [])))
+          (steal-ready p ks sh r inv (s .low) (shows .ready) t v i q (shows .lows) small few (omega (arith, shows .workers))
+          (omega (arith, shows .workers)) other holding pushed-by not-below past))
 
     -- A worker with steps in its deque holds one.
     pub steal-shows : (q : ℕ) × Stolen p ks s r t v q
@@ -263,7 +269,7 @@ module _ {p : ℕ} {ks : List ℕ} {s : RunState} {r : Run} (known : Known p ks 
           record {
             found = found .1;
             taken = found .2;
-            numbered = taken-ordinal i e (found .0) (found .1) (found .2);
-            next = shows-stolen i e (found .0) (found .1) (found .2);
+            numbered = taken-ordinal i e (found .0) (found .1) (found .2) (found .3) (found .4);
+            next = shows-stolen i e (found .0) (found .1) (found .2) (found .3) (found .4);
           },
         )

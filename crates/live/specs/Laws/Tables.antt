@@ -16,7 +16,7 @@ use Rattle.tasks.specs.Laws.Frames.{endAt, sizeAt}
 use Rattle.tasks.specs.Laws.Places.{root-first}
 use Rattle.deques.specs.Answers.{marked}
 use Rattle.state.specs.declared.RunState.{RunState}
-use Rattle.live.specs.Tie.{HandShown, Shows}
+use Rattle.live.specs.Tie.{HandShown, AllReady, Shows}
 use Rattle.live.specs.Laws.Hands.{other-shown}
 
 pub record Table (p : ℕ) (ks place helds lows bases phases : List ℕ) (workers : List Worker) : Type 0 where
@@ -27,7 +27,7 @@ pub record Table (p : ℕ) (ks place helds lows bases phases : List ℕ) (worker
   pub hands : (u : ℕ) → u < mostWorkers
       → HandShown p ks place u (getD helds u 0) (getD lows u 0) (getD bases u 0) (getD phases u 0) (getD workers u idleWorker)
 
--- What a state shows of a run is the tables and three facts more.
+-- What a state shows of a run is the tables and four facts more.
 module _ (p : ℕ) (ks : List ℕ) (s : RunState) (r : Run) where
   abbrev pub Tables : Type 0
   Tables = Table p ks (s .place) (s .held) (s .low) (s .base) (s .phase) (r .workers)
@@ -42,9 +42,9 @@ module _ (p : ℕ) (ks : List ℕ) (s : RunState) (r : Run) where
       }
 
   pub shows-by : Tables → s .policy ≡ p → ((j : ℕ) → j < length ks → eqb (getD (s .place) j 0) 17 ≡ not (hasRun (r .log) j))
-      → s .steals ≡ length (r .steals) → Shows p ks s r
+      → s .steals ≡ length (r .steals) → AllReady p ks (s .low) r → Shows p ks s r
   unfolding workerAt
-  shows-by table policy unrun steals =
+  shows-by table policy unrun steals ready =
       record {
         policy = policy;
         places = table .places;
@@ -56,6 +56,7 @@ module _ (p : ℕ) (ks : List ℕ) (s : RunState) (r : Run) where
         hands = table .hands;
         unrun = unrun;
         steals = steals;
+        ready = ready;
       }
 
 -- ---- the start
