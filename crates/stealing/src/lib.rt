@@ -115,9 +115,7 @@ fn ordinal_from(tree: &[u8], policy: u8, base: u16, from: usize, pusher: usize) 
     ensures small { λ r. ⌜ r .0 < 65536 ⌝ }
 {
     if policy == WORK_FIRST {
-        return Ordinal(
-            wide(base) % MOST_ORDINALS + children_between(tree, from, pusher) + 1,
-        );
+        return Ordinal(wide(base) % MOST_ORDINALS + children_between(tree, from, pusher) + 1);
     }
     Ordinal(0)
 }

@@ -1,5 +1,5 @@
 -- Tables of the tree serve the calls on arrays in every state that shows a run: the task of each step that is marked with a worker
--- ends past the step that the worker holds.
+-- ends past the step that the worker holds, and only a step at `low` may wait.
 use Prim.Native.Nat.{ℕ, _≤_, _<_}
 use mathlib.Core.Path.{_≡_, refl, sym, _∙_}
 use mathlib.Core.Bool.{true}
@@ -16,6 +16,7 @@ use Rattle.state.specs.declared.RunState.{RunState}
 use Rattle.state.specs.Answers.{Hints}
 use Rattle.live.specs.Tie.{Shows}
 use Rattle.live.specs.Laws.Hands.{line-nested}
+use Rattle.live.specs.Laws.Ready.{never-waits}
 
 module _ (p : ℕ) (tree : List ℕ) (frame : Frame tree) (s : RunState) (r : Run) (shows : Shows p (kinds tree) s r) (openers : List ℕ)
     (fits : length openers ≤ length (kinds tree)) where
@@ -37,6 +38,7 @@ module _ (p : ℕ) (tree : List ℕ) (frame : Frame tree) (s : RunState) (r : Ru
       record {
         taskEnds = right;
         opened = table;
+        waits = λ w few within apart. never-waits p (kinds tree) (frame .most) s r shows w few (omega arith) apart;
         climbs = λ w few within. record {
           ks = kinds tree;
           table = table;

@@ -32,7 +32,9 @@ allowed c =
     run-allowed (kinds (a .tree .now)) (a .place .now) (a .held .now) (a .worker) (sym (c .if1 .left) ∙ c .before .judge-run .ensures)
 
 judge-run-requires : tie.Need-judge-run-requires
-judge-run-requires c κs = search needs
+judge-run-requires c κs =
+    let hints = c .before .before .before .before .before .pre in
+    (hints .opened, λ few. hints .waits _ few)
 
 returns : tie.Need-returns
 returns c =

@@ -89,7 +89,10 @@ module _ (s : RunState) (tree : List ℕ) (t v number : ℕ) (judged : number �
         let took = took-step (s .policy) (kinds tree) base low (oldestMark (s .place) v low n) q step ordinal (sym taken ∙ e) in
         let found = rw from at (took .0) in
         rw (
-          h₀, h₁, h₂, h₃,
+          h₀,
+          h₁,
+          h₂,
+          h₃,
           stored,
           f,
           g,

@@ -112,7 +112,7 @@ loop-holds c =
     let lent = at .pre .1 .1 .1 in (
       omega arith,
       turn-start (a .policy) (a .tree .now) (a .events .now) (at .pre .0) (a .sums .now) (lent .0 .1) _ (c .before .steps .ensures)
-      (a .log .now) (a .trace .now) (lent .1 .0) (lent .1 .1) _ (fresh-arrays (a .policy)) _ refl,
+          (a .log .now) (a .trace .now) (lent .1 .0) (lent .1 .1) _ (fresh-arrays (a .policy)) _ refl,
     )
 
 add-k : tie.Need-add-k Inv-loop μ-loop
@@ -211,7 +211,7 @@ loop-again-2 c =
     let traced = c .before .before .trace-steal .ensures in (
       omega (arith, t .more),
       stole-turn t (o .outcome2 .given .1) (step .result) (step .ensures) (weighed (top (stole o)))
-      _ (rw (o .before .before .wide .ensures) at (traced .0)) _ (traced .1),
+          _ (rw (o .before .before .wide .ensures) at (traced .0)) _ (traced .1),
     )
 
 enum-known-outcome-3 : tie.Need-enum-known-outcome-3 Inv-loop μ-loop
