@@ -8,10 +8,8 @@ ghost use Rattle.rules.specs.Calls.{written};
 use report::put_listing;
 use report::put_refusal;
 
-// The most bytes of a text: a heading and a line for each step, of three numbers of five digits and a byte each.
-pub const MOST_TEXT: usize = 73728;
-
-// Replays the tree and the trace of an input, and writes the text. Gives its length.
+// Replays the tree and the trace of an input, and writes the text. Gives its length. A heading and 4,095 lines, of three numbers of
+// five digits and a byte each, have at most 73,728 bytes.
 pub fn list_phases(input: &[u8], text: &mut [u8]) -> usize
     requires { ⌜ 73728 ≤ length (now text) ⌝ }
     ensures counts { λ r. ⌜ r ≡ length (phasesText 16 (now (input .entry))) ⌝ }

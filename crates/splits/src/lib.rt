@@ -1,1 +1,1 @@
-// What is so of every run, as theorems in specs/. No code.
+// What is so of every trace that replay accepts, as theorems in specs/. No code.
