@@ -1,4 +1,5 @@
-/* The C interface of the library, for C11 and C++11 or later on x86-64 Linux: link libframe.a, which needs memcpy and memset alone.
+/* The C interface of the library, for C11 and C++11 or later on x86-64 Linux: link libframe.a, which needs memcpy and memset
+ * alone, and libviewer.a, which needs no more, for the questions about a tree at its end.
  * docs/FORMAT.md has the formats of tree, events, trace, log and run list, and the rules; examples/frame.c is an example.
  *
  * What holds of every call:

@@ -19,7 +19,8 @@ use library::{
 
 const HEADER: &str = "include/frame.h";
 const RUST: &str = "tests/tests/library/mod.rs";
-const SOURCE: &str = "crates/frame/src/lib.rt";
+/// The crates whose functions the archives export.
+const SOURCES: [&str; 2] = ["crates/frame/src/lib.rt", "crates/viewer/src/lib.rt"];
 const SOURCE_OF_STATE: &str = "crates/state/src/lib.rt";
 
 fn path(name: &str) -> PathBuf {
@@ -98,7 +99,8 @@ fn rust_signature(function: &str) -> String {
 
 /// What the library exports.
 fn exported_functions() -> BTreeSet<String> {
-    rust_text(SOURCE).split("#[no_mangle]\npub extern \"C\" fn ").skip(1).map(rust_signature).collect()
+    let whole: String = SOURCES.map(rust_text).concat();
+    whole.split("#[no_mangle]\npub extern \"C\" fn ").skip(1).map(rust_signature).collect()
 }
 
 /// What the Rust tests declare.
@@ -132,7 +134,7 @@ fn header_functions() -> BTreeSet<String> {
 fn the_same_functions() {
     let exported = exported_functions();
     assert!(exported.contains("uint8_t frame_kind(const uint8_t *, size_t, size_t)"), "{exported:#?}");
-    assert_eq!(exported.len(), text(SOURCE).matches("extern \"C\" fn").count());
+    assert_eq!(exported.len(), SOURCES.map(text).concat().matches("extern \"C\" fn").count());
     assert_eq!(header_functions(), exported);
     assert_eq!(rust_functions(), exported);
 }
@@ -154,7 +156,7 @@ fn rust_structs(name: &str) -> BTreeMap<String, Vec<String>> {
 
 #[test]
 fn the_same_structs() {
-    let mut exported = rust_structs(SOURCE);
+    let mut exported: BTreeMap<_, _> = SOURCES.into_iter().flat_map(rust_structs).collect();
     let state = rust_structs(SOURCE_OF_STATE).remove_entry("RunState").expect("the state is a struct of C");
     exported.extend([state]);
     assert_eq!(rust_structs(RUST), exported);

@@ -1,12 +1,5 @@
--- The answers as the C interface's flat structs of numbers.
-use Prim.Native.Nat.{ℕ}
+-- The answers as the host's flat structs of numbers.
 use mathlib.Core.Bool.{cond}
-use Rattle.tree.specs.declared.Accepted.{Accepted}
-use Rattle.tasks.specs.declared.Task.{Task}
-use Rattle.tasks.specs.declared.FinishChild.{FinishChild}
-use Rattle.tasks.specs.declared.FinishChild.the-variants.{From, Nothing}
-use Rattle.tasks.specs.declared.Running.{Running}
-use Rattle.tasks.specs.declared.Running.the-variants.{Opens, Ends}
 use Rattle.state.specs.declared.Outcome.{Outcome}
 use Rattle.state.specs.declared.Outcome.the-variants.{Ran, Stole, Refused}
 use Rattle.state.specs.declared.Answer.{Answer}
@@ -15,30 +8,12 @@ use Rattle.state.specs.declared.Idle.{Idle}
 use Rattle.stealing.specs.Answers.{numberValue}
 use Rattle.record.specs.declared.Recorded.{Recorded}
 use Rattle.replay.specs.declared.Replayed.{Replayed}
-use Rattle.frame.specs.declared.FrameTree.{FrameTree}
-use Rattle.frame.specs.declared.FrameTask.{FrameTask}
-use Rattle.frame.specs.declared.FrameRunning.{FrameRunning}
 use Rattle.frame.specs.declared.FrameStart.{FrameStart}
 use Rattle.frame.specs.declared.FrameOutcome.{FrameOutcome}
 use Rattle.frame.specs.declared.FrameEvent.{FrameEvent}
 use Rattle.frame.specs.declared.FrameIdle.{FrameIdle}
 use Rattle.frame.specs.declared.FrameRecord.{FrameRecord}
 use Rattle.frame.specs.declared.FrameReplay.{FrameReplay}
-
-abbrev pub flatTree : Accepted → FrameTree
-flatTree a = record { number = a .number; position = a .position; steps = a .steps }
-
-abbrev pub flatTask : Task → FrameTask
-flatTask t = record { first = t .first .0; ordinal = t .ordinal .0 }
-
--- A child's first step is never 0, so 0 says that there is none.
-abbrev pub flatChild : FinishChild → ℕ
-flatChild (From first) = first .0
-flatChild Nothing = 0
-
-abbrev pub flatRunning : Running → FrameRunning
-flatRunning (Opens hold push) = record { opens = 1; hold = hold .0; push = push .0 }
-flatRunning Ends = record { opens = 0; hold = 0; push = 0 }
 
 abbrev pub flatStart : Started → FrameStart
 flatStart a = record { number = a .number; position = a .position; state = a .state }

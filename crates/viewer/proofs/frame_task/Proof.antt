@@ -1,9 +1,9 @@
--- `frame::frame_task` meets its contract: it flattens what `task_of` answers. Assumes nothing.
+-- `viewer::frame_task` meets its contract: it flattens what `task_of` answers. Assumes nothing.
 use mathlib.Core.Path.{ap}
-use Rattle.frame.specs.Answers.{flatTask}
+use Rattle.viewer.specs.Answers.{flatTask}
 use borrow.Author.Needs.{needs}
-use Rattle.frame.proofs.frame_task.Statement.{statement}
-use Rattle.frame.proofs.frame_task.Tie as tie
+use Rattle.viewer.proofs.frame_task.Statement.{statement}
+use Rattle.viewer.proofs.frame_task.Tie as tie
 
 task-of-requires : tie.Need-task-of-requires
 task-of-requires c κs = search needs

@@ -1,9 +1,9 @@
--- `frame::frame_finish_before` meets its contract: it flattens what `finish_before` answers, case by case. Assumes nothing.
+-- `viewer::frame_finish_before` meets its contract: it flattens what `finish_before` answers, case by case. Assumes nothing.
 use mathlib.Core.Path.{ap, sym, _∙_}
-use Rattle.frame.specs.Answers.{flatChild}
+use Rattle.viewer.specs.Answers.{flatChild}
 use borrow.Author.Needs.{needs}
-use Rattle.frame.proofs.frame_finish_before.Statement.{statement}
-use Rattle.frame.proofs.frame_finish_before.Tie as tie
+use Rattle.viewer.proofs.frame_finish_before.Statement.{statement}
+use Rattle.viewer.proofs.frame_finish_before.Tie as tie
 
 finish-before-requires : tie.Need-finish-before-requires
 finish-before-requires c κs = search needs

@@ -1,9 +1,9 @@
--- `frame::frame_tree` meets its contract: it flattens what `accept` answers. Assumes nothing.
+-- `viewer::frame_tree` meets its contract: it flattens what `accept` answers. Assumes nothing.
 use mathlib.Core.Path.{ap}
-use Rattle.frame.specs.Answers.{flatTree}
+use Rattle.viewer.specs.Answers.{flatTree}
 use borrow.Author.Needs.{needs}
-use Rattle.frame.proofs.frame_tree.Statement.{statement}
-use Rattle.frame.proofs.frame_tree.Tie as tie
+use Rattle.viewer.proofs.frame_tree.Statement.{statement}
+use Rattle.viewer.proofs.frame_tree.Tie as tie
 
 accept-requires : tie.Need-accept-requires
 accept-requires c κs = search needs

@@ -1,9 +1,9 @@
--- `frame::frame_running` meets its contract: it flattens what `running_of` answers, case by case. Assumes nothing.
+-- `viewer::frame_running` meets its contract: it flattens what `running_of` answers, case by case. Assumes nothing.
 use mathlib.Core.Path.{ap, sym, _∙_}
-use Rattle.frame.specs.Answers.{flatRunning}
+use Rattle.viewer.specs.Answers.{flatRunning}
 use borrow.Author.Needs.{needs}
-use Rattle.frame.proofs.frame_running.Statement.{statement}
-use Rattle.frame.proofs.frame_running.Tie as tie
+use Rattle.viewer.proofs.frame_running.Statement.{statement}
+use Rattle.viewer.proofs.frame_running.Tie as tie
 
 running-of-requires : tie.Need-running-of-requires
 running-of-requires c κs = search needs
