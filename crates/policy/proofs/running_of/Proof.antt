@@ -1,6 +1,8 @@
 -- `policy::running_of` meets its contract: each return is a law of what running a step holds and pushes. Assumes nothing.
-use native.Mathlib.Omega.{arith}
+use Prim.Native.Nat.{_<_}
 use mathlib.Core.Path.{_∙_, sym}
+use native.Mathlib.Omega.{arith}
+use lib.ListN.{length}
 use Rattle.rules.specs.Tree.{kinds}
 use Rattle.tree.specs.Laws.Records.{length-kinds}
 use Rattle.tasks.specs.Laws.Steps.{running-past, running-end, running-open}
@@ -8,34 +10,55 @@ use borrow.Author.Needs.{needs}
 use Rattle.policy.proofs.running_of.Statement.{statement}
 use Rattle.policy.proofs.running_of.Tie as tie
 
+-- The tree has the step.
+within : (c : tie.Else1) → let a = c .before .before .args in a .step .0 < length (kinds (a .tree .now))
+within c = omega (arith, length-kinds (c .before .before .args .tree .now))
+
 returns : tie.Need-returns
-returns c = sym (running-past (c .before .before .args .policy) (kinds (c .before .before .args .tree .now)) (c .before .before .args .step .0) (omega (arith, length-kinds (c .before .before .args .tree .now))))
+returns c =
+    let a = c .before .before .args in
+    sym (running-past (a .policy) (kinds (a .tree .now)) (a .step .0) (omega (arith, length-kinds (a .tree .now))))
 
 kind-requires : tie.Need-kind-requires
 kind-requires c κs = search needs
 
 returns-2 : tie.Need-returns-2
-returns-2 c = sym (running-end (c .before .before .before .before .args .policy) (kinds (c .before .before .before .before .args .tree .now)) (c .before .before .before .before .args .step .0) (sym (c .before .kind .ensures) ∙ c .if2 .taken))
+returns-2 c =
+    let a = c .before .before .before .before .args in
+    sym (running-end (a .policy) (kinds (a .tree .now)) (a .step .0) (sym (c .before .kind .ensures) ∙ c .if2 .taken))
 
-add-t9 : tie.Need-add-t9
-add-t9 c = search needs
+slice-aggregate-held-after : tie.Need-slice-aggregate-held-after
+slice-aggregate-held-after c = search needs
 
-cont-requires : tie.Need-cont-requires
-cont-requires c κs = search needs
+-- Nothing is asked of an empty table.
+held-after-requires : tie.Need-held-after-requires
+held-after-requires c κs = (within (c .before .before .before), λ i h. absurd (omega arith))
 
-parts-of-requires : tie.Need-parts-of-requires
-parts-of-requires c κs = search needs
+slice-aggregate-pushed-by : tie.Need-slice-aggregate-pushed-by
+slice-aggregate-pushed-by c = search needs
+
+pushed-by-requires : tie.Need-pushed-by-requires
+pushed-by-requires c κs = (within (c .before .before .before .before .before), λ i h. absurd (omega arith))
 
 returns-3 : tie.Need-returns-3
 returns-3 c =
-    let parts = c .before .before .parts-of in
-    let kind = c .before .before .before .before .before .kind .ensures in
-    let after = c .before .before .before .cont .ensures in
+    let hold = c .before .before .held-after in
+    let e = c .before .before .before .before in
+    let at = e .before .before in
+    let a = at .before .before .args in
     sym
-    (running-open (c .before .before .before .before .before .before .before .before .args .policy) (kinds (c .before .before .before .before .before .before .before .before .args .tree .now)) (c .before .before .before .before .before .before .before .before .args .step .0) (omega (arith, length-kinds (c .before .before .before .before .before .before .before .before .args .tree .now))) (λ e. c .before .before .before .before .if2 .left (kind ∙ e))
-    (parts .result .hold) (parts .result .push) (rw (kind, after) at (parts .ensures .0)) (rw (kind, after) at (parts .ensures .1)))
+    (running-open (a .policy) (kinds (a .tree .now)) (a .step .0) (within at) (λ z. e .if2 .left (e .before .kind .ensures ∙ z))
+    (hold .result) (c .pushed-by .result) (hold .ensures) (c .pushed-by .ensures))
 
 pub running-of-spec : {M : Type 1} → statement M
 running-of-spec =
     tie.close
-    (tie.spec returns kind-requires returns-2 add-t9 cont-requires parts-of-requires returns-3)
+    (tie.spec
+    returns
+    kind-requires
+    returns-2
+    slice-aggregate-held-after
+    held-after-requires
+    slice-aggregate-pushed-by
+    pushed-by-requires
+    returns-3)

@@ -61,11 +61,8 @@ module _ (p : ℕ) (ks : List ℕ) (i : ℕ) where
   unfolding runningOf isEnd
   running-end e = rw (e, or-true (leb (length ks) i)) refl
 
-  pub running-open : i < length ks → (kindAt ks i ≡ 3 → ⊥) → (hold push : Step)
-      → hold .0 ≡ cond (pushesChild p (kindAt ks i)) (cont ks i) (i + 1)
-      → push .0 ≡ cond (pushesChild p (kindAt ks i)) (i + 1) (cont ks i) → runningOf p ks i ≡ Opens hold push
-  unfolding runningOf isEnd holds pushes
-  running-open h e hold push a b =
-      let x : hold .0 ≡ holds p ks i = rw add-one at a in
-      let y : push .0 ≡ pushes p ks i = rw add-one at b in
+  pub running-open : i < length ks → (kindAt ks i ≡ 3 → ⊥) → (hold push : Step) → hold .0 ≡ holds p ks i → push .0 ≡ pushes p ks i
+      → runningOf p ks i ≡ Opens hold push
+  unfolding runningOf isEnd
+  running-open h e hold push x y =
       rw (lt-leb (length ks) i h, ne-eqb (kindAt ks i) 3 e) (λ k. Opens (record { 0 = sym x k }) (record { 0 = sym y k }))
