@@ -165,7 +165,7 @@ fn flat_outcome(outcome: Outcome) -> FrameOutcome
             what: 2,
             phase: 0,
             step: 0,
-            trace: stealing::number_of(number),
+            trace: numbers::number_of(number),
         },
         Outcome::Refused(number) => FrameOutcome {
             number: number as usize,

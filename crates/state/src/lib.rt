@@ -11,9 +11,9 @@ ghost use Rattle.state.specs.declared.Outcome.the-variants.{Refused};
 ghost use Rattle.state.specs.Answers.{Hints, stateOf, answerOf, zeros, fresh, startAnswer, runAnswer, stealAnswer, eventAnswer, idleBits, idleAnswer};
 use deques::MOST_WORKERS;
 use deques::NOT_RUN;
+use numbers::TraceNumber;
 use running::NO_STEP;
 use stealing::Taken;
-use stealing::TraceNumber;
 use tables::wide;
 use tree::MOST_STEPS;
 use tree::Phase;
@@ -208,7 +208,7 @@ pub fn steal_on(
                 begun,
             );
             Moved {
-                outcome: Outcome::Stole(stealing::trace_number(policy, ordinal, step)),
+                outcome: Outcome::Stole(numbers::trace_number(policy, ordinal, step)),
                 steals: begun,
             }
         }
