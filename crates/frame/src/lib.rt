@@ -126,7 +126,7 @@ pub struct FrameStart {
 pub extern "C" fn frame_start(tree: &[u8], policy: u8) -> FrameStart
     ensures { λ r. ⌜ r ≡ flatStart (startAnswer policy (now (tree .entry))) ⌝ }
 {
-    let started = state::start(tree, policy);
+    let started = starts::start(tree, policy);
     let state = started.state;
     FrameStart {
         number: started.number as usize,
