@@ -5,7 +5,7 @@ use Rattle.state.specs.declared.Outcome.the-variants.{Ran, Stole, Refused}
 use Rattle.state.specs.declared.Answer.{Answer}
 use Rattle.state.specs.declared.Started.{Started}
 use Rattle.state.specs.declared.Idle.{Idle}
-use Rattle.stealing.specs.Answers.{numberValue}
+use Rattle.numbers.specs.Answers.{numberValue}
 use Rattle.record.specs.declared.Recorded.{Recorded}
 use Rattle.replay.specs.declared.Replayed.{Replayed}
 use Rattle.frame.specs.declared.FrameStart.{FrameStart}

@@ -21,7 +21,7 @@ pub struct FrameStart {
 pub extern "C" fn frame_start(tree: &[u8], policy: u8) -> FrameStart
     ensures { λ r. ⌜ r ≡ flatStart (startAnswer policy (now (tree .entry))) ⌝ }
 {
-    let started = state::start(tree, policy);
+    let started = starts::start(tree, policy);
     let state = started.state;
     FrameStart {
         number: started.number as usize,
@@ -60,7 +60,7 @@ fn flat_outcome(outcome: Outcome) -> FrameOutcome
             what: 2,
             phase: 0,
             step: 0,
-            trace: stealing::number_of(number),
+            trace: numbers::number_of(number),
         },
         Outcome::Refused(number) => FrameOutcome {
             number: number as usize,

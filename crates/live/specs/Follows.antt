@@ -19,8 +19,8 @@ use Rattle.runs.specs.Invariant.{Invariant}
 use Rattle.runs.specs.Laws.Always.{start-invariant, event-keeps, always}
 use Rattle.state.specs.declared.RunState.{RunState}
 use Rattle.state.specs.declared.Outcome.{Outcome}
-use Rattle.stealing.specs.declared.TraceNumber.the-variants.{ByOrdinal, BySerial}
-use Rattle.stealing.specs.Answers.{numberBy, numberValue}
+use Rattle.numbers.specs.declared.TraceNumber.the-variants.{ByOrdinal, BySerial}
+use Rattle.numbers.specs.Answers.{numberBy, numberValue}
 use Rattle.state.specs.Answers.{fresh, startAnswer, eventAnswer, idleAnswer}
 use Rattle.live.specs.Tie.{Shows, toldAll, outcomes, stateAfter}
 use Rattle.live.specs.Laws.Events.{start-shows, event-tells, event-shows, idle-set-shown, idle-count-shown, idle-lowest-shown}

@@ -14,7 +14,7 @@ use Rattle.deques.specs.Answers.{marked}
 use Rattle.state.specs.declared.RunState.{RunState}
 use Rattle.state.specs.declared.Outcome.{Outcome}
 use Rattle.state.specs.declared.Outcome.the-variants.{Ran, Stole, Refused}
-use Rattle.stealing.specs.Answers.{numberBy}
+use Rattle.numbers.specs.Answers.{numberBy}
 use Rattle.state.specs.Answers.{eventAnswer}
 
 -- ---- a worker

@@ -13,7 +13,8 @@ use Rattle.rules.specs.Calls.{startVerdict}
 use Rattle.tables.specs.Answers.{Ends, Openers}
 use Rattle.deques.specs.Answers.{Climbs, oldestMark, robbed}
 use Rattle.running.specs.Answers.{WaitsAtLow, runNumber, heldNext, placeNext}
-use Rattle.stealing.specs.Answers.{stealNumber, numberBy, ordinalFrom}
+use Rattle.numbers.specs.Answers.{numberBy, ordinalFrom}
+use Rattle.stealing.specs.Answers.{stealNumber}
 use Rattle.state.specs.declared.RunState.{RunState}
 use Rattle.state.specs.declared.Outcome.{Outcome}
 use Rattle.state.specs.declared.Outcome.the-variants.{Ran, Stole, Refused}

@@ -1,6 +1,6 @@
-// The state of a run by value (document 01, "Scheduling"): the start, single events, the idle workers. A method takes the state
-// and hands back the next with its answer. Any state and any bytes are safe: a step that the tree has not is no held step, and
-// a tree with more records than a tree may have is refused with 2.
+// The state of a run by value (document 01, "Scheduling"): single events, the idle workers. A method takes the state and hands
+// back the next with its answer. Any state and any bytes are safe: a step that the tree has not is no held step, and a tree with
+// more records than a tree may have is refused with 2.
 ghost use mathlib.Core.Path.{_≡_};
 ghost use mathlib.Core.List.{List};
 ghost use Prim.Native.Nat.{ℕ};
@@ -8,12 +8,10 @@ ghost use lib.ListN.{length};
 ghost use Rattle.rules.specs.Tree.{kinds};
 ghost use Rattle.tables.specs.Answers.{Ends};
 ghost use Rattle.state.specs.declared.Outcome.the-variants.{Refused};
-ghost use Rattle.state.specs.Answers.{Hints, stateOf, answerOf, zeros, fresh, startAnswer, runAnswer, stealAnswer, eventAnswer, idleBits, idleAnswer};
+ghost use Rattle.state.specs.Answers.{Hints, stateOf, answerOf, runAnswer, stealAnswer, eventAnswer, idleBits, idleAnswer};
 use deques::MOST_WORKERS;
-use deques::NOT_RUN;
-use running::NO_STEP;
+use numbers::TraceNumber;
 use stealing::Taken;
-use stealing::TraceNumber;
 use tables::wide;
 use tree::MOST_STEPS;
 use tree::Phase;
@@ -73,57 +71,6 @@ pub struct Idle {
     pub count: u32,
     pub lowest: u32,
     pub state: RunState,
-}
-
-// The state beside a refusal.
-fn no_state() -> RunState
-    ensures { λ r. ⌜ r ≡ zeros ⌝ }
-{
-    RunState {
-        place: [0; 4095],
-        held: [0; 16],
-        phase: [0; 16],
-        low: [0; 16],
-        base: [0; 16],
-        steals: 0,
-        policy: 0,
-    }
-}
-
-// Worker 0 holds step 0 and that begins phase 0; the others are idle.
-fn first_state(policy: u8) -> RunState
-    ensures { λ r. ⌜ r ≡ fresh policy ⌝ }
-{
-    let mut held = [NO_STEP; 16];
-    held[0] = 0;
-    RunState {
-        place: [NOT_RUN; 4095],
-        held,
-        phase: [0; 16],
-        low: [0; 16],
-        base: [0; 16],
-        steals: 0,
-        policy,
-    }
-}
-
-// Starts a run: refusals 1 to 5, or the first state.
-pub fn start(tree: &[u8], policy: u8) -> Started
-    ensures { λ r. ⌜ r ≡ startAnswer policy (now (tree .entry)) ⌝ }
-{
-    let admitted = admission::admit(tree, policy);
-    if admitted.number != 0 {
-        return Started {
-            number: admitted.number,
-            position: admitted.position,
-            state: no_state(),
-        };
-    }
-    Started {
-        number: 0,
-        position: 0,
-        state: first_state(policy),
-    }
 }
 
 // A worker runs its step, on the arrays themselves: refusals 8 to 10 leave them as they are.
@@ -208,7 +155,7 @@ pub fn steal_on(
                 begun,
             );
             Moved {
-                outcome: Outcome::Stole(stealing::trace_number(policy, ordinal, step)),
+                outcome: Outcome::Stole(numbers::trace_number(policy, ordinal, step)),
                 steals: begun,
             }
         }

@@ -1,5 +1,3 @@
 -- What need not be believed: everything here is proved from the definitions.
---     Children  the count of the children that a stretch of steps opens directly, turn by turn
 --     Stealing  refusals of a steal, and what it takes, case by case
-pub mod Children
 pub mod Stealing

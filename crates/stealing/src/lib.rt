@@ -1,30 +1,18 @@
-// Stealing a step (document 01, "Scheduling"): whether a thief may steal, what it takes from the victim's deque, the number that
-// its trace record has, and what the workers' tables are then.
+// Stealing a step (document 01, "Scheduling"): whether a thief may steal, what it takes from the victim's deque, and what the
+// workers' tables are then.
 ghost use mathlib.Core.Path.{_≡_};
 ghost use Prim.Native.Nat.{_+_, _≤_, _<_};
 ghost use lib.ListN.{length, set};
 ghost use Rattle.rules.specs.Tree.{kinds};
 ghost use Rattle.tables.specs.Answers.{Ends};
 ghost use Rattle.deques.specs.Answers.{oldestMark, robbed};
-ghost use Rattle.stealing.specs.Answers.{stealNumber, childrenBetween, numberBy, numberValue, ordinalFrom, takenOf, Small};
+ghost use Rattle.stealing.specs.Answers.{stealNumber, takenOf, Small};
 use deques::MOST_WORKERS;
 use deques::Pusher;
 use tables::wide;
-use tasks::WORK_FIRST;
-use tree::END;
 use tree::MOST_STEPS;
 use tree::Ordinal;
-use tree::RECORD;
 use tree::Step;
-
-// More than any ordinal of a tree.
-const MOST_ORDINALS: usize = 4096;
-
-// The number of a trace record: under work-first an ordinal, under help-first a serial number.
-pub enum TraceNumber {
-    ByOrdinal(Ordinal),
-    BySerial(Step),
-}
 
 // What a steal takes: the step, its ordinal and its pusher; or nothing.
 pub enum Taken {
@@ -58,68 +46,6 @@ pub fn judge_steal(tree: &[u8], held: &[u16; 16], thief: u8, victim: u8) -> u8
     0
 }
 
-// How many children are opened directly from step `from` to before step `to`: not those inside other children.
-fn children_between(tree: &[u8], from: usize, to: usize) -> usize
-    requires { ⌜ to ≤ length (kinds (now tree)) ⌝ }
-    ensures { λ r. ⌜ r ≡ childrenBetween (kinds (now (tree .entry))) from to ⌝ }
-    ensures few { λ r. ⌜ r ≤ to ⌝ }
-{
-    let mut j = from;
-    let mut depth: usize = 0;
-    let mut children: usize = 0;
-    while j < to {
-        let k = tree[RECORD * j];
-        j += 1;
-        if k == END {
-            if depth == 0 {
-                continue;
-            }
-            depth -= 1;
-            continue;
-        }
-        if depth == 0 {
-            depth = 1;
-            children += 1;
-            continue;
-        }
-        depth += 1;
-    }
-    children
-}
-
-// The trace number of a stolen step, by its ordinal or its serial number.
-pub fn trace_number(policy: u8, ordinal: Ordinal, step: Step) -> TraceNumber
-    ensures { λ r. ⌜ r ≡ numberBy policy (ordinal .0) (step .0) ⌝ }
-{
-    if policy == WORK_FIRST {
-        return TraceNumber::ByOrdinal(ordinal);
-    }
-    TraceNumber::BySerial(step)
-}
-
-// The number of a trace record.
-pub fn number_of(number: TraceNumber) -> usize
-    ensures { λ r. ⌜ r ≡ numberValue number ⌝ }
-{
-    match number {
-        TraceNumber::ByOrdinal(ordinal) => ordinal.0,
-        TraceNumber::BySerial(step) => step.0,
-    }
-}
-
-// The ordinal of the step that step `pusher` pushes, from the ordinal of an earlier step of its task; 0 under help-first,
-// which counts none. No ordinal is above 4,095.
-fn ordinal_from(tree: &[u8], policy: u8, base: u16, from: usize, pusher: usize) -> Ordinal
-    requires { ⌜ (pusher ≤ length (kinds (now tree))) × (length (kinds (now tree)) ≤ 4095) ⌝ }
-    ensures { λ r. ⌜ r .0 ≡ ordinalFrom policy (kinds (now (tree .entry))) base from pusher ⌝ }
-    ensures small { λ r. ⌜ r .0 < 65536 ⌝ }
-{
-    if policy == WORK_FIRST {
-        return Ordinal(wide(base) % MOST_ORDINALS + children_between(tree, from, pusher) + 1);
-    }
-    Ordinal(0)
-}
-
 // The oldest step of the victim's deque leaves it.
 pub fn take_step(
     tree: &[u8],
@@ -139,7 +65,7 @@ pub fn take_step(
     match deques::take(place, victim, low, n) {
         Pusher::At(pusher) => {
             let step = policy::pushed_by(tree, ends, policy, pusher);
-            let ordinal = ordinal_from(tree, policy, base, low, pusher.0);
+            let ordinal = numbers::ordinal_from(tree, policy, base, low, pusher.0);
             Taken::Of {
                 pusher,
                 step,

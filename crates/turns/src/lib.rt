@@ -6,10 +6,10 @@ ghost use lib.ListN.{length};
 ghost use Rattle.outputs.specs.Answers.{recordPut};
 ghost use Rattle.balance.specs.Answers.{loadMoved};
 ghost use Rattle.loads.specs.Answers.{weightBetween, Movable};
-ghost use Rattle.stealing.specs.Answers.{numberValue};
+ghost use Rattle.numbers.specs.Answers.{numberValue};
 ghost use Rattle.state.specs.Answers.{Hints, stateOf, answerOf, eventAnswer};
+use numbers::TraceNumber;
 use state::Moved;
-use stealing::TraceNumber;
 use tree::Phase;
 use tree::Step;
 
@@ -77,6 +77,6 @@ pub fn trace_steal(
     ensures trace { λ r. ⌜ now (trace .exit) ≡ recordPut (now (trace .entry)) k thief victim (numberValue number) ⌝ }
     ensures loads { λ r. ⌜ now (loads .exit) ≡ loadMoved (now (loads .entry)) thief victim (weightBetween (now (ends .entry)) (now (sums .entry)) step) ⌝ }
 {
-    outputs::put_record(trace, k, thief, victim, stealing::number_of(number));
+    outputs::put_record(trace, k, thief, victim, numbers::number_of(number));
     loads::move_part(ends, sums, loads, thief as usize, victim as usize, step);
 }

@@ -13,8 +13,9 @@ use Rattle.rules.specs.Tree.{kinds, ordinal}
 use Rattle.rules.specs.Scheduling.{workFirst, mostWorkers, pushes, Run, workerAt, waits, judgeRun, runStep, holdsStep, judgeSteal, oldest, steal}
 use Rattle.deques.specs.Answers.{oldestMark}
 use Rattle.running.specs.Answers.{runNumber}
-use Rattle.stealing.specs.declared.TraceNumber.{TraceNumber}
-use Rattle.stealing.specs.Answers.{stealNumber, numberBy}
+use Rattle.numbers.specs.declared.TraceNumber.{TraceNumber}
+use Rattle.numbers.specs.Answers.{numberBy}
+use Rattle.stealing.specs.Answers.{stealNumber}
 use Rattle.state.specs.declared.RunState.{RunState}
 use Rattle.state.specs.declared.Outcome.{Outcome}
 use Rattle.state.specs.declared.Outcome.the-variants.{Ran, Stole, Refused}

@@ -18,7 +18,8 @@ use Rattle.runs.specs.Invariant.{Invariant}
 use Rattle.state.specs.declared.RunState.{RunState}
 use Rattle.state.specs.declared.Outcome.the-variants.{Ran, Stole, Refused}
 use Rattle.running.specs.Answers.{runNumber}
-use Rattle.stealing.specs.Answers.{stealNumber, numberBy}
+use Rattle.numbers.specs.Answers.{numberBy}
+use Rattle.stealing.specs.Answers.{stealNumber}
 use Rattle.state.specs.Answers.{fresh, refused, runAnswer, stealAnswer, eventAnswer, isIdle, idleBits, idleNumber, idleFirst}
 use Rattle.live.specs.Tie.{Shows, heldStep, told}
 use Rattle.live.specs.Laws.Ready.{start-ready}

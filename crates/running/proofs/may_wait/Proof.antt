@@ -1,6 +1,5 @@
 -- `running::may_wait` meets its contract: past the table's end it answers at once. Assumes nothing.
 use mathlib.Core.Path.{refl}
-use lib.ListN.{length}
 use borrow.Author.Tests.{le-leb, lt-leb}
 use Rattle.running.proofs.may_wait.Statement.{statement}
 use Rattle.running.proofs.may_wait.Tie as tie

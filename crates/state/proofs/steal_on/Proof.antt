@@ -1,7 +1,6 @@
 -- `state::steal_on` meets its contract: each return is a law of its answers. Assumes nothing.
 use Prim.Native.Nat.{_≤_, _<_}
 use mathlib.Core.Path.{refl, sym, ap, _∙_}
-use native.Mathlib.Omega.{arith}
 use lib.ListN.{length, getD}
 use Rattle.rules.specs.Tree.{kinds}
 use Rattle.stealing.specs.declared.Taken.the-variants.{Of}

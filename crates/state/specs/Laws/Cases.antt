@@ -16,10 +16,11 @@ use Rattle.tasks.specs.Laws.Admission.{admitted-position}
 use Rattle.deques.specs.Answers.{Climbs, oldestMark, robbed}
 use Rattle.deques.specs.Laws.Marks.{robbed-nothing}
 use Rattle.running.specs.Answers.{runNumber, heldNext, placeNext}
-use Rattle.stealing.specs.declared.TraceNumber.{TraceNumber}
+use Rattle.numbers.specs.declared.TraceNumber.{TraceNumber}
+use Rattle.numbers.specs.Answers.{numberBy}
 use Rattle.stealing.specs.declared.Taken.{Taken}
 use Rattle.stealing.specs.declared.Taken.the-variants.{Of, Nothing}
-use Rattle.stealing.specs.Answers.{stealNumber, numberBy, takenOf}
+use Rattle.stealing.specs.Answers.{stealNumber, takenOf}
 use Rattle.stealing.specs.Laws.Stealing.{took-nothing, took-step}
 use Rattle.state.specs.declared.RunState.{RunState}
 use Rattle.state.specs.declared.Outcome.the-variants.{Ran, Stole, Refused}

@@ -1,5 +1,5 @@
 -- The refusals of a steal and what it takes, in the terms of the code: one law for each return.
-use Prim.Native.Nat.{ℕ, _+_, _%_, _≤_, _<_}
+use Prim.Native.Nat.{ℕ, _≤_, _<_}
 use mathlib.Core.Path.{_≡_, refl}
 use mathlib.Core.Bool.{or-true}
 use mathlib.Core.List.{List}
@@ -8,13 +8,13 @@ use native.Mathlib.Decide.{decLe, decLt}
 use native.Mathlib.Omega.{arith}
 use lib.ListN.{length, getD}
 use lib.Dec.{leb}
-use borrow.Author.Tests.{eq-eqb, ne-eqb, lt-ltb, le-ltb, le-leb, lt-leb}
+use borrow.Author.Tests.{lt-ltb, le-ltb, le-leb, lt-leb}
 use Rattle.rules.specs.Scheduling.{pushes}
 use Rattle.tree.specs.declared.Step.{Step}
 use Rattle.tree.specs.declared.Ordinal.{Ordinal}
-use Rattle.stealing.specs.declared.TraceNumber.the-variants.{ByOrdinal, BySerial}
+use Rattle.numbers.specs.Answers.{ordinalFrom}
 use Rattle.stealing.specs.declared.Taken.the-variants.{Of, Nothing}
-use Rattle.stealing.specs.Answers.{stealNumber, childrenBetween, numberBy, ordinalFrom, takenOf}
+use Rattle.stealing.specs.Answers.{stealNumber, takenOf}
 
 -- ---- refusals
 
@@ -56,25 +56,6 @@ module _ (ks held : List ℕ) (t v : ℕ) where
           ]
         ]
       ]
-
--- ---- trace numbers
-
-pub number-ordinal : (p : ℕ) (o : Ordinal) (i : ℕ) → p ≡ 1 → ByOrdinal o ≡ numberBy p (o .0) i
-unfolding numberBy
-number-ordinal p o i e = rw (numberBy, eq-eqb p 1 e) refl
-
-pub number-serial : (p o : ℕ) (step : Step) → (p ≡ 1 → ⊥) → BySerial step ≡ numberBy p o (step .0)
-unfolding numberBy
-number-serial p o step n = rw (numberBy, ne-eqb p 1 n) refl
-
-module _ (p : ℕ) (ks : List ℕ) (base from q : ℕ) where
-  pub ordinal-counted : p ≡ 1 → (children : ℕ) → children ≡ childrenBetween ks from q → base % 4096 + children + 1 ≡ ordinalFrom p ks base from q
-  unfolding ordinalFrom
-  ordinal-counted e children f = rw (eq-eqb p 1 e, f) refl
-
-  pub ordinal-uncounted : (p ≡ 1 → ⊥) → 0 ≡ ordinalFrom p ks base from q
-  unfolding ordinalFrom
-  ordinal-uncounted n = rw (ne-eqb p 1 n) refl
 
 -- ---- what is taken
 

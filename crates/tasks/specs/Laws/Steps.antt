@@ -1,15 +1,14 @@
 -- The finish child before a step, and what running a step holds and pushes: a law for each case, in the terms of the code.
-use Prim.Native.Nat.{ℕ, suc, _+_, _≤_, _<_}
+use Prim.Native.Nat.{ℕ, suc, _≤_, _<_}
 use mathlib.Core.Path.{_≡_, refl, sym}
-use mathlib.Core.Bool.{cond, and-false, or-true}
+use mathlib.Core.Bool.{and-false, or-true}
 use mathlib.Core.List.{List}
 use mathlib.Core.Option.{none, some}
-use native.Mathlib.Numerals.{add-one}
 use lib.ListN.{length}
 use lib.Dec.{leb}
 use borrow.Author.Tests.{ne-eqb, le-leb, lt-leb}
-use Rattle.rules.specs.Tree.{kindAt, isFinish, isEnd, task, cont, finishChild, finishBefore}
-use Rattle.rules.specs.Scheduling.{pushesChild, holds, pushes}
+use Rattle.rules.specs.Tree.{kindAt, isFinish, isEnd, task, finishChild, finishBefore}
+use Rattle.rules.specs.Scheduling.{holds, pushes}
 use Rattle.tree.specs.declared.Step.{Step}
 use Rattle.tasks.specs.declared.FinishChild.the-variants.{From, Nothing}
 use Rattle.tasks.specs.declared.Running.the-variants.{Opens, Ends}

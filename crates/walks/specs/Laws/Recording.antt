@@ -28,10 +28,10 @@ use Rattle.runs.specs.Laws.Moves.{sum-one, ran as ranBy, run-is, begin-length, 
 use Rattle.runs.specs.Laws.Always.{start-invariant, event-keeps}
 use Rattle.runs.specs.Laws.Consequences.{covered-once, runs-most, steals-most}
 use Rattle.state.specs.declared.RunState.{RunState}
-use Rattle.stealing.specs.declared.TraceNumber.{TraceNumber}
+use Rattle.numbers.specs.declared.TraceNumber.{TraceNumber}
 use Rattle.state.specs.declared.Outcome.{Outcome}
 use Rattle.state.specs.declared.Outcome.the-variants.{Ran, Stole, Refused}
-use Rattle.stealing.specs.Answers.{numberValue}
+use Rattle.numbers.specs.Answers.{numberValue}
 use Rattle.state.specs.Answers.{fresh, eventAnswer}
 use Rattle.walks.specs.declared.Ended.{Ended}
 use Rattle.live.specs.Tie.{Shows, heldStep, told}

@@ -10,11 +10,11 @@ use Rattle.rules.specs.Scheduling.{Run}
 use Rattle.rules.specs.Calls.{startVerdict}
 use Rattle.tables.specs.Answers.{Ends, Sums, weightBefore}
 use Rattle.state.specs.declared.RunState.{RunState}
-use Rattle.stealing.specs.declared.TraceNumber.{TraceNumber}
+use Rattle.numbers.specs.declared.TraceNumber.{TraceNumber}
 use Rattle.state.specs.declared.Outcome.{Outcome}
 use Rattle.state.specs.declared.Outcome.the-variants.{Ran, Stole, Refused}
 use Rattle.state.specs.declared.Answer.{Answer}
-use Rattle.stealing.specs.Answers.{numberValue}
+use Rattle.numbers.specs.Answers.{numberValue}
 use Rattle.state.specs.Answers.{stateOf, answerOf, fresh, eventAnswer}
 use Rattle.outputs.specs.Answers.{recordPut}
 use Rattle.balance.specs.Answers.{loadMoved}

@@ -1,8 +1,8 @@
--- `state::start` meets its contract: each return is a law of its answers. Assumes nothing.
+-- `starts::start` meets its contract: each return is a law of its answers. Assumes nothing.
 use Rattle.state.specs.Laws.Cases.{start-refused, start-accepts}
 use borrow.Author.Needs.{needs}
-use Rattle.state.proofs.start.Statement.{statement}
-use Rattle.state.proofs.start.Tie as tie
+use Rattle.starts.proofs.start.Statement.{statement}
+use Rattle.starts.proofs.start.Tie as tie
 
 admit-requires : tie.Need-admit-requires
 admit-requires c κs = search needs

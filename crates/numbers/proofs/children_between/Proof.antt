@@ -1,13 +1,13 @@
--- `stealing::children_between` meets its contract: the loop counts over the stretch of steps, and a law says what each turn does to
+-- `numbers::children_between` meets its contract: the loop counts over the stretch of steps, and a law says what each turn does to
 -- the count. Assumes nothing.
 use Prim.Native.Nat.{_-_}
 use mathlib.Core.Path.{sym, _∙_}
 use native.Mathlib.Omega.{arith}
 use Rattle.rules.specs.Tree.{kinds}
 use Rattle.tree.specs.Laws.Records.{length-kinds, kind-at}
-use Rattle.stealing.specs.Laws.Children.{Counted, counted-start, counted-end, counted-child, counted-inner, counted-done}
-use Rattle.stealing.proofs.children_between.Statement.{statement}
-use Rattle.stealing.proofs.children_between.Tie as tie
+use Rattle.numbers.specs.Laws.Children.{Counted, counted-start, counted-end, counted-child, counted-inner, counted-done}
+use Rattle.numbers.proofs.children_between.Statement.{statement}
+use Rattle.numbers.proofs.children_between.Tie as tie
 
 abbrev Inv-loop : tie.InvT-loop
 Inv-loop tree from to j₀ depth₀ children₀ j depth children = Counted (kinds tree) from to j depth children

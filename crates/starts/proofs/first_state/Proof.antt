@@ -1,9 +1,9 @@
--- `state::first_state` meets its contract: it is written out. Assumes nothing.
+-- `starts::first_state` meets its contract: it is written out. Assumes nothing.
 use mathlib.Core.Path.{refl}
 use Rattle.state.specs.Answers.{fresh}
 use borrow.Author.Needs.{needs}
-use Rattle.state.proofs.first_state.Statement.{statement}
-use Rattle.state.proofs.first_state.Tie as tie
+use Rattle.starts.proofs.first_state.Statement.{statement}
+use Rattle.starts.proofs.first_state.Tie as tie
 
 array-write-held : tie.Need-array-write-held
 array-write-held c = search needs

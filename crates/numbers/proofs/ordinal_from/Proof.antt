@@ -1,12 +1,12 @@
--- `stealing::ordinal_from` meets its contract: it counts the children between, work-first only. Assumes nothing.
+-- `numbers::ordinal_from` meets its contract: it counts the children between, work-first only. Assumes nothing.
 use mathlib.Core.Path.{ap, _∙_}
 use Prim.Native.Nat.{ℕ, _+_, _%_}
 use native.Mathlib.Omega.{arith}
 use Rattle.rules.specs.Tree.{kinds}
-use Rattle.stealing.specs.Laws.Stealing.{ordinal-counted, ordinal-uncounted}
+use Rattle.numbers.specs.Laws.Numbers.{ordinal-counted, ordinal-uncounted}
 use borrow.Author.Needs.{needs}
-use Rattle.stealing.proofs.ordinal_from.Statement.{statement}
-use Rattle.stealing.proofs.ordinal_from.Tie as tie
+use Rattle.numbers.proofs.ordinal_from.Statement.{statement}
+use Rattle.numbers.proofs.ordinal_from.Tie as tie
 
 wide-requires : tie.Need-wide-requires
 wide-requires c κs = search needs

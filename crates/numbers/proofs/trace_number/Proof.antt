@@ -1,7 +1,7 @@
--- `stealing::trace_number` meets its contract: an ordinal under work-first, else the serial number. Assumes nothing.
-use Rattle.stealing.specs.Laws.Stealing.{number-ordinal, number-serial}
-use Rattle.stealing.proofs.trace_number.Statement.{statement}
-use Rattle.stealing.proofs.trace_number.Tie as tie
+-- `numbers::trace_number` meets its contract: an ordinal under work-first, else the serial number. Assumes nothing.
+use Rattle.numbers.specs.Laws.Numbers.{number-ordinal, number-serial}
+use Rattle.numbers.proofs.trace_number.Statement.{statement}
+use Rattle.numbers.proofs.trace_number.Tie as tie
 
 returns : tie.Need-returns
 returns c =
