@@ -1,4 +1,5 @@
 -- What need not be believed: everything here is proved from the rules.
+--     Folds      recording a list is folding single events
 --     Live       the calls of single events beside the rules: refusals, the accepted events, the steals
 --     Records    records as bytes, read back
 --     Phases     entries of a log or a run list, counted by phase and by step
@@ -6,6 +7,7 @@
 --     Recorded   recording events that the rules accept
 --     Replayed   replaying the trace of a run
 --     Whole      recording the live run and replaying its trace
+pub mod Folds
 pub mod Live
 pub mod Records
 pub mod Phases

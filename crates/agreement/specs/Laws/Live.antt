@@ -20,7 +20,7 @@ use Rattle.state.specs.Answers.{startAnswer}
 use Rattle.tasks.specs.Laws.Admission.{start-tree-accepts}
 use Rattle.live.specs.Tie.{Shows, told}
 use Rattle.live.specs.Laws.Events.{start-shows, event-tells, event-shows}
-use Rattle.record.specs.Laws.Folds.{AcceptedTo}
+use Rattle.agreement.specs.Laws.Folds.{AcceptedTo}
 use Rattle.agreement.specs.Agreement.{Event, eventBytes, call, refusalOf, stole, stateAfter, liveRun, liveSteals, runsIn}
 
 -- An event's bytes, as the rules take an event.

@@ -19,7 +19,7 @@ use Rattle.runs.specs.Laws.Always.{always}
 use Rattle.runs.specs.Laws.Consequences.{runs-most, steals-most}
 use Rattle.record.specs.Answers.{tooShort}
 use Rattle.record.specs.Laws.Cases.{record-short, record-event, record-all}
-use Rattle.record.specs.Laws.Folds.{AcceptedTo, accepted-walks, refused-walks, walk-folds, counts}
+use Rattle.agreement.specs.Laws.Folds.{AcceptedTo, accepted-walks, refused-walks, walk-folds, counts}
 use Rattle.agreement.specs.Agreement.{Event, eventBytes, shortOutputs}
 use Rattle.agreement.specs.Laws.Live.{pair, event-records}
 
