@@ -1,5 +1,5 @@
 -- Recording: events to log and trace.
 --     Answers   what the call answers, by the rules (to be believed)
---     Laws      each of its answers, and lists of events beside single events (proved)
+--     Laws      each of its answers (proved)
 pub mod Answers
 pub mod Laws

@@ -1,5 +1,5 @@
-// Tables of a tree: for each step the step after its task's end, its opener, and the weight of all steps before it. They are
-// filled once where a whole list of events is run, so that no event scans the tree. A single event has none: its tables are
+// Tables of a tree: for each step the step after its task's end, and its opener. They are filled once where a whole list of
+// events is run or a trace is replayed, so that no event and no steal scans the tree. A single event has none: its tables are
 // empty.
 ghost use mathlib.Core.Path.{_≡_};
 ghost use Prim.Native.Nat.{_≤_};

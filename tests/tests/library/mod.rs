@@ -1,5 +1,5 @@
-//! The proved library over its C interface: all declarations, and safe calls. Nothing checks a declaration against the
-//! library's source, so they stand in this one file.
+//! The proved library over its C interface: all declarations, and safe calls. The prover sees none of them, so they stand in this
+//! one file, which `header.rs` holds to the library's source and to the C header.
 
 // A test program need not use them all.
 #![allow(dead_code)]
