@@ -21,6 +21,8 @@ const HEADER: &str = "include/frame.h";
 const RUST: &str = "tests/tests/library/mod.rs";
 /// The crates whose functions the archives export.
 const SOURCES: [&str; 2] = ["crates/frame/src/lib.rt", "crates/viewer/src/lib.rt"];
+/// The crate of the structs that `frame` answers.
+const SOURCE_OF_ANSWERS: &str = "crates/flat/src/lib.rt";
 const SOURCE_OF_STATE: &str = "crates/state/src/lib.rt";
 
 fn path(name: &str) -> PathBuf {
@@ -156,7 +158,8 @@ fn rust_structs(name: &str) -> BTreeMap<String, Vec<String>> {
 
 #[test]
 fn the_same_structs() {
-    let mut exported: BTreeMap<_, _> = SOURCES.into_iter().flat_map(rust_structs).collect();
+    let sources = SOURCES.into_iter().chain([SOURCE_OF_ANSWERS]);
+    let mut exported: BTreeMap<_, _> = sources.flat_map(rust_structs).collect();
     let state = rust_structs(SOURCE_OF_STATE).remove_entry("RunState").expect("the state is a struct of C");
     exported.extend([state]);
     assert_eq!(rust_structs(RUST), exported);

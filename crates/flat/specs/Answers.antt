@@ -8,12 +8,12 @@ use Rattle.state.specs.declared.Idle.{Idle}
 use Rattle.numbers.specs.Answers.{numberValue}
 use Rattle.record.specs.declared.Recorded.{Recorded}
 use Rattle.replay.specs.declared.Replayed.{Replayed}
-use Rattle.frame.specs.declared.FrameStart.{FrameStart}
-use Rattle.frame.specs.declared.FrameOutcome.{FrameOutcome}
-use Rattle.frame.specs.declared.FrameEvent.{FrameEvent}
-use Rattle.frame.specs.declared.FrameIdle.{FrameIdle}
-use Rattle.frame.specs.declared.FrameRecord.{FrameRecord}
-use Rattle.frame.specs.declared.FrameReplay.{FrameReplay}
+use Rattle.flat.specs.declared.FrameStart.{FrameStart}
+use Rattle.flat.specs.declared.FrameOutcome.{FrameOutcome}
+use Rattle.flat.specs.declared.FrameEvent.{FrameEvent}
+use Rattle.flat.specs.declared.FrameIdle.{FrameIdle}
+use Rattle.flat.specs.declared.FrameRecord.{FrameRecord}
+use Rattle.flat.specs.declared.FrameReplay.{FrameReplay}
 
 abbrev pub flatStart : Started → FrameStart
 flatStart a = record { number = a .number; position = a .position; state = a .state }

@@ -1,11 +1,11 @@
--- `frame::flat_outcome` meets its contract: it flattens an outcome, case by case. Assumes nothing.
+-- `flat::flat_outcome` meets its contract: it flattens an outcome, case by case. Assumes nothing.
 use mathlib.Core.Path.{ap, sym, _∙_}
 use Prim.Native.Nat.{ℕ}
-use Rattle.frame.specs.declared.FrameOutcome.{FrameOutcome}
-use Rattle.frame.specs.Answers.{flatOutcome}
+use Rattle.flat.specs.declared.FrameOutcome.{FrameOutcome}
+use Rattle.flat.specs.Answers.{flatOutcome}
 use borrow.Author.Needs.{needs}
-use Rattle.frame.proofs.flat_outcome.Statement.{statement}
-use Rattle.frame.proofs.flat_outcome.Tie as tie
+use Rattle.flat.proofs.flat_outcome.Statement.{statement}
+use Rattle.flat.proofs.flat_outcome.Tie as tie
 
 -- A steal, by its trace number.
 abbrev stolen : ℕ → FrameOutcome

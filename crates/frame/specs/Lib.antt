@@ -1,2 +1,0 @@
--- The C interface's answers, by the rules (to be believed).
-pub mod Answers
