@@ -10,6 +10,9 @@ ghost use Rattle.outputs.specs.Answers.{recordPut};
 // Bytes of a record of a log, a trace or a run list.
 pub const RECORD: usize = 4;
 
+// Bytes of an event.
+pub const EVENT: usize = 2;
+
 // Whether bytes are whole records of a width, and not too many.
 pub fn whole_records(bytes: &[u8], width: usize, most: usize) -> bool
     requires { ⌜ 1 ≤ width ⌝ }

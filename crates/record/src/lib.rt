@@ -4,7 +4,7 @@ ghost use mathlib.Core.Path.{_≡_};
 ghost use Prim.Native.Nat.{_≤_};
 ghost use Rattle.rules.specs.Calls.{recordCall};
 ghost use Rattle.record.specs.Answers.{answers, refusal, tooShort};
-use walks::EVENT;
+use outputs::EVENT;
 
 // The most events of a call.
 pub const MOST_EVENTS: usize = 8192;

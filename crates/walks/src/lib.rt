@@ -8,12 +8,10 @@ ghost use Rattle.rules.specs.Calls.{startVerdict};
 ghost use Rattle.tables.specs.Answers.{Ends, Openers, Sums};
 ghost use Rattle.walks.specs.Laws.Recording.{Walks};
 use deques::NOT_RUN;
+use outputs::EVENT;
 use running::NO_STEP;
 use state::Outcome;
 use tables::wide;
-
-// Bytes of an event.
-pub const EVENT: usize = 2;
 
 // What the walk over the events comes to.
 pub struct Ended {
