@@ -1,42 +1,74 @@
-// What a replay call is given, judged before its trace is walked (document 01, "Refusals"): policy, tree, the trace's length and
-// the room of the lent list.
+// What a record or a replay call is given, judged before its events or its trace are walked (document 01, "Refusals"): policy, tree,
+// the length of the events or the trace, and the room of the lent outputs.
 ghost use mathlib.Core.Path.{_≡_};
+ghost use Prim.Native.Nat.{_≤_};
 ghost use Rattle.tree.specs.declared.Accepted.{Accepted};
-ghost use Rattle.calls.specs.Answers.{admitted, refusal};
+ghost use Rattle.calls.specs.Answers.{judged, tooShort, recordAdmitted, replayAdmitted};
+use outputs::EVENT;
+use outputs::RECORD;
 use tree::Accepted;
+
+// The most events of a record call.
+pub const MOST_EVENTS: usize = 8192;
 
 // The most records of a trace.
 pub const MOST_TRACE_RECORDS: usize = 2047;
 
-// A refusal: the count of steps is 0.
-fn refused(number: u8, position: usize) -> Accepted
-    ensures { λ r. ⌜ r ≡ refusal number position ⌝ }
+// Judges in rising number, after the start: whether the call's records are whole and not too many, and whether a lent output is
+// short.
+fn judge(start: Accepted, whole: bool, short: bool) -> Accepted
+    ensures { λ r. ⌜ r ≡ judged start whole short ⌝ }
 {
-    Accepted {
-        number,
-        position,
-        steps: 0,
+    if start.number != 0 {
+        return start;
     }
+    if !whole {
+        return Accepted {
+            number: 6,
+            position: 0,
+            steps: 0,
+        };
+    }
+    if short {
+        return Accepted {
+            number: 7,
+            position: 0,
+            steps: 0,
+        };
+    }
+    start
 }
 
-// Judges a call whose lent list has so many bytes: refusals 1 to 7, or how many steps the tree has.
-pub fn admit(tree: &[u8], policy: u8, trace: &[u8], room: usize) -> Accepted
-    ensures { λ r. ⌜ r ≡ admitted policy (now (tree .entry)) (now (trace .entry)) room ⌝ }
+// Whether a lent output is short, for so many steps and by the lengths of log and trace. No steps, as of a refused tree, need no room.
+fn too_short(steps: usize, log: usize, trace: usize) -> bool
+    requires { ⌜ steps ≤ 4095 ⌝ }
+    ensures { λ r. ⌜ r ≡ tooShort steps log trace ⌝ }
+{
+    if steps == 0 {
+        return false;
+    }
+    if log < RECORD * steps {
+        return true;
+    }
+    trace < 2 * (steps - 1)
+}
+
+// Judges a record call whose lent log and trace have so many bytes: refusals 1 to 7, or how many steps the tree has.
+pub fn admit_record(tree: &[u8], policy: u8, events: &[u8], log: usize, trace: usize) -> Accepted
+    ensures { λ r. ⌜ r ≡ recordAdmitted policy (now (tree .entry)) (now (events .entry)) log trace ⌝ }
 {
     let start = admission::admit(tree, policy);
-    if start.number != 0 {
-        return refused(start.number, start.position);
-    }
-    if !outputs::whole_records(trace, outputs::RECORD, MOST_TRACE_RECORDS) {
-        return refused(6, 0);
-    }
-    let n = start.steps;
-    if room < outputs::RECORD * n {
-        return refused(7, 0);
-    }
-    Accepted {
-        number: 0,
-        position: 0,
-        steps: n,
-    }
+    let whole = outputs::whole_records(events, EVENT, MOST_EVENTS);
+    let short = too_short(start.steps, log, trace);
+    judge(start, whole, short)
+}
+
+// Judges a replay call whose lent list has so many bytes: refusals 1 to 7, or how many steps the tree has.
+pub fn admit_replay(tree: &[u8], policy: u8, trace: &[u8], list: usize) -> Accepted
+    ensures { λ r. ⌜ r ≡ replayAdmitted policy (now (tree .entry)) (now (trace .entry)) list ⌝ }
+{
+    let start = admission::admit(tree, policy);
+    let whole = outputs::whole_records(trace, RECORD, MOST_TRACE_RECORDS);
+    let short = list < RECORD * start.steps;
+    judge(start, whole, short)
 }

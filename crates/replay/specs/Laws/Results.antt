@@ -9,13 +9,12 @@ use Rattle.rules.specs.Scheduling.{Phase}
 use Rattle.rules.specs.Traces.{replayWalk, loads, heaviest}
 use Rattle.rules.specs.Calls.{replayOf, replayRefused, replayCall, Replayed as Call}
 use Rattle.tree.specs.declared.Accepted.{Accepted}
-use Rattle.loads.specs.Laws.Loads.{loads-length}
 use Rattle.traces.specs.declared.Ended.{Ended}
-use Rattle.calls.specs.Answers.{admitted}
+use Rattle.calls.specs.Answers.{replayAdmitted}
 use Rattle.outcomes.specs.Answers.{Outcome}
 use Rattle.replay.specs.declared.Replayed.{Replayed}
 use Rattle.replay.specs.Answers.{answers, refusal}
-use Rattle.replay.specs.Laws.Cases.{given-refused, record-refused, none-refused}
+use Rattle.replay.specs.Laws.Cases.{replay-given, record-refused, none-refused}
 
 -- What a return is to meet: the call's answers, and the lent list as it leaves it.
 abbrev pub Meets : Call → Replayed → List ℕ → Type 0
@@ -35,10 +34,10 @@ phase-answers : (p : ℕ) (tree : List ℕ) (phs : List Phase) (list : List ℕ)
 unfolding answers replayOf accepted
 phase-answers p tree phs list many ls e f = rw (e, f) refl
 
-module _ (p : ℕ) (tree trace list : List ℕ) (a : Accepted) (is : a ≡ admitted p tree trace (length list)) where
+module _ (p : ℕ) (tree trace list : List ℕ) (a : Accepted) (is : a ≡ replayAdmitted p tree trace (length list)) where
   pub given-refusal : (a .number ≡ 0 → ⊥) → (r : Replayed) → r ≡ refusal (a .number) (a .position)
       → Meets (replayCall 16 p tree trace list) r list
-  given-refusal n = refusal-meets _ list _ (given-refused p tree trace list a is n)
+  given-refusal n = refusal-meets _ list _ (replay-given p tree trace list a is n)
 
   module _ (z : a .number ≡ 0) (w : Ended) (out : List ℕ) (so : Outcome p tree trace list w out) where
     pub record-refusal : (w .number ≡ 0 → ⊥) → (r : Replayed) → r ≡ refusal (w .number) (w .position)
@@ -51,9 +50,6 @@ module _ (p : ℕ) (tree trace list : List ℕ) (a : Accepted) (is : a ≡ admit
         rw (so .same n) (refusal-meets v list _ (record-refused p tree trace list a is z v judged n) r e)
 
     module _ (none : w .number ≡ 0) where
-      pub loads-many : length (w .loads) ≡ 16
-      loads-many = rw (so .loaded none) (loads-length 16 (kinds tree) (weights tree) _)
-
       pub all-answered : (worker : ℕ) → worker ≡ heaviest (w .loads)
           → Meets (replayCall 16 p tree trace list)
           (record { number = 0; position = 0; phases = w .phases; loads = w .loads; heaviest = worker })
