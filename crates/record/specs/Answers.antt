@@ -1,8 +1,7 @@
 -- What recording answers, by the rules.
-use Prim.Native.Nat.{ℕ, _-_, _*_}
-use mathlib.Core.Bool.{Bool, false, _||_}
+use Prim.Native.Nat.{ℕ}
+use mathlib.Core.Bool.{false}
 use lib.ListN.{replicate}
-use lib.Dec.{ltb}
 use Rattle.rules.specs.Calls.{Recorded as Call}
 use Rattle.record.specs.declared.Recorded.{Recorded}
 
@@ -23,7 +22,3 @@ answers c =
 unfoldable pub refusal : ℕ → ℕ → Recorded
 refusal number position =
     record { number = number; position = position; logs = 0; steals = 0; finished = false; loads = replicate 16 0; heaviest = 0 }
-
--- "A lent output is short: 4 × n bytes for log or run list, 2 × (n - 1) for a trace", by the lengths of log and trace.
-unfoldable pub tooShort : ℕ → ℕ → ℕ → Bool
-tooShort n log trace = ltb log (4 * n) || ltb trace (2 * (n - 1))

@@ -1,5 +1,5 @@
 -- What need not be believed: everything here is proved from the definitions.
---     Cases    each answer of the whole call, in the terms of the code
+--     Cases    the whole call's verdict, by that on what it is given and that on the events
 --     Results  each return of the code beside the whole call
 pub mod Cases
 pub mod Results

@@ -8,17 +8,17 @@ use native.Mathlib.Omega.{arith}
 use lib.ListN.{length, take, getD, length-append, length-map, List·getD-append}
 use lib.Seq.{take-length, take-append-le, take-append-seam, getD-append-seam}
 use borrow.Author.Tests.{eq-eqb, le-leb}
-use Rattle.rules.specs.Bytes.{wholeRecords, Verdict, accepted}
+use Rattle.rules.specs.Bytes.{wholeRecords, Verdict, accepted, refusedIf, firstRefused}
 use Rattle.rules.specs.Tree.{kinds}
 use Rattle.rules.specs.Scheduling.{mostWorkers, Run, start, judgeEvent}
-use Rattle.rules.specs.Calls.{startVerdict, afterEvents, Recorded, recordWalk, recordOf, recordRefused, recordCall}
+use Rattle.rules.specs.Calls.{startVerdict, afterEvents, Recorded, recordWalk, recordVerdict, recordOf, recordRefused, recordCall}
 use Rattle.tasks.specs.Laws.Admission.{start-tree-accepts}
 use Rattle.tasks.specs.Laws.Frames.{Frame, accepted-frame}
 use Rattle.runs.specs.Laws.Moves.{map-one}
 use Rattle.runs.specs.Laws.Always.{always}
 use Rattle.runs.specs.Laws.Consequences.{runs-most, steals-most}
-use Rattle.record.specs.Answers.{tooShort}
-use Rattle.record.specs.Laws.Cases.{record-short, record-event, record-all}
+use Rattle.calls.specs.Answers.{tooShort}
+use Rattle.record.specs.Laws.Cases.{Ready, record-event, record-all}
 use Rattle.agreement.specs.Laws.Folds.{AcceptedTo, accepted-walks, refused-walks, walk-folds, counts}
 use Rattle.agreement.specs.Agreement.{Event, eventBytes, shortOutputs}
 use Rattle.agreement.specs.Laws.Live.{pair, event-records}
@@ -94,37 +94,37 @@ module _ (p : ℕ) (tree : List ℕ) (starts : startVerdict p tree .number ≡ 0
   module _ (log trace : List ℕ) where
     short-number : (es : List Event) → length es ≤ 8192 → shortOutputs tree log trace ≡ true
         → recordCall mostWorkers p tree (eventBytes es) log trace .verdict .number ≡ 7
-    unfolding recordRefused shortOutputs tooShort
-    short-number es h short =
-        ap (λ (x : Recorded). x .verdict .number)
-        (sym (record-short p tree (eventBytes es) log trace starts (bytes-whole es h) short))
+    unfolding recordCall recordVerdict recordRefused firstRefused refusedIf accepted shortOutputs
+    short-number es h short = rw (eq-eqb (startVerdict p tree .number) 0 starts, bytes-whole es h, short) refl
 
     -- Past the lent outputs, the rules decide.
     module _ (room : shortOutputs tree log trace ≡ false) where
+      ready : (es : List Event) → length es ≤ 8192 → Ready p tree (eventBytes es) log trace
+      unfolding shortOutputs tooShort
+      ready es h = record { started = starts; listed = bytes-whole es h; room = room }
+
       by-walk : (es : List Event) → length es ≤ 8192
           → recordCall mostWorkers p tree (eventBytes es) log trace .verdict .number
           ≡ recordWalk mostWorkers p (kinds tree) (map pair es) .verdict .number
-      unfolding recordOf recordRefused accepted shortOutputs tooShort
+      unfolding recordOf recordRefused accepted
       by-walk es h =
           let read = event-records es in
           let walked = recordWalk mostWorkers p (kinds tree) (map pair es) .verdict in
           elim (ℕ-discrete (walked .number) 0) [
             | yes z ↦ ap (λ (x : Recorded). x .verdict .number)
-                (sym (record-all p tree (eventBytes es) log trace starts (bytes-whole es h) room (rw read z)))
+                (sym (record-all p tree (eventBytes es) log trace (ready es h) (rw read z)))
                 ∙ sym z
             | no n ↦ ap (λ (x : Recorded). x .verdict .number)
-                (sym (record-event p tree (eventBytes es) log trace starts (bytes-whole es h) room walked (rw read refl) n))
+                (sym (record-event p tree (eventBytes es) log trace (ready es h) walked (rw read refl) n))
           ]
 
       -- What recording answers.
       pub recorded-is : (es : List Event) → Fine es
           → recordCall mostWorkers p tree (eventBytes es) log trace ≡ recordOf mostWorkers p tree (runOf es) log trace
-      unfolding shortOutputs tooShort
       recorded-is es fine =
           let read = event-records es in
           let walked = accepted-walks mostWorkers p (kinds tree) (map pair es) fine in
-          let listed = bytes-whole es (omega (arith, few es fine)) in
-          sym (record-all p tree (eventBytes es) log trace starts listed room (rw read walked))
+          sym (record-all p tree (eventBytes es) log trace (ready es (omega (arith, few es fine))) (rw read walked))
           ∙ rw (read, walk-folds mostWorkers p (kinds tree) (map pair es) walked .0) refl
 
       -- One event more is accepted or refused as the rules say.

@@ -1,18 +1,20 @@
--- Each answer of a whole record call, in the terms of the code: one law for each return.
-use Prim.Native.Nat.{ℕ, _-_, _*_, _≤_}
+-- The whole call's verdict: that on what the call is given first, then that on the events.
+use Prim.Native.Nat.{ℕ, _-_, _*_}
 use mathlib.Core.Path.{_≡_, refl, _∙_}
-use mathlib.Core.Bool.{true, false}
+use mathlib.Core.Bool.{_||_}
 use mathlib.Core.List.{List, [], _∷_}
-use native.Mathlib.Omega.{arith}
 use lib.ListN.{length}
 use lib.Dec.{eqb, ltb}
 use borrow.Author.Tests.{eq-eqb, ne-eqb, ltb-false}
-use Rattle.rules.specs.Bytes.{records, wholeRecords, Verdict, accepted, refusedIf, firstRefused}
+use Rattle.rules.specs.Bytes.{records, wholeRecords, Verdict, accepted, firstRefused}
 use Rattle.rules.specs.Tree.{kinds}
 use Rattle.rules.specs.Calls.{startVerdict, recordWalk, recordVerdict, recordOf, recordRefused, recordCall}
+use Rattle.tree.specs.declared.Accepted.{Accepted}
 use Rattle.tree.specs.Laws.Verdicts.{first-accepts}
 use Rattle.runs.specs.Laws.Counts.{or-none}
-use Rattle.record.specs.Answers.{tooShort}
+use Rattle.calls.specs.Answers.{tooShort, recordAdmitted}
+use Rattle.calls.specs.Laws.Cases.{Given, given-last, given-refused, given}
+use Rattle.recordings.specs.Answers.{Admitted}
 
 -- ---- the verdict
 
@@ -33,6 +35,22 @@ module _ (w p : ℕ) (tree events log trace : List ℕ) where
 
 -- ---- the answers
 
+-- The call is not refused for what it is given.
+abbrev pub Ready : ℕ → List ℕ → List ℕ → List ℕ → List ℕ → Type 0
+Ready p tree events log trace = Given p tree (wholeRecords 2 8192 events) (tooShort (length (kinds tree)) (length log) (length trace))
+
+-- Then log and trace have room.
+pub ready-admitted : {p : ℕ} {tree log trace : List ℕ} (events : List ℕ) → Ready p tree events log trace → Admitted p tree log trace
+unfolding tooShort
+ready-admitted {p} {tree} {log} {trace} events ready =
+    let n = length (kinds tree) in
+    let both = or-none (ltb (length log) (4 * n)) (ltb (length trace) (2 * (n - 1))) (ready .room) in
+    record {
+      started = ready .started;
+      log-fits = ltb-false (length log) (4 * n) (both .0);
+      trace-fits = ltb-false (length trace) (2 * (n - 1)) (both .1);
+    }
+
 module _ (p : ℕ) (tree events log trace : List ℕ) where
   -- The answer that a refusal makes.
   by-refused : (v : Verdict) → recordVerdict 16 p tree events log trace ≡ v → (v .number ≡ 0 → ⊥)
@@ -40,51 +58,31 @@ module _ (p : ℕ) (tree events log trace : List ℕ) where
   unfolding recordCall
   by-refused v e n = rw (e, ne-eqb (v .number) 0 n) refl
 
-  pub record-start : (v : Verdict) → v ≡ startVerdict p tree → (v .number ≡ 0 → ⊥)
-      → recordRefused 16 v log trace ≡ recordCall 16 p tree events log trace
-  unfolding recordVerdict firstRefused
-  record-start v e n = by-refused v (rw (← e, ne-eqb (v .number) 0 n) refl) n
+  module _ (a : Accepted) (is : a ≡ recordAdmitted p tree events (length log) (length trace)) where
+    pub record-given : (a .number ≡ 0 → ⊥)
+        → recordRefused 16 (record { number = a .number; position = a .position }) log trace ≡ recordCall 16 p tree events log trace
+    unfolding recordVerdict recordAdmitted tooShort
+    record-given n = by-refused _ (given-refused p tree _ _ a is n _) n
 
-  module _ (started : startVerdict p tree .number ≡ 0) where
-    -- Past the start.
-    fine : eqb (startVerdict p tree .number) 0 ≡ true
-    fine = eq-eqb (startVerdict p tree .number) 0 started
+    pub record-ready : a .number ≡ 0 → Ready p tree events log trace
+    unfolding recordAdmitted
+    record-ready z = given p tree _ _ a is z
 
-    pub record-list : wholeRecords 2 8192 events ≡ false
-        → recordRefused 16 (record { number = 6; position = 0 }) log trace ≡ recordCall 16 p tree events log trace
-    unfolding recordVerdict firstRefused refusedIf
-    record-list bad = by-refused _ (rw (fine, bad) refl) (omega arith)
+  module _ (ready : Ready p tree events log trace) where
+    -- The events decide.
+    by-walk : recordVerdict 16 p tree events log trace ≡ firstRefused (recordWalk 16 p (kinds tree) (records 2 events) .verdict ∷ [])
+    unfolding recordVerdict tooShort
+    by-walk = given-last ready _
 
-    module _ (listed : wholeRecords 2 8192 events ≡ true) where
-      pub record-short : tooShort (length (kinds tree)) (length log) (length trace) ≡ true
-          → recordRefused 16 (record { number = 7; position = 0 }) log trace ≡ recordCall 16 p tree events log trace
-      unfolding recordVerdict firstRefused refusedIf accepted tooShort
-      record-short bad = by-refused _ (rw (fine, listed, bad) refl) (omega arith)
+    pub record-event : (v : Verdict) → v ≡ recordWalk 16 p (kinds tree) (records 2 events) .verdict → (v .number ≡ 0 → ⊥)
+        → recordRefused 16 v log trace ≡ recordCall 16 p tree events log trace
+    unfolding firstRefused
+    record-event v e n = by-refused v (by-walk ∙ rw (← e, ne-eqb (v .number) 0 n) refl) n
 
-      module _ (room : tooShort (length (kinds tree)) (length log) (length trace) ≡ false) where
-        -- Past the lent outputs too, the events decide.
-        by-walk : recordVerdict 16 p tree events log trace ≡ firstRefused (recordWalk 16 p (kinds tree) (records 2 events) .verdict ∷ [])
-        unfolding recordVerdict firstRefused refusedIf accepted tooShort
-        by-walk = rw (fine, listed, room) refl
-
-        pub record-event : (v : Verdict) → v ≡ recordWalk 16 p (kinds tree) (records 2 events) .verdict → (v .number ≡ 0 → ⊥)
-            → recordRefused 16 v log trace ≡ recordCall 16 p tree events log trace
-        unfolding firstRefused
-        record-event v e n = by-refused v (by-walk ∙ rw (← e, ne-eqb (v .number) 0 n) refl) n
-
-        pub record-all : recordWalk 16 p (kinds tree) (records 2 events) .verdict .number ≡ 0
-            → recordOf 16 p tree (recordWalk 16 p (kinds tree) (records 2 events) .state) log trace
-            ≡ recordCall 16 p tree events log trace
-        unfolding firstRefused accepted
-        record-all e =
-            by-accepted 16 p tree events log trace
-            (rw (by-walk, eq-eqb (recordWalk 16 p (kinds tree) (records 2 events) .verdict .number) 0 e) refl)
-
--- ---- lengths
-
--- Outputs that are not too short have room for all records.
-pub room-both : (n log trace : ℕ) → tooShort n log trace ≡ false → (4 * n ≤ log) × (2 * (n - 1) ≤ trace)
-unfolding tooShort
-room-both n log trace e =
-    let both = or-none (ltb log (4 * n)) (ltb trace (2 * (n - 1))) e in
-    (ltb-false log (4 * n) (both .0), ltb-false trace (2 * (n - 1)) (both .1))
+    pub record-all : recordWalk 16 p (kinds tree) (records 2 events) .verdict .number ≡ 0
+        → recordOf 16 p tree (recordWalk 16 p (kinds tree) (records 2 events) .state) log trace
+        ≡ recordCall 16 p tree events log trace
+    unfolding firstRefused accepted
+    record-all e =
+        by-accepted 16 p tree events log trace
+        (rw (by-walk, eq-eqb (recordWalk 16 p (kinds tree) (records 2 events) .verdict .number) 0 e) refl)

@@ -1,0 +1,5 @@
+-- What an admitted recording comes to.
+--     Answers   what is asked of the call, and what it answers and leaves
+--     Laws      each return
+pub mod Answers
+pub mod Laws
