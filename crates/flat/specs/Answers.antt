@@ -6,7 +6,7 @@ use Rattle.state.specs.declared.Answer.{Answer}
 use Rattle.state.specs.declared.Started.{Started}
 use Rattle.state.specs.declared.Idle.{Idle}
 use Rattle.numbers.specs.Answers.{numberValue}
-use Rattle.record.specs.declared.Recorded.{Recorded}
+use Rattle.recorded.specs.declared.Recorded.{Recorded}
 use Rattle.replay.specs.declared.Replayed.{Replayed}
 use Rattle.flat.specs.declared.FrameStart.{FrameStart}
 use Rattle.flat.specs.declared.FrameOutcome.{FrameOutcome}

@@ -2,7 +2,7 @@
 // fields of a struct. Most wrong answers to shut out are of a field, so this is apart from the calls, which are dear to prove.
 ghost use mathlib.Core.Path.{_≡_};
 ghost use Rattle.flat.specs.Answers.{flatStart, flatOutcome, flatEvent, flatIdle, flatRecord, flatReplay};
-use record::Recorded;
+use recorded::Recorded;
 use replay::Replayed;
 use state::Answer;
 use state::Idle;

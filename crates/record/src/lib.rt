@@ -2,34 +2,8 @@
 // and "Refusals"). Log and trace are written once every event is accepted.
 ghost use mathlib.Core.Path.{_≡_};
 ghost use Rattle.rules.specs.Calls.{recordCall};
-ghost use Rattle.record.specs.Answers.{answers, refusal};
-
-// What a call answers: its refusal and position, or the counts of log and trace records, whether every step has run, each
-// worker's load and the heaviest worker.
-pub struct Recorded {
-    pub number: u8,
-    pub position: usize,
-    pub logs: usize,
-    pub steals: usize,
-    pub finished: bool,
-    pub loads: [u64; 16],
-    pub heaviest: usize,
-}
-
-// A refusal: all other answers are 0.
-fn refused(number: u8, position: usize) -> Recorded
-    ensures { λ r. ⌜ r ≡ refusal number position ⌝ }
-{
-    Recorded {
-        number,
-        position,
-        logs: 0,
-        steals: 0,
-        finished: false,
-        loads: [0; 16],
-        heaviest: 0,
-    }
-}
+ghost use Rattle.record.specs.Answers.{answers};
+use recorded::Recorded;
 
 // Records a list of events: refusals 1 to 12, or the log and the trace at the front of the lent buffers.
 pub fn record(tree: &[u8], policy: u8, events: &[u8], log: &mut [u8], trace: &mut [u8]) -> Recorded
@@ -39,22 +13,17 @@ pub fn record(tree: &[u8], policy: u8, events: &[u8], log: &mut [u8], trace: &mu
 {
     let admitted = calls::admit_record(tree, policy, events, log.len(), trace.len());
     if admitted.number != 0 {
-        return refused(admitted.number, admitted.position);
+        return recorded::refused(admitted.number, admitted.position);
     }
     let walked = recordings::run(tree, policy, events, log, trace);
-    if walked.number != 0 {
-        return refused(walked.number, walked.position);
-    }
     let last = admitted.steps - 1;
     let loads = walked.loads;
-    let heaviest = balance::heaviest(&loads);
-    Recorded {
-        number: 0,
-        position: 0,
-        logs: walked.logs,
-        steals: walked.steals,
-        finished: last < walked.logs,
+    recorded::answer(
+        walked.number,
+        walked.position,
+        walked.logs,
+        walked.steals,
+        last,
         loads,
-        heaviest,
-    }
+    )
 }

@@ -3,8 +3,9 @@ use Prim.Native.Nat.{ℕ, _-_, _≤_}
 use mathlib.Core.Path.{_≡_, refl, sym, ap, _∙_}
 use mathlib.Core.Bool.{Bool}
 use mathlib.Core.List.{List}
+use native.Mathlib.Decide.{ℕ-discrete}
 use lib.ListN.{length}
-use lib.Dec.{ltb}
+use borrow.Author.Tests.{eq-eqb, ne-eqb}
 use Rattle.rules.specs.Bytes.{records, Verdict, accepted}
 use Rattle.rules.specs.Tree.{kinds, weights}
 use Rattle.rules.specs.Scheduling.{Run}
@@ -17,8 +18,9 @@ use Rattle.walks.specs.declared.Ended.{Ended}
 use Rattle.calls.specs.Answers.{recordAdmitted}
 use Rattle.calls.specs.Laws.Cases.{given-steps}
 use Rattle.recordings.specs.Answers.{Outcome}
-use Rattle.record.specs.declared.Recorded.{Recorded}
-use Rattle.record.specs.Answers.{answers, refusal}
+use Rattle.recorded.specs.declared.Recorded.{Recorded}
+use Rattle.recorded.specs.Answers.{refusal, answered}
+use Rattle.record.specs.Answers.{answers}
 use Rattle.record.specs.Laws.Cases.{record-given, record-ready, record-event, record-all}
 
 -- What a return is to meet: the call's answers, and the lent buffers as it leaves them.
@@ -53,37 +55,32 @@ module _ (p : ℕ) (tree events log trace : List ℕ) (a : Accepted) (is : a ≡
       let ready = record-ready p tree events log trace a is z in
       rw (given-steps p tree _ _ a is z) (accepted-frame tree (start-tree-accepts p tree (ready .started)) .some)
 
-  module _ (z : a .number ≡ 0) (w : Ended) (log-out trace-out : List ℕ) (so : Outcome p tree events log trace w log-out trace-out) where
-    pub event-refusal : (w .number ≡ 0 → ⊥) → (r : Recorded) → r ≡ refusal (w .number) (w .position)
-        → Meets (recordCall 16 p tree events log trace) r log-out trace-out
-    event-refusal n r e =
+  -- The walk over the events, and the answer on what it comes to.
+  module _ (z : a .number ≡ 0) (w : Ended) (log-out trace-out : List ℕ) (so : Outcome p tree events log trace w log-out trace-out)
+      (r : Recorded) (answer : r ≡ answered (w .number) (w .position) (w .logs) (w .steals) (a .steps - 1) (w .loads)) where
+    event-refusal : (w .number ≡ 0 → ⊥) → Meets (recordCall 16 p tree events log trace) r log-out trace-out
+    unfolding answered
+    event-refusal n =
         let v : Verdict = record { number = w .number; position = w .position } in
         let judged : v ≡ recordWalk 16 p (kinds tree) (records 2 events) .verdict =
         λ k. record { number = so .number k; position = so .position k }
         in
         let kept = so .same n in
         let call = record-event p tree events log trace (record-ready p tree events log trace a is z) v judged n in
-        rw (kept .0, kept .1) (refusal-meets v log trace _ call r e)
+        rw (kept .0, kept .1) (refusal-meets v log trace _ call r (answer ∙ rw (ne-eqb (w .number) 0 n) refl))
 
-    module _ (none : w .number ≡ 0) where
-      pub all-answered : (worker : ℕ) → worker ≡ heaviest (w .loads)
-          → Meets (recordCall 16 p tree events log trace)
-          (record {
-            number = 0;
-            position = 0;
-            logs = w .logs;
-            steals = w .steals;
-            finished = ltb (a .steps - 1) (w .logs);
-            loads = w .loads;
-            heaviest = worker;
-          })
-          log-out trace-out
-      unfolding recordOf recordAdmitted
-      all-answered worker f =
-          let told = so .told none in
-          let steps = given-steps p tree _ _ a is z in
-          let all = record-all p tree events log trace (record-ready p tree events log trace a is z) (sym (so .number) ∙ none) in (
-            rw (steps, f) (run-answers p tree _ log trace _ _ _ _ (told .logs) (told .steals) (told .finished) (told .loaded))
-                ∙ ap {B = Recorded} answers all,
-            (told .logged ∙ ap (λ (c : Call). c .log) all, told .traced ∙ ap (λ (c : Call). c .trace) all),
-          )
+    all-answered : w .number ≡ 0 → Meets (recordCall 16 p tree events log trace) r log-out trace-out
+    unfolding answered recordOf recordAdmitted
+    all-answered none =
+        let told = so .told none in
+        let steps = given-steps p tree _ _ a is z in
+        let all = record-all p tree events log trace (record-ready p tree events log trace a is z) (sym (so .number) ∙ none) in (
+          answer
+              ∙ rw (eq-eqb (w .number) 0 none, steps)
+              (run-answers p tree _ log trace _ _ _ _ (told .logs) (told .steals) (told .finished) (told .loaded))
+              ∙ ap {B = Recorded} answers all,
+          (told .logged ∙ ap (λ (c : Call). c .log) all, told .traced ∙ ap (λ (c : Call). c .trace) all),
+        )
+
+    pub walk-answered : Meets (recordCall 16 p tree events log trace) r log-out trace-out
+    walk-answered = elim (ℕ-discrete (w .number) 0) [ yes none ↦ all-answered none | no n ↦ event-refusal n ]
