@@ -7,7 +7,7 @@ use Rattle.state.specs.declared.Started.{Started}
 use Rattle.state.specs.declared.Idle.{Idle}
 use Rattle.numbers.specs.Answers.{numberValue}
 use Rattle.recorded.specs.declared.Recorded.{Recorded}
-use Rattle.replay.specs.declared.Replayed.{Replayed}
+use Rattle.replayed.specs.declared.Replayed.{Replayed}
 use Rattle.flat.specs.declared.FrameStart.{FrameStart}
 use Rattle.flat.specs.declared.FrameOutcome.{FrameOutcome}
 use Rattle.flat.specs.declared.FrameEvent.{FrameEvent}

@@ -3,7 +3,7 @@
 ghost use mathlib.Core.Path.{_≡_};
 ghost use Rattle.flat.specs.Answers.{flatStart, flatOutcome, flatEvent, flatIdle, flatRecord, flatReplay};
 use recorded::Recorded;
-use replay::Replayed;
+use replayed::Replayed;
 use state::Answer;
 use state::Idle;
 use state::Outcome;

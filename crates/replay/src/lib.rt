@@ -2,29 +2,8 @@
 // The list is written once every record is accepted.
 ghost use mathlib.Core.Path.{_≡_};
 ghost use Rattle.rules.specs.Calls.{replayCall};
-ghost use Rattle.replay.specs.Answers.{answers, refusal};
-
-// What a call answers: its refusal and position, or the count of phases, each worker's load and the heaviest worker.
-pub struct Replayed {
-    pub number: u8,
-    pub position: usize,
-    pub phases: usize,
-    pub loads: [u64; 16],
-    pub heaviest: usize,
-}
-
-// A refusal: all other answers are 0.
-fn refused(number: u8, position: usize) -> Replayed
-    ensures { λ r. ⌜ r ≡ refusal number position ⌝ }
-{
-    Replayed {
-        number,
-        position,
-        phases: 0,
-        loads: [0; 16],
-        heaviest: 0,
-    }
-}
+ghost use Rattle.replay.specs.Answers.{answers};
+use replayed::Replayed;
 
 // Replays a trace: refusals 1 to 8 and 13 to 15, or the run list at the front of the lent buffer.
 pub fn replay(tree: &[u8], policy: u8, trace: &[u8], list: &mut [u8]) -> Replayed
@@ -33,19 +12,9 @@ pub fn replay(tree: &[u8], policy: u8, trace: &[u8], list: &mut [u8]) -> Replaye
 {
     let admitted = calls::admit_replay(tree, policy, trace, list.len());
     if admitted.number != 0 {
-        return refused(admitted.number, admitted.position);
+        return replayed::refused(admitted.number, admitted.position);
     }
     let walked = outcomes::run(tree, policy, trace, admitted.steps, list);
-    if walked.number != 0 {
-        return refused(walked.number, walked.position);
-    }
     let loads = walked.loads;
-    let heaviest = balance::heaviest(&loads);
-    Replayed {
-        number: 0,
-        position: 0,
-        phases: walked.phases,
-        loads,
-        heaviest,
-    }
+    replayed::answer(walked.number, walked.position, walked.phases, loads)
 }

@@ -11,7 +11,7 @@ use Rattle.rules.specs.Traces.{entryBytes}
 use Rattle.rules.specs.Calls.{written, replayVerdict, replayOf, replayRefused, replayCall, Replayed as Call}
 use Rattle.rules.specs.Program.{inputPolicy, inputTree, inputTrace, heading, phaseLines, refusedLine, phasesText}
 use Rattle.splits.specs.Splits.{phasesOf}
-use Rattle.replay.specs.declared.Replayed.{Replayed}
+use Rattle.replayed.specs.declared.Replayed.{Replayed}
 use Rattle.replay.specs.Answers.{answers}
 use Rattle.report.specs.Answers.{refusalText}
 use Rattle.lines.specs.Answers.{linesOf, Phased}

@@ -2,7 +2,9 @@
 use Prim.Native.Nat.{ℕ}
 use mathlib.Core.Path.{_≡_, refl, sym, ap, _∙_}
 use mathlib.Core.List.{List}
+use native.Mathlib.Decide.{ℕ-discrete}
 use lib.ListN.{length}
+use borrow.Author.Tests.{eq-eqb, ne-eqb}
 use Rattle.rules.specs.Bytes.{records, Verdict, accepted}
 use Rattle.rules.specs.Tree.{kinds, weights}
 use Rattle.rules.specs.Scheduling.{Phase}
@@ -12,8 +14,9 @@ use Rattle.tree.specs.declared.Accepted.{Accepted}
 use Rattle.traces.specs.declared.Ended.{Ended}
 use Rattle.calls.specs.Answers.{replayAdmitted}
 use Rattle.outcomes.specs.Answers.{Outcome}
-use Rattle.replay.specs.declared.Replayed.{Replayed}
-use Rattle.replay.specs.Answers.{answers, refusal}
+use Rattle.replayed.specs.declared.Replayed.{Replayed}
+use Rattle.replayed.specs.Answers.{refusal, answered}
+use Rattle.replay.specs.Answers.{answers}
 use Rattle.replay.specs.Laws.Cases.{replay-given, record-refused, none-refused}
 
 -- What a return is to meet: the call's answers, and the lent list as it leaves it.
@@ -39,25 +42,28 @@ module _ (p : ℕ) (tree trace list : List ℕ) (a : Accepted) (is : a ≡ repla
       → Meets (replayCall 16 p tree trace list) r list
   given-refusal n = refusal-meets _ list _ (replay-given p tree trace list a is n)
 
-  module _ (z : a .number ≡ 0) (w : Ended) (out : List ℕ) (so : Outcome p tree trace list w out) where
-    pub record-refusal : (w .number ≡ 0 → ⊥) → (r : Replayed) → r ≡ refusal (w .number) (w .position)
-        → Meets (replayCall 16 p tree trace list) r out
-    record-refusal n r e =
+  -- The walk over the trace's records, and the answer on what it comes to.
+  module _ (z : a .number ≡ 0) (w : Ended) (out : List ℕ) (so : Outcome p tree trace list w out)
+      (r : Replayed) (answer : r ≡ answered (w .number) (w .position) (w .phases) (w .loads)) where
+    record-refusal : (w .number ≡ 0 → ⊥) → Meets (replayCall 16 p tree trace list) r out
+    unfolding answered
+    record-refusal n =
         let v : Verdict = record { number = w .number; position = w .position } in
         let judged : v ≡ replayWalk 16 p (kinds tree) (records 4 trace) .verdict =
         λ k. record { number = so .number k; position = so .position k }
         in
-        rw (so .same n) (refusal-meets v list _ (record-refused p tree trace list a is z v judged n) r e)
+        let call = record-refused p tree trace list a is z v judged n in
+        rw (so .same n) (refusal-meets v list _ call r (answer ∙ rw (ne-eqb (w .number) 0 n) refl))
 
-    module _ (none : w .number ≡ 0) where
-      pub all-answered : (worker : ℕ) → worker ≡ heaviest (w .loads)
-          → Meets (replayCall 16 p tree trace list)
-          (record { number = 0; position = 0; phases = w .phases; loads = w .loads; heaviest = worker })
-          out
-      unfolding replayOf
-      all-answered worker f =
-          let all = none-refused p tree trace list a is z (sym (so .number) ∙ none) in (
-            rw f (phase-answers p tree _ list (w .phases) (w .loads) (so .phases none) (so .loaded none))
-                ∙ ap {B = Replayed} answers all,
-            so .listed none ∙ ap (λ (c : Call). c .list) all,
-          )
+    all-answered : w .number ≡ 0 → Meets (replayCall 16 p tree trace list) r out
+    unfolding answered replayOf
+    all-answered none =
+        let all = none-refused p tree trace list a is z (sym (so .number) ∙ none) in (
+          answer
+              ∙ rw (eq-eqb (w .number) 0 none) (phase-answers p tree _ list _ _ (so .phases none) (so .loaded none))
+              ∙ ap {B = Replayed} answers all,
+          so .listed none ∙ ap (λ (c : Call). c .list) all,
+        )
+
+    pub walk-answered : Meets (replayCall 16 p tree trace list) r out
+    walk-answered = elim (ℕ-discrete (w .number) 0) [ yes none ↦ all-answered none | no n ↦ record-refusal n ]
