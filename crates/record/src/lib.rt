@@ -15,7 +15,7 @@ pub fn record(tree: &[u8], policy: u8, events: &[u8], log: &mut [u8], trace: &mu
     if admitted.number != 0 {
         return recorded::refused(admitted.number, admitted.position);
     }
-    let walked = recordings::run(tree, policy, events, log, trace);
+    let walked = copies::run(tree, policy, events, log, trace);
     let last = admitted.steps - 1;
     let loads = walked.loads;
     recorded::answer(

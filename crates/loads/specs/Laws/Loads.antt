@@ -99,7 +99,7 @@ map-at f (suc n) a (suc i) h =
     let place : a + suc i ≡ suc a + i = omega arith in
     rw place (map-at f n (suc a) i (omega arith))
 
-pub loads-length : (w : ℕ) (ks ws : List ℕ) (phs : List Phase) → length (loads w ks ws phs) ≡ w
+loads-length : (w : ℕ) (ks ws : List ℕ) (phs : List Phase) → length (loads w ks ws phs) ≡ w
 unfolding loads
 loads-length w ks ws phs = length-map (count 0 w) (workerLoad ks ws phs) ∙ length-count w 0
 

@@ -1,10 +1,9 @@
 -- The whole call's verdict: that on what the call is given first, then that on the events.
 use Prim.Native.Nat.{ℕ, _-_, _*_}
 use mathlib.Core.Path.{_≡_, refl, _∙_}
-use mathlib.Core.Bool.{_||_}
 use mathlib.Core.List.{List, [], _∷_}
 use lib.ListN.{length}
-use lib.Dec.{eqb, ltb}
+use lib.Dec.{ltb}
 use borrow.Author.Tests.{eq-eqb, ne-eqb, ltb-false}
 use Rattle.rules.specs.Bytes.{records, wholeRecords, Verdict, accepted, firstRefused}
 use Rattle.rules.specs.Tree.{kinds}
@@ -14,7 +13,7 @@ use Rattle.tree.specs.Laws.Verdicts.{first-accepts}
 use Rattle.runs.specs.Laws.Counts.{or-none}
 use Rattle.calls.specs.Answers.{tooShort, recordAdmitted}
 use Rattle.calls.specs.Laws.Cases.{Given, given-last, given-refused, given}
-use Rattle.recordings.specs.Answers.{Admitted}
+use Rattle.copies.specs.Answers.{Admitted}
 
 -- ---- the verdict
 

@@ -17,7 +17,7 @@ use Rattle.tasks.specs.Laws.Frames.{accepted-frame}
 use Rattle.walks.specs.declared.Ended.{Ended}
 use Rattle.calls.specs.Answers.{recordAdmitted}
 use Rattle.calls.specs.Laws.Cases.{given-steps}
-use Rattle.recordings.specs.Answers.{Outcome}
+use Rattle.copies.specs.Answers.{Outcome}
 use Rattle.recorded.specs.declared.Recorded.{Recorded}
 use Rattle.recorded.specs.Answers.{refusal, answered}
 use Rattle.record.specs.Answers.{answers}

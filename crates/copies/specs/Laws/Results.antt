@@ -20,7 +20,7 @@ use Rattle.runs.specs.Laws.Consequences.{runs-most, steals-most, finished-runs,
 use Rattle.outputs.specs.Laws.Records.{length-entries, length-trace}
 use Rattle.walks.specs.declared.Ended.{Ended}
 use Rattle.walks.specs.Laws.Recording.{Recording, recording-done, Walks}
-use Rattle.recordings.specs.Answers.{Admitted, Told, Outcome}
+use Rattle.copies.specs.Answers.{Admitted, Told, Outcome}
 
 module _ {p : ℕ} {tree events log trace : List ℕ} {w : Ended} {own-log own-trace : List ℕ}
     (ready : Admitted p tree log trace) (walks : Walks p tree events w own-log own-trace) where

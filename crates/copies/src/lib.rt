@@ -1,6 +1,6 @@
 // What an admitted recording comes to (document 01, "Trace, log, run list"): the events are walked, and log and trace, which are
 // written to arrays of the call's own, are copied out once every event is accepted.
-ghost use Rattle.recordings.specs.Answers.{Admitted, Outcome};
+ghost use Rattle.copies.specs.Answers.{Admitted, Outcome};
 use outputs::RECORD;
 use walks::Ended;
 

@@ -1,11 +1,11 @@
--- `recordings::run` meets its contract: a law for each return. Assumes nothing.
+-- `copies::run` meets its contract: a law for each return. Assumes nothing.
 use native.Mathlib.Omega.{arith}
 use mathlib.Core.Path.{refl}
 use borrow.Author.Needs.{needs}
 use Rattle.walks.specs.Laws.Recording.{Walks}
-use Rattle.recordings.specs.Laws.Results.{lost-outcome, bytes-most, log-room, trace-room, done-outcome}
-use Rattle.recordings.proofs.run.Statement.{statement}
-use Rattle.recordings.proofs.run.Tie as tie
+use Rattle.copies.specs.Laws.Results.{lost-outcome, bytes-most, log-room, trace-room, done-outcome}
+use Rattle.copies.proofs.run.Statement.{statement}
+use Rattle.copies.proofs.run.Tie as tie
 
 -- ---- what is known at a place, and the way back to an earlier one
 
