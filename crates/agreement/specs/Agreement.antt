@@ -14,8 +14,8 @@ use Rattle.rules.specs.Scheduling.{mostWorkers, Entry, Steal}
 use Rattle.rules.specs.Calls.{Recorded, recordCall, Replayed, replayCall}
 use Rattle.runs.specs.Invariant.{logOf, self}
 use Rattle.state.specs.declared.RunState.{RunState}
-use Rattle.state.specs.declared.Outcome.{Outcome}
-use Rattle.state.specs.declared.Outcome.the-variants.{Ran, Stole, Refused}
+use Rattle.events.specs.declared.Outcome.{Outcome}
+use Rattle.events.specs.declared.Outcome.the-variants.{Ran, Stole, Refused}
 use Rattle.state.specs.declared.Answer.{Answer}
 use Rattle.state.specs.Answers.{startAnswer, eventAnswer}
 

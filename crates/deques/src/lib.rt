@@ -5,7 +5,8 @@
 ghost use mathlib.Core.Path.{_≡_};
 ghost use Prim.Native.Nat.{_≤_, _<_};
 ghost use lib.ListN.{length};
-ghost use Rattle.deques.specs.Answers.{Climbs, newestMark, oldestMark, pusherOf, popped, robbed};
+ghost use Rattle.events.specs.Deques.{Climbs, newestMark, oldestMark, pusherOf, popped, robbed};
+use events::Pusher;
 use tables::wide;
 use tree::Step;
 
@@ -17,12 +18,6 @@ pub const RUN: u8 = 16;
 
 // A step that has not run.
 pub const NOT_RUN: u8 = 17;
-
-// The pusher of a step of a deque, or none.
-pub enum Pusher {
-    At(Step),
-    Nothing,
-}
 
 // The highest step marked with the worker among those from `low` to before `end`, by a scan.
 fn scan(place: &[u8; 4095], worker: u8, low: usize, end: usize) -> Pusher

@@ -1,11 +1,11 @@
 -- The answers as the host's flat structs of numbers.
 use mathlib.Core.Bool.{cond}
-use Rattle.state.specs.declared.Outcome.{Outcome}
-use Rattle.state.specs.declared.Outcome.the-variants.{Ran, Stole, Refused}
+use Rattle.events.specs.declared.Outcome.{Outcome}
+use Rattle.events.specs.declared.Outcome.the-variants.{Ran, Stole, Refused}
 use Rattle.state.specs.declared.Answer.{Answer}
 use Rattle.state.specs.declared.Started.{Started}
 use Rattle.state.specs.declared.Idle.{Idle}
-use Rattle.numbers.specs.Answers.{numberValue}
+use Rattle.events.specs.Numbers.{numberValue}
 use Rattle.recorded.specs.declared.Recorded.{Recorded}
 use Rattle.replayed.specs.declared.Replayed.{Replayed}
 use Rattle.flat.specs.declared.FrameStart.{FrameStart}

@@ -2,11 +2,11 @@
 // fields of a struct. Most wrong answers to shut out are of a field, so this is apart from the calls, which are dear to prove.
 ghost use mathlib.Core.Path.{_≡_};
 ghost use Rattle.flat.specs.Answers.{flatStart, flatOutcome, flatEvent, flatIdle, flatRecord, flatReplay};
+use events::Outcome;
 use recorded::Recorded;
 use replayed::Replayed;
 use state::Answer;
 use state::Idle;
-use state::Outcome;
 use state::RunState;
 use state::Started;
 

@@ -17,11 +17,12 @@ use Rattle.tasks.specs.Laws.Admission.{start-tree-accepts}
 use Rattle.tasks.specs.Laws.Frames.{Frame, accepted-frame}
 use Rattle.runs.specs.Invariant.{Invariant}
 use Rattle.runs.specs.Laws.Always.{start-invariant, event-keeps, always}
+use Rattle.events.specs.declared.Outcome.{Outcome}
+use Rattle.events.specs.declared.TraceNumber.the-variants.{ByOrdinal, BySerial}
+use Rattle.events.specs.Numbers.{numberBy, numberValue}
+use Rattle.events.specs.Moves.{fresh}
 use Rattle.state.specs.declared.RunState.{RunState}
-use Rattle.state.specs.declared.Outcome.{Outcome}
-use Rattle.numbers.specs.declared.TraceNumber.the-variants.{ByOrdinal, BySerial}
-use Rattle.numbers.specs.Answers.{numberBy, numberValue}
-use Rattle.state.specs.Answers.{fresh, startAnswer, eventAnswer, idleAnswer}
+use Rattle.state.specs.Answers.{fields, stateOf, startAnswer, eventAnswer, idleAnswer}
 use Rattle.live.specs.Tie.{Shows, toldAll, outcomes, stateAfter}
 use Rattle.live.specs.Laws.Events.{start-shows, event-tells, event-shows, idle-set-shown, idle-count-shown, idle-lowest-shown}
 
@@ -36,7 +37,7 @@ number-traced p ks step =
 pub record Follows (p : ℕ) (tree : List ℕ) (es : List (List ℕ)) : Type 0 where
   pub invariant : Invariant p (kinds tree) (afterEvents p (kinds tree) (start mostWorkers) es)
   pub tells : outcomes tree (startAnswer p tree .state) es ≡ toldAll p (kinds tree) (start mostWorkers) es
-  pub shows : Shows p (kinds tree) (stateAfter tree (startAnswer p tree .state) es) (afterEvents p (kinds tree) (start mostWorkers) es)
+  pub shows : Shows p (kinds tree) (fields (stateAfter tree (startAnswer p tree .state) es)) (afterEvents p (kinds tree) (start mostWorkers) es)
   pub idleAs : idleAnswer (stateAfter tree (startAnswer p tree .state) es) .set
       ≡ idleSet (afterEvents p (kinds tree) (start mostWorkers) es .workers)
   pub idleMany : idleAnswer (stateAfter tree (startAnswer p tree .state) es) .count
@@ -46,16 +47,16 @@ pub record Follows (p : ℕ) (tree : List ℕ) (es : List (List ℕ)) : Type 0 w
 
 module _ (p : ℕ) (tree : List ℕ) (frame : Frame tree) where
   -- From any state that shows a run on: both go on alike.
-  along : (es : List (List ℕ)) (s : RunState) (r : Run) → Invariant p (kinds tree) r → Shows p (kinds tree) s r
-      → (outcomes tree s es ≡ toldAll p (kinds tree) r es) × Shows p (kinds tree) (stateAfter tree s es) (afterEvents p (kinds tree) r es)
-  unfolding outcomes toldAll stateAfter afterEvents
+  along : (es : List (List ℕ)) (s : RunState) (r : Run) → Invariant p (kinds tree) r → Shows p (kinds tree) (fields s) r
+      → (outcomes tree s es ≡ toldAll p (kinds tree) r es) × Shows p (kinds tree) (fields (stateAfter tree s es)) (afterEvents p (kinds tree) r es)
+  unfolding outcomes toldAll stateAfter afterEvents eventAnswer
   along [] s r inv shows = (refl, shows)
   along (e ∷ es) s r inv shows =
       let rest =
       along es (eventAnswer s tree (getD e 0 0) (getD e 1 0) .state) (eventCall p (kinds tree) r e .state)
-      (event-keeps p (kinds tree) (frame .some) (frame .shape) r inv e) (event-shows p tree frame s r inv shows e)
+      (event-keeps p (kinds tree) (frame .some) (frame .shape) r inv e) (event-shows p tree frame (fields s) r inv shows e)
       in
-      (ap₂ (λ (x : Outcome) (xs : List Outcome). x ∷ xs) (event-tells p tree frame s r inv shows e) (rest .0), rest .1)
+      (ap₂ (λ (x : Outcome) (xs : List Outcome). x ∷ xs) (event-tells p tree frame (fields s) r inv shows e) (rest .0), rest .1)
 
 pub follows : (p : ℕ) (tree : List ℕ) → startVerdict p tree .number ≡ 0 → (es : List (List ℕ)) → Follows p tree es
 unfolding startAnswer idleAnswer
@@ -63,12 +64,12 @@ follows p tree accepts es =
     let frame = accepted-frame tree (start-tree-accepts p tree accepts) in
     let inv = always p (kinds tree) (frame .some) (frame .shape) mostWorkers (omega arith) es in
     let both =
-    along p tree frame es (fresh p) (start mostWorkers) (start-invariant p (kinds tree) (frame .some) (frame .shape) mostWorkers (omega arith))
+    along p tree frame es (stateOf (fresh p)) (start mostWorkers) (start-invariant p (kinds tree) (frame .some) (frame .shape) mostWorkers (omega arith))
     (start-shows p (kinds tree) (frame .some) (frame .most))
     in
-    let after = stateAfter tree (fresh p) es in
+    let after = fields (stateAfter tree (stateOf (fresh p)) es) in
     let run = afterEvents p (kinds tree) (start mostWorkers) es in
-    let first : startAnswer p tree .state ≡ fresh p = rw accepts refl in
+    let first : startAnswer p tree .state ≡ stateOf (fresh p) = rw accepts refl in
     record {
       invariant = inv;
       tells = rw first (both .0);

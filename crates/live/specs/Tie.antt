@@ -1,4 +1,4 @@
--- How a state by value shows a run of the rules, and what its calls answer then. `p` is the policy, `ks` the tree's kinds.
+-- How a state shows a run of the rules, by its fields, and what its calls answer then. `p` is the policy, `ks` the tree's kinds.
 use Prim.Native.Nat.{ℕ, zero, suc, _≤_, _<_}
 use mathlib.Core.Path.{_≡_}
 use mathlib.Core.Bool.{true, false, cond, not}
@@ -10,11 +10,12 @@ use Rattle.rules.specs.Bytes.{any}
 use Rattle.rules.specs.Tree.{kindAt, isEnd, ordinal, taskEnd, cont}
 use Rattle.rules.specs.Scheduling.{workFirst, mostWorkers, pushes, phaseAt, Worker, Entry, Run, workerAt, hasRun, waits, isRun, oldest, judgeEvent}
 use Rattle.rules.specs.Calls.{eventCall}
-use Rattle.deques.specs.Answers.{marked}
+use Rattle.events.specs.Deques.{marked}
+use Rattle.events.specs.declared.Outcome.{Outcome}
+use Rattle.events.specs.declared.Outcome.the-variants.{Ran, Stole, Refused}
+use Rattle.events.specs.Numbers.{numberBy}
+use Rattle.events.specs.Moves.{Fields}
 use Rattle.state.specs.declared.RunState.{RunState}
-use Rattle.state.specs.declared.Outcome.{Outcome}
-use Rattle.state.specs.declared.Outcome.the-variants.{Ran, Stole, Refused}
-use Rattle.numbers.specs.Answers.{numberBy}
 use Rattle.state.specs.Answers.{eventAnswer}
 
 -- ---- a worker
@@ -74,7 +75,7 @@ AllReady p ks lows r =
 
 -- ---- the state
 
-pub record Shows (p : ℕ) (ks : List ℕ) (s : RunState) (r : Run) : Type 0 where
+pub record Shows (p : ℕ) (ks : List ℕ) (s : Fields) (r : Run) : Type 0 where
   pub policy : s .policy ≡ p
   pub places : length (s .place) ≡ 4095
   pub helds : length (s .held) ≡ mostWorkers

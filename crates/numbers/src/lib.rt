@@ -3,7 +3,8 @@ ghost use mathlib.Core.Path.{_≡_};
 ghost use Prim.Native.Nat.{_≤_, _<_};
 ghost use lib.ListN.{length};
 ghost use Rattle.rules.specs.Tree.{kinds};
-ghost use Rattle.numbers.specs.Answers.{childrenBetween, numberBy, numberValue, ordinalFrom};
+ghost use Rattle.events.specs.Numbers.{childrenBetween, numberBy, numberValue, ordinalFrom};
+use events::TraceNumber;
 use tables::wide;
 use tasks::WORK_FIRST;
 use tree::END;
@@ -13,12 +14,6 @@ use tree::Step;
 
 // More than any ordinal of a tree.
 const MOST_ORDINALS: usize = 4096;
-
-// The number of a trace record: under work-first an ordinal, under help-first a serial number.
-pub enum TraceNumber {
-    ByOrdinal(Ordinal),
-    BySerial(Step),
-}
 
 // The trace number of a stolen step, by its ordinal or its serial number.
 pub fn trace_number(policy: u8, ordinal: Ordinal, step: Step) -> TraceNumber

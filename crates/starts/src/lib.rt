@@ -1,6 +1,7 @@
 // The start of a run (document 01, "Scheduling"): refusals 1 to 5, or the first state.
 ghost use mathlib.Core.Path.{_≡_};
-ghost use Rattle.state.specs.Answers.{zeros, fresh, startAnswer};
+ghost use Rattle.events.specs.Moves.{fresh};
+ghost use Rattle.state.specs.Answers.{stateOf, zeros, startAnswer};
 use deques::NOT_RUN;
 use running::NO_STEP;
 use state::RunState;
@@ -23,7 +24,7 @@ fn no_state() -> RunState
 
 // Worker 0 holds step 0 and that begins phase 0; the others are idle.
 fn first_state(policy: u8) -> RunState
-    ensures { λ r. ⌜ r ≡ fresh policy ⌝ }
+    ensures { λ r. ⌜ r ≡ stateOf (fresh policy) ⌝ }
 {
     let mut held = [NO_STEP; 16];
     held[0] = 0;

@@ -5,24 +5,15 @@ ghost use Prim.Native.Nat.{_+_, _≤_, _<_};
 ghost use lib.ListN.{length, set};
 ghost use Rattle.rules.specs.Tree.{kinds};
 ghost use Rattle.tables.specs.Answers.{Ends};
-ghost use Rattle.deques.specs.Answers.{oldestMark, robbed};
-ghost use Rattle.stealing.specs.Answers.{stealNumber, takenOf, Small};
+ghost use Rattle.events.specs.Deques.{oldestMark, robbed};
+ghost use Rattle.events.specs.Stealing.{stealNumber, takenOf, Small};
 use deques::MOST_WORKERS;
-use deques::Pusher;
+use events::Pusher;
+use events::Taken;
 use tables::wide;
 use tree::MOST_STEPS;
 use tree::Ordinal;
 use tree::Step;
-
-// What a steal takes: the step, its ordinal and its pusher; or nothing.
-pub enum Taken {
-    Of {
-        pusher: Step,
-        step: Step,
-        ordinal: Ordinal,
-    },
-    Nothing,
-}
 
 // The refusal of a steal, but for an empty deque: 8 or 11, or 2 for a tree that is too long; 0 for none.
 pub fn judge_steal(tree: &[u8], held: &[u16; 16], thief: u8, victim: u8) -> u8

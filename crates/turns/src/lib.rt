@@ -1,54 +1,15 @@
-// One event of a recording: it changes the state's arrays, and its record goes to the log or to the trace, a steal's weight to the
-// thief's load.
+// What a recording keeps of an accepted event: a run's record goes to the log; a steal's to the trace, and its weight to the thief's
+// load.
 ghost use mathlib.Core.Path.{_≡_};
 ghost use Prim.Native.Nat.{_+_, _*_, _/_, _%_, _≤_, _<_};
 ghost use lib.ListN.{length};
 ghost use Rattle.outputs.specs.Answers.{recordPut};
 ghost use Rattle.balance.specs.Answers.{loadMoved};
 ghost use Rattle.loads.specs.Answers.{weightBetween, Movable};
-ghost use Rattle.numbers.specs.Answers.{numberValue};
-ghost use Rattle.state.specs.Answers.{Hints, stateOf, answerOf, eventAnswer};
-use numbers::TraceNumber;
-use state::Moved;
+ghost use Rattle.events.specs.Numbers.{numberValue};
+use events::TraceNumber;
 use tree::Phase;
 use tree::Step;
-
-// An event of two bytes: equal, that worker runs its step; different, the first steals from the second.
-pub fn event_on(
-    tree: &[u8],
-    ends: &[u16],
-    openers: &[u16],
-    place: &mut [u8; 4095],
-    held: &mut [u16; 16],
-    phase: &mut [u16; 16],
-    low: &mut [u16; 16],
-    base: &mut [u16; 16],
-    steals: u16,
-    policy: u8,
-    first: u8,
-    second: u8,
-) -> Moved
-    requires { ⌜ Hints (now tree) (now ends) (now openers) (now place) (now held) (now low) ⌝ }
-    ensures { λ r. ⌜ answerOf (r .outcome) (stateOf (now (place .exit)) (now (held .exit)) (now (phase .exit)) (now (low .exit)) (now (base .exit)) (r .steals) policy) ≡ eventAnswer (stateOf (now (place .entry)) (now (held .entry)) (now (phase .entry)) (now (low .entry)) (now (base .entry)) steals policy) (now (tree .entry)) first second ⌝ }
-{
-    if first == second {
-        let outcome = state::run_on(tree, ends, openers, place, held, phase, low, policy, first);
-        return Moved { outcome, steals };
-    }
-    state::steal_on(
-        tree,
-        ends,
-        place,
-        held,
-        phase,
-        low,
-        base,
-        steals,
-        policy,
-        first,
-        second,
-    )
-}
 
 // Log record k: a step run in a phase.
 pub fn log_run(log: &mut [u8], k: usize, phase: Phase, step: Step)

@@ -8,9 +8,9 @@ ghost use Rattle.rules.specs.Calls.{startVerdict};
 ghost use Rattle.tables.specs.Answers.{Ends, Openers, Sums};
 ghost use Rattle.walks.specs.Laws.Recording.{Walks};
 use deques::NOT_RUN;
+use events::Outcome;
 use outputs::EVENT;
 use running::NO_STEP;
-use state::Outcome;
 use tables::wide;
 
 // What the walk over the events comes to.
@@ -57,7 +57,7 @@ fn walk(
         k += 1;
         let first = events[EVENT * at];
         let second = events[EVENT * at + 1];
-        let moved = turns::event_on(
+        let moved = moves::event_on(
             tree,
             ends,
             openers,

@@ -16,7 +16,7 @@ use Rattle.runs.specs.Invariant.{Invariant}
 use Rattle.runs.specs.Laws.Moves.{ran, run-is, run-held, event-runs, first-within, enriched, steal-thief}
 use Rattle.runs.specs.Laws.Always.{start-invariant, event-keeps}
 use Rattle.state.specs.declared.RunState.{RunState}
-use Rattle.state.specs.Answers.{startAnswer}
+use Rattle.state.specs.Answers.{fields, startAnswer, eventAnswer}
 use Rattle.tasks.specs.Laws.Admission.{start-tree-accepts}
 use Rattle.live.specs.Tie.{Shows, told}
 use Rattle.live.specs.Laws.Events.{start-shows, event-tells, event-shows}
@@ -106,7 +106,7 @@ module _ (p : ℕ) (ks : List ℕ) (r : Run) (e : Event) where
 -- The state shows the run, which has the invariant.
 record Tied (p : ℕ) (ks : List ℕ) (s : RunState) (r : Run) : Type 0 where
   inv : Invariant p ks r
-  shows : Shows p ks s r
+  shows : Shows p ks (fields s) r
 
 module _ (p : ℕ) (tree : List ℕ) (frame : Frame tree) where
   abbrev ks : List ℕ
@@ -114,18 +114,18 @@ module _ (p : ℕ) (tree : List ℕ) (frame : Frame tree) where
 
   module _ (s : RunState) (r : Run) (tied : Tied p ks s r) (e : Event) where
     call-told : call tree s e .outcome ≡ told p ks r (pair e)
-    unfolding call pair
-    call-told = event-tells p tree frame s r (tied .inv) (tied .shows) (pair e)
+    unfolding call pair eventAnswer
+    call-told = event-tells p tree frame (fields s) r (tied .inv) (tied .shows) (pair e)
 
     call-judged : refusalOf (call tree s e .outcome) ≡ judgeEvent ks r (pair e)
     call-judged = rw call-told (told-number p ks r e)
 
     call-tied : Tied p ks (call tree s e .state) (eventCall p ks r (pair e) .state)
-    unfolding call pair
+    unfolding call pair eventAnswer
     call-tied =
         record {
           inv = event-keeps p ks (frame .some) (frame .shape) r (tied .inv) (pair e);
-          shows = event-shows p tree frame s r (tied .inv) (tied .shows) (pair e);
+          shows = event-shows p tree frame (fields s) r (tied .inv) (tied .shows) (pair e);
         }
 
     live-on : judgeEvent ks r (pair e) ≡ 0 → (es : List Event)

@@ -15,7 +15,7 @@ use Rattle.rules.specs.Traces.{traceBytes, entryBytes}
 use Rattle.rules.specs.Calls.{written, recordWalk, finished}
 use Rattle.tasks.specs.Laws.Admission.{start-tree-accepts}
 use Rattle.tasks.specs.Laws.Frames.{Frame, accepted-frame}
-use Rattle.state.specs.declared.RunState.{RunState}
+use Rattle.events.specs.Moves.{Fields}
 use Rattle.runs.specs.Laws.Consequences.{runs-most, steals-most, finished-runs, runs-finished}
 use Rattle.outputs.specs.Laws.Records.{length-entries, length-trace}
 use Rattle.walks.specs.declared.Ended.{Ended}
@@ -39,7 +39,7 @@ module _ {p : ℕ} {tree events log trace : List ℕ} {w : Ended} {own-log own-t
     frame : Frame tree
     frame = accepted-frame tree (start-tree-accepts p tree (ready .started))
 
-    abbrev ended : RunState
+    abbrev ended : Fields
     ended = walks .recorded none .0
 
     so : Recording p tree events (length events / 2) ended own-log own-trace (w .loads) (w .logs) (w .steals)

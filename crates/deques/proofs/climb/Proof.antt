@@ -4,8 +4,8 @@ use Prim.Native.Nat.{_≤_, _<_}
 use mathlib.Core.Path.{_≡_, refl}
 use native.Mathlib.Omega.{arith}
 use borrow.Author.Needs.{needs}
-use Rattle.deques.specs.Answers.{newestMark}
-use Rattle.deques.specs.Laws.Marks.{newest-end, climb-less, climb-below, climb-hit, climb-miss}
+use Rattle.events.specs.Deques.{newestMark}
+use Rattle.events.specs.Laws.Marks.{newest-end, climb-less, climb-below, climb-hit, climb-miss}
 use Rattle.deques.proofs.climb.Statement.{statement}
 use Rattle.deques.proofs.climb.Tie as tie
 

@@ -3,8 +3,8 @@
 use Prim.Native.Nat.{_-_}
 use mathlib.Core.Path.{_≡_, refl}
 use native.Mathlib.Omega.{arith}
-use Rattle.deques.specs.Answers.{oldestMark}
-use Rattle.deques.specs.Laws.Marks.{oldest-hit, oldest-miss, oldest-end}
+use Rattle.events.specs.Deques.{oldestMark}
+use Rattle.events.specs.Laws.Marks.{oldest-hit, oldest-miss, oldest-end}
 use Rattle.deques.proofs.oldest.Statement.{statement}
 use Rattle.deques.proofs.oldest.Tie as tie
 

@@ -1,8 +1,8 @@
 -- `deques::pop` meets its contract: it stores to the step that has run and to what `newest` finds, which stands before it. Assumes nothing.
 use mathlib.Core.Path.{sym, _∙_}
 use native.Mathlib.Omega.{arith}
-use Rattle.deques.specs.Answers.{newestMark}
-use Rattle.deques.specs.Laws.Marks.{pusher-at, pusher-nothing, newest-before, popped-at, popped-nothing}
+use Rattle.events.specs.Deques.{newestMark}
+use Rattle.events.specs.Laws.Marks.{pusher-at, pusher-nothing, newest-before, popped-at, popped-nothing}
 use borrow.Author.Needs.{needs}
 use Rattle.deques.proofs.pop.Statement.{statement}
 use Rattle.deques.proofs.pop.Tie as tie

@@ -3,8 +3,8 @@
 use Prim.Native.Nat.{_≤_}
 use mathlib.Core.Path.{_≡_, refl}
 use native.Mathlib.Omega.{arith}
-use Rattle.deques.specs.Answers.{newestMark}
-use Rattle.deques.specs.Laws.Marks.{newest-hit, newest-miss, newest-end}
+use Rattle.events.specs.Deques.{newestMark}
+use Rattle.events.specs.Laws.Marks.{newest-hit, newest-miss, newest-end}
 use Rattle.deques.proofs.scan.Statement.{statement}
 use Rattle.deques.proofs.scan.Tie as tie
 

@@ -1,8 +1,8 @@
 -- `deques::take` meets its contract: it stores to what `oldest` finds. Assumes nothing.
 use mathlib.Core.Path.{sym, _∙_}
 use native.Mathlib.Omega.{arith}
-use Rattle.deques.specs.Answers.{oldestMark}
-use Rattle.deques.specs.Laws.Marks.{pusher-at, pusher-nothing, oldest-before, robbed-at, robbed-nothing}
+use Rattle.events.specs.Deques.{oldestMark}
+use Rattle.events.specs.Laws.Marks.{pusher-at, pusher-nothing, oldest-before, robbed-at, robbed-nothing}
 use borrow.Author.Needs.{needs}
 use Rattle.deques.proofs.take.Statement.{statement}
 use Rattle.deques.proofs.take.Tie as tie

@@ -43,13 +43,13 @@ use denote.Triple.Table.{entered, cited}
 use denote.Triple.Walked.{says, Stays, stay-ref, stay-none, stay-none-slice, walkOf, goes-ref, goes-none, goes-none-slice, ends-at, walked, walk-meets}
 use denote.Exit.{yes}
 use Rattle.state.specs.declared.RunState.{RunState}
-use Rattle.state.specs.declared.Outcome.{Outcome}
+use Rattle.events.specs.declared.Outcome.{Outcome}
 use Rattle.state.specs.declared.Answer.{Answer}
 use Rattle.state.specs.Answers.{eventAnswer}
 use Rattle.state.proofs.RunState as S
 use Rattle.state.proofs.RunState.Laws as S′
-use Rattle.state.proofs.Outcome as O
-use Rattle.state.proofs.Outcome.Laws as O′
+use Rattle.events.proofs.Outcome as O
+use Rattle.events.proofs.Outcome.Laws as O′
 use Rattle.state.proofs.Answer as N
 use Rattle.state.proofs.Answer.Laws as N′
 use Rattle.state.proofs.RunState.event as event

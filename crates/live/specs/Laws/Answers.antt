@@ -1,4 +1,4 @@
--- A run's and a steal's answer, case by case: on any state a refusal keeps it; on a state that shows a run the rules' verdict.
+-- A run's and a steal's move, case by case: on any state a refusal keeps it; on a state that shows a run the rules' verdict.
 use Prim.Native.Nat.{ℕ, _<_}
 use mathlib.Core.Path.{_≡_, refl, ap, _∙_}
 use mathlib.Core.Bool.{Bool, true, false, cond}
@@ -11,28 +11,26 @@ use lib.Dec.{eqb, ltb}
 use borrow.Author.Tests.{lt-ltb, le-ltb, le-leb, lt-leb, ne-eqb}
 use Rattle.rules.specs.Tree.{kinds, ordinal}
 use Rattle.rules.specs.Scheduling.{workFirst, mostWorkers, pushes, Run, workerAt, waits, judgeRun, runStep, holdsStep, judgeSteal, oldest, steal}
-use Rattle.deques.specs.Answers.{oldestMark}
-use Rattle.running.specs.Answers.{runNumber}
-use Rattle.numbers.specs.declared.TraceNumber.{TraceNumber}
-use Rattle.numbers.specs.Answers.{numberBy}
-use Rattle.stealing.specs.Answers.{stealNumber}
-use Rattle.state.specs.declared.RunState.{RunState}
-use Rattle.state.specs.declared.Outcome.{Outcome}
-use Rattle.state.specs.declared.Outcome.the-variants.{Ran, Stole, Refused}
-use Rattle.state.specs.declared.Answer.{Answer}
-use Rattle.state.specs.Answers.{refused, ranState, runAnswer, takenOrdinal, robbedState, stealAnswer}
+use Rattle.events.specs.Deques.{oldestMark}
+use Rattle.events.specs.Running.{runNumber}
+use Rattle.events.specs.declared.TraceNumber.{TraceNumber}
+use Rattle.events.specs.Numbers.{numberBy}
+use Rattle.events.specs.Stealing.{stealNumber}
+use Rattle.events.specs.declared.Outcome.{Outcome}
+use Rattle.events.specs.declared.Outcome.the-variants.{Ran, Stole, Refused}
+use Rattle.events.specs.Moves.{Fields, Move, moveOf, refused, ranFields, runMove, takenOrdinal, robbedFields, stealMove}
 use Rattle.live.specs.Tie.{Shows, heldStep}
 use Rattle.live.specs.Laws.Scans.{waits-shown}
 use Rattle.live.specs.Laws.Moves.{Known, Stolen, held-none, held-some, run-shows, nothing-found, steal-shows}
 
 -- ---- any state
 
--- If the answer refuses, its state is s.
-pub record Keeps (s : RunState) (answer : Answer) : Type 0 where
-  pub same : (number : ℕ) → answer .outcome ≡ Refused number → answer .state ≡ s
+-- If the move refuses, its state is s.
+pub record Keeps (s : Fields) (move : Move) : Type 0 where
+  pub same : (number : ℕ) → move .outcome ≡ Refused number → move .after ≡ s
 
-module _ (s : RunState) where
-  pub keeps-if : (b : Bool) {x y : Answer} → Keeps s x → Keeps s y → Keeps s (cond b x y)
+module _ (s : Fields) where
+  pub keeps-if : (b : Bool) {x y : Move} → Keeps s x → Keeps s y → Keeps s (cond b x y)
   keeps-if true k l = k
   keeps-if false k l = l
 
@@ -40,32 +38,32 @@ module _ (s : RunState) where
   unfolding refused
   keeps-refused number = record { same = λ n e. refl }
 
-  pub keeps-run : (tree : List ℕ) (w : ℕ) → Keeps s (runAnswer s tree w)
-  unfolding runAnswer
+  pub keeps-run : (tree : List ℕ) (w : ℕ) → Keeps s (runMove s tree w)
+  unfolding runMove
   keeps-run tree w =
       let number = runNumber (kinds tree) (s .place) (s .held) w in
       keeps-if (eqb number 0) (record { same = λ m e. let z : _≡_ {A = ℕ} 0 1 = cc in absurd (omega arith) }) (keeps-refused number)
 
-  keeps-found : (found : Option ℕ) (number : ℕ → TraceNumber) (next : ℕ → RunState)
-      → Keeps s (elim found [ none ↦ refused 12 s | some q ↦ record { outcome = Stole (number q); state = next q } ])
+  keeps-found : (found : Option ℕ) (number : ℕ → TraceNumber) (next : ℕ → Fields)
+      → Keeps s (elim found [ none ↦ refused 12 s | some q ↦ moveOf (Stole (number q)) (next q) ])
   keeps-found none number next = keeps-refused 12
   keeps-found (some q) number next = record { same = λ m e. let z : _≡_ {A = ℕ} 0 1 = cc in absurd (omega arith) }
 
-  pub keeps-steal : (tree : List ℕ) (t v : ℕ) → Keeps s (stealAnswer s tree t v)
-  unfolding stealAnswer
+  pub keeps-steal : (tree : List ℕ) (t v : ℕ) → Keeps s (stealMove s tree t v)
+  unfolding stealMove
   keeps-steal tree t v =
       let ks = kinds tree in
       let number = stealNumber ks (s .held) t v in
       keeps-if (eqb number 0)
       (keeps-found (oldestMark (s .place) v (getD (s .low) v 0) (length ks))
       (λ q. numberBy (s .policy) (takenOrdinal s ks v q) (pushes (s .policy) ks q))
-      (robbedState s ks t v))
+      (robbedFields s ks t v))
       (keeps-refused number)
 
 -- ---- a state that shows a run
 
--- Where nothing but one test can refuse, the answer goes by that test.
-by-test : (s : RunState) (b : Bool) (m : ℕ) (x : Answer) → (m ≡ 0 → ⊥)
+-- Where nothing but one test can refuse, the move goes by that test.
+by-test : (s : Fields) (b : Bool) (m : ℕ) (x : Move) → (m ≡ 0 → ⊥)
     → cond (eqb (cond b m 0) 0) x (refused (cond b m 0) s) ≡ cond b (refused m s) x
 by-test s true m x n = rw (ne-eqb m 0 n) refl
 by-test s false m x n = refl
@@ -75,17 +73,17 @@ number-alike : (p a b x : ℕ) → (p ≡ workFirst → a ≡ b) → numberBy p 
 unfolding numberBy
 number-alike p a b x same = elim (ℕ-discrete p 1) [ yes e ↦ rw (same e) refl | no n ↦ rw (ne-eqb p 1 n) refl ]
 
--- An answer on the state s, and the rules' number, word and next run: both refuse with that number, or both accept.
-pub data Agrees (p : ℕ) (ks : List ℕ) (s : RunState) (answer : Answer) (number : ℕ) (word : Outcome) (next : Run) : Type 0 where
-  refuses : (number ≡ 0 → ⊥) → answer ≡ refused number s → Agrees p ks s answer number word next
-  accepts : number ≡ 0 → answer .outcome ≡ word → Shows p ks (answer .state) next → Agrees p ks s answer number word next
+-- A move on the state s, and the rules' number, word and next run: both refuse with that number, or both accept.
+pub data Agrees (p : ℕ) (ks : List ℕ) (s : Fields) (move : Move) (number : ℕ) (word : Outcome) (next : Run) : Type 0 where
+  refuses : (number ≡ 0 → ⊥) → move ≡ refused number s → Agrees p ks s move number word next
+  accepts : number ≡ 0 → move .outcome ≡ word → Shows p ks (move .after) next → Agrees p ks s move number word next
 
-module _ {p : ℕ} (tree : List ℕ) {s : RunState} {r : Run} (known : Known p (kinds tree) s r) where
+module _ {p : ℕ} (tree : List ℕ) {s : Fields} {r : Run} (known : Known p (kinds tree) s r) where
   -- A run by worker w.
   module _ (w : ℕ) (few : w < mostWorkers) where
-    idle-answer : workerAt r w .hand .held ≡ none → runAnswer s tree w ≡ refused 9 s
-    unfolding runAnswer runNumber
-    idle-answer e =
+    idle-move : workerAt r w .hand .held ≡ none → runMove s tree w ≡ refused 9 s
+    unfolding runMove runNumber
+    idle-move e =
         let n = length (kinds tree) in
         rw (
           lt-leb 16 w few,
@@ -94,12 +92,12 @@ module _ {p : ℕ} (tree : List ℕ) {s : RunState} {r : Run} (known : Known p (
           le-leb n 65535 (omega (arith, known .most)),
         ) refl
 
-    held-answer : (i : ℕ) → workerAt r w .hand .held ≡ some i
-        → runAnswer s tree w
+    held-move : (i : ℕ) → workerAt r w .hand .held ≡ some i
+        → runMove s tree w
         ≡ cond (waits (kinds tree) (r .log) i) (refused 10 s)
-        (record { outcome = Ran (record { 0 = getD (s .phase) w 0 }) (record { 0 = i }); state = ranState s (kinds tree) w i })
-    unfolding runAnswer runNumber
-    held-answer i e =
+        (moveOf (Ran (record { 0 = getD (s .phase) w 0 }) (record { 0 = i })) (ranFields s (kinds tree) w i))
+    unfolding runMove runNumber
+    held-move i e =
         let n = length (kinds tree) in
         let held = held-some known w i few e in
         let waiting = waits-shown (kinds tree) (s .place) (r .log) (known .shows .unrun) i (held .1) in
@@ -108,14 +106,14 @@ module _ {p : ℕ} (tree : List ℕ) {s : RunState} {r : Run} (known : Known p (
 
     abbrev pub RunAgrees : Type 0
     RunAgrees =
-        Agrees p (kinds tree) s (runAnswer s tree w) (judgeRun (kinds tree) r w)
+        Agrees p (kinds tree) s (runMove s tree w) (judgeRun (kinds tree) r w)
         (Ran (record { 0 = workerAt r w .phase }) (record { 0 = heldStep (workerAt r w) })) (runStep p (kinds tree) r w)
 
     run-by : (i : ℕ) → workerAt r w .hand .held ≡ some i → (b : Bool) → waits (kinds tree) (r .log) i ≡ b → RunAgrees
     unfolding judgeRun heldStep
-    run-by i e true h = rw (held-answer i e, h, e, judgeRun, h) (refuses (omega arith) refl)
+    run-by i e true h = rw (held-move i e, h, e, judgeRun, h) (refuses (omega arith) refl)
     run-by i e false h =
-        rw (held-answer i e, h)
+        rw (held-move i e, h)
         (accepts (rw (e, judgeRun, h) refl) (rw (known .shows .hands w few .latest, e, heldStep) refl) (run-shows known w i few e))
 
     pub run-agrees : RunAgrees
@@ -123,31 +121,28 @@ module _ {p : ℕ} (tree : List ℕ) {s : RunState} {r : Run} (known : Known p (
     run-agrees = by (workerAt r w .hand .held) refl
       where
         by : (o : Option ℕ) → workerAt r w .hand .held ≡ o → RunAgrees
-        by none e = rw (idle-answer e, e, judgeRun) (refuses (omega arith) refl)
+        by none e = rw (idle-move e, e, judgeRun) (refuses (omega arith) refl)
         by (some i) e = run-by i e (waits (kinds tree) (r .log) i) refl
 
   -- A steal by t from v.
   module _ (t v : ℕ) (small : t < mostWorkers) (few : v < mostWorkers) (other : t ≡ v → ⊥) where
-    steal-answer : (found : Option ℕ) → oldestMark (s .place) v (getD (s .low) v 0) (length (kinds tree)) ≡ found
-        → stealAnswer s tree t v
+    steal-move : (found : Option ℕ) → oldestMark (s .place) v (getD (s .low) v 0) (length (kinds tree)) ≡ found
+        → stealMove s tree t v
         ≡ cond (ltb (getD (s .held) t 0) (length (kinds tree))) (refused 11 s)
         (elim found [
           | none ↦ refused 12 s
-          | some q ↦ record {
-            outcome = Stole (numberBy (s .policy) (takenOrdinal s (kinds tree) v q)
-                (pushes (s .policy) (kinds tree) q));
-            state = robbedState s (kinds tree) t v q;
-          }
+          | some q ↦ moveOf (Stole (numberBy (s .policy) (takenOrdinal s (kinds tree) v q) (pushes (s .policy) (kinds tree) q)))
+              (robbedFields s (kinds tree) t v q)
         ])
-    unfolding stealAnswer stealNumber
-    steal-answer found e =
+    unfolding stealMove stealNumber
+    steal-move found e =
         let n = length (kinds tree) in
         rw (lt-leb 16 t small, lt-leb 16 v few, le-ltb 4095 n (known .most), e)
         (by-test s (ltb (getD (s .held) t 0) n) 11 _ (omega arith))
 
     abbrev pub StealAgrees : Type 0
     StealAgrees =
-        Agrees p (kinds tree) s (stealAnswer s tree t v) (judgeSteal r t v)
+        Agrees p (kinds tree) s (stealMove s tree t v) (judgeSteal r t v)
         (Stole (numberBy p (ordinal (kinds tree) (oldest (workerAt r v .hand .deque))) (oldest (workerAt r v .hand .deque))))
         (steal r t v)
 
@@ -155,7 +150,7 @@ module _ {p : ℕ} (tree : List ℕ) {s : RunState} {r : Run} (known : Known p (
     unfolding judgeSteal holdsStep
     steal-busy j e =
         let held = held-some known t j small e in
-        rw (steal-answer _ refl, held .0, lt-ltb j (length (kinds tree)) (held .1), e, holdsStep) (refuses (omega arith) refl)
+        rw (steal-move _ refl, held .0, lt-ltb j (length (kinds tree)) (held .1), e, holdsStep) (refuses (omega arith) refl)
 
     not-busy : workerAt r t .hand .held ≡ none → ltb (getD (s .held) t 0) (length (kinds tree)) ≡ false
     not-busy e = rw (held-none known t small e) (le-ltb 65535 (length (kinds tree)) (omega (arith, known .most)))
@@ -164,7 +159,7 @@ module _ {p : ℕ} (tree : List ℕ) {s : RunState} {r : Run} (known : Known p (
         → Stolen p (kinds tree) s r t v q → StealAgrees
     unfolding judgeSteal holdsStep
     steal-taken e full q stolen =
-        rw (steal-answer (some q) (stolen .found), not-busy e)
+        rw (steal-move (some q) (stolen .found), not-busy e)
         (accepts (rw (e, holdsStep, ne-eqb (length (workerAt r v .hand .deque)) 0 full) refl)
         (rw (stolen .taken)
         (ap (λ (x : ℕ). Stole (numberBy x (takenOrdinal s (kinds tree) v q) (pushes x (kinds tree) q))) (known .shows .policy)
@@ -174,7 +169,7 @@ module _ {p : ℕ} (tree : List ℕ) {s : RunState} {r : Run} (known : Known p (
     steal-by : workerAt r t .hand .held ≡ none → (deque : List ℕ) → workerAt r v .hand .deque ≡ deque → StealAgrees
     unfolding judgeSteal holdsStep
     steal-by e [] d =
-        rw (steal-answer none (nothing-found known v few d), not-busy e, e, holdsStep, d) (refuses (omega arith) refl)
+        rw (steal-move none (nothing-found known v few d), not-busy e, e, holdsStep, d) (refuses (omega arith) refl)
     steal-by e (x ∷ xs) d =
         let full : length (workerAt r v .hand .deque) ≡ 0 → ⊥ = rw d (omega arith) in
         let stolen = steal-shows known t v small few other e full in

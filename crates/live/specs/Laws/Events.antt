@@ -15,23 +15,30 @@ use Rattle.rules.specs.Tree.{kinds, ordinal}
 use Rattle.rules.specs.Calls.{eventCall}
 use Rattle.tasks.specs.Laws.Frames.{Frame}
 use Rattle.runs.specs.Invariant.{Invariant}
+use Rattle.events.specs.declared.Outcome.the-variants.{Ran, Stole, Refused}
+use Rattle.events.specs.Running.{runNumber}
+use Rattle.events.specs.Numbers.{numberBy}
+use Rattle.events.specs.Stealing.{stealNumber}
+use Rattle.events.specs.Moves.{Fields, fresh, refused, runMove, stealMove, eventMove}
+use Rattle.events.specs.Idle.{isIdle, idleBits, idleNumber, idleFirst}
 use Rattle.state.specs.declared.RunState.{RunState}
-use Rattle.state.specs.declared.Outcome.the-variants.{Ran, Stole, Refused}
-use Rattle.running.specs.Answers.{runNumber}
-use Rattle.numbers.specs.Answers.{numberBy}
-use Rattle.stealing.specs.Answers.{stealNumber}
-use Rattle.state.specs.Answers.{fresh, refused, runAnswer, stealAnswer, eventAnswer, isIdle, idleBits, idleNumber, idleFirst}
+use Rattle.state.specs.Answers.{fields, stateOf, eventAnswer}
 use Rattle.live.specs.Tie.{Shows, heldStep, told}
 use Rattle.live.specs.Laws.Ready.{start-ready}
 use Rattle.live.specs.Laws.Tables.{shows-by, start-table}
 use Rattle.live.specs.Laws.Moves.{Known, held-none, held-some}
 use Rattle.live.specs.Laws.Answers.{keeps-if, keeps-run, keeps-steal, Agrees, refuses, accepts, run-agrees, steal-agrees}
 
--- On any state whatever, a refused event hands back the very state that it got.
+-- On any state whatever, a refused event leaves every field, and so hands back the very state that it got.
+move-keeps : (f : Fields) (tree : List ℕ) (a b number : ℕ) → eventMove f tree a b .outcome ≡ Refused number
+    → eventMove f tree a b .after ≡ f
+unfolding eventMove
+move-keeps f tree a b number e = keeps-if f (eqb a b) (keeps-run f tree a) (keeps-steal f tree a b) .same number e
+
 pub refused-keeps : (s : RunState) (tree : List ℕ) (a b number : ℕ) → eventAnswer s tree a b .outcome ≡ Refused number
     → eventAnswer s tree a b .state ≡ s
 unfolding eventAnswer
-refused-keeps s tree a b number e = keeps-if s (eqb a b) (keeps-run s tree a) (keeps-steal s tree a b) .same number e
+refused-keeps s tree a b number e = ap {B = RunState} stateOf (move-keeps (fields s) tree a b number e)
 
 -- ---- the start
 
@@ -87,16 +94,16 @@ alike-lowest (w ∷ ws) held i a =
 
 -- ---- a state that shows a run
 
-module _ (p : ℕ) (tree : List ℕ) (frame : Frame tree) (s : RunState) (r : Run) (inv : Invariant p (kinds tree) r)
+module _ (p : ℕ) (tree : List ℕ) (frame : Frame tree) (s : Fields) (r : Run) (inv : Invariant p (kinds tree) r)
     (shows : Shows p (kinds tree) s r) where
   known : Known p (kinds tree) s r
   known = record { some-step = frame .some; most = frame .most; shape = frame .shape; inv = inv; shows = shows }
 
   -- ---- events
 
-  far-answer : (a b : ℕ) → leb 16 a || leb 16 b ≡ true → eventAnswer s tree a b ≡ refused 8 s
-  unfolding eventAnswer runAnswer stealAnswer runNumber stealNumber
-  far-answer a b far =
+  far-move : (a b : ℕ) → leb 16 a || leb 16 b ≡ true → eventMove s tree a b ≡ refused 8 s
+  unfolding eventMove runMove stealMove runNumber stealNumber
+  far-move a b far =
       elim (ℕ-discrete a b) [
         | yes e ↦ rw (eq-eqb a b e, sym (or-self (leb 16 a)) ∙ (rw (← e) at far)) refl
         | no n ↦ rw (ne-eqb a b n, far) refl
@@ -104,7 +111,7 @@ module _ (p : ℕ) (tree : List ℕ) (frame : Frame tree) (s : RunState) (r : Ru
 
   abbrev EventAgrees : List ℕ → Type 0
   EventAgrees e =
-      Agrees p (kinds tree) s (eventAnswer s tree (getD e 0 0) (getD e 1 0)) (judgeEvent (kinds tree) r e)
+      Agrees p (kinds tree) s (eventMove s tree (getD e 0 0) (getD e 1 0)) (judgeEvent (kinds tree) r e)
       (cond (isRun e) (Ran (record { 0 = workerAt r (getD e 0 0) .phase }) (record { 0 = heldStep (workerAt r (getD e 0 0)) }))
       (Stole (numberBy p (ordinal (kinds tree) (oldest (workerAt r (getD e 1 0) .hand .deque)))
       (oldest (workerAt r (getD e 1 0) .hand .deque)))))
@@ -112,10 +119,10 @@ module _ (p : ℕ) (tree : List ℕ) (frame : Frame tree) (s : RunState) (r : Ru
 
   far-agrees : (e : List ℕ) → leb 16 (getD e 0 0) || leb 16 (getD e 1 0) ≡ true → EventAgrees e
   unfolding judgeEvent
-  far-agrees e far = rw (far-answer (getD e 0 0) (getD e 1 0) far, shows .workers, far) (refuses (omega arith) refl)
+  far-agrees e far = rw (far-move (getD e 0 0) (getD e 1 0) far, shows .workers, far) (refuses (omega arith) refl)
 
   near-agrees : (e : List ℕ) → getD e 0 0 < 16 → getD e 1 0 < 16 → EventAgrees e
-  unfolding eventAnswer judgeEvent isRun nextRun
+  unfolding eventMove judgeEvent isRun nextRun
   near-agrees e l m =
       let a = getD e 0 0 in
       let b = getD e 1 0 in
@@ -137,21 +144,21 @@ module _ (p : ℕ) (tree : List ℕ) (frame : Frame tree) (s : RunState) (r : Ru
       ]
 
   -- The event's outcome is the rules' word, and the next state shows the rules' next.
-  pub event-tells : (e : List ℕ) → eventAnswer s tree (getD e 0 0) (getD e 1 0) .outcome ≡ told p (kinds tree) r e
+  pub event-tells : (e : List ℕ) → eventMove s tree (getD e 0 0) (getD e 1 0) .outcome ≡ told p (kinds tree) r e
   unfolding told refused
   event-tells e = by (event-agrees e)
     where
-      by : EventAgrees e → eventAnswer s tree (getD e 0 0) (getD e 1 0) .outcome ≡ told p (kinds tree) r e
+      by : EventAgrees e → eventMove s tree (getD e 0 0) (getD e 1 0) .outcome ≡ told p (kinds tree) r e
       by (refuses n a) = rw (a, ne-eqb (judgeEvent (kinds tree) r e) 0 n) refl
       by (accepts z o next) = rw (z, o) refl
 
   pub event-shows : (e : List ℕ)
-      → Shows p (kinds tree) (eventAnswer s tree (getD e 0 0) (getD e 1 0) .state) (eventCall p (kinds tree) r e .state)
+      → Shows p (kinds tree) (eventMove s tree (getD e 0 0) (getD e 1 0) .after) (eventCall p (kinds tree) r e .state)
   unfolding eventCall refused
   event-shows e = by (event-agrees e)
     where
       by : EventAgrees e
-          → Shows p (kinds tree) (eventAnswer s tree (getD e 0 0) (getD e 1 0) .state) (eventCall p (kinds tree) r e .state)
+          → Shows p (kinds tree) (eventMove s tree (getD e 0 0) (getD e 1 0) .after) (eventCall p (kinds tree) r e .state)
       by (refuses n a) = rw (a, ne-eqb (judgeEvent (kinds tree) r e) 0 n) shows
       by (accepts z o next) = rw z next
 

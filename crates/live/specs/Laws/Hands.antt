@@ -20,8 +20,8 @@ use Rattle.tasks.specs.Laws.Places.{ordinal-child, ordinal-cont, ordinal-most}
 use Rattle.runs.specs.Laws.Counts.{has-head, any-one}
 use Rattle.runs.specs.Laws.Phase.{first-holds, first-pushes, oldest-last, after-ended, after-kept}
 use Rattle.runs.specs.Laws.Weights.{end-within, nested-end, holds-inside, pushes-inside}
-use Rattle.deques.specs.Answers.{find, marked, newestMark, oldestMark, popped, robbed}
-use Rattle.numbers.specs.Answers.{childrenBetween, ordinalFrom}
+use Rattle.events.specs.Deques.{find, marked, newestMark, oldestMark, popped, robbed}
+use Rattle.events.specs.Numbers.{childrenBetween, ordinalFrom}
 use Rattle.live.specs.Tie.{Line, Hops, Linked, HandShown}
 use Rattle.live.specs.Laws.Scans.{newest-found, newest-nothing, oldest-found, oldest-nothing}
 use Rattle.live.specs.Laws.Hops.{hops-more, hops-ordinal, hops-children}

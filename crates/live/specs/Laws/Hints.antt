@@ -11,14 +11,13 @@ use Rattle.rules.specs.Tree.{kinds, taskEnd}
 use Rattle.rules.specs.Scheduling.{mostWorkers, Run, workerAt}
 use Rattle.tasks.specs.Laws.Frames.{Frame}
 use Rattle.tables.specs.Answers.{Ends, Openers}
-use Rattle.deques.specs.Answers.{marked}
-use Rattle.state.specs.declared.RunState.{RunState}
-use Rattle.state.specs.Answers.{Hints}
+use Rattle.events.specs.Deques.{marked}
+use Rattle.events.specs.Moves.{Fields, Hints}
 use Rattle.live.specs.Tie.{Shows}
 use Rattle.live.specs.Laws.Hands.{line-nested}
 use Rattle.live.specs.Laws.Ready.{never-waits}
 
-module _ (p : ℕ) (tree : List ℕ) (frame : Frame tree) (s : RunState) (r : Run) (shows : Shows p (kinds tree) s r) (openers : List ℕ)
+module _ (p : ℕ) (tree : List ℕ) (frame : Frame tree) (s : Fields) (r : Run) (shows : Shows p (kinds tree) s r) (openers : List ℕ)
     (fits : length openers ≤ length (kinds tree)) where
   nested : (w : ℕ) → w < mostWorkers → getD (s .held) w 0 < length openers → (o : Option ℕ) → workerAt r w .hand .held ≡ o
       → (j : ℕ) → j < getD (s .held) w 0 → marked (s .place) w j ≡ true → getD (s .held) w 0 < taskEnd (kinds tree) j

@@ -13,7 +13,7 @@ use Rattle.tasks.specs.Laws.Shape.{after, Shape, child-inside, after-end, tree-
 use Rattle.tasks.specs.Laws.Frames.{endAt, sizeAt, cont-after}
 use Rattle.tasks.specs.Laws.Places.{ordinal-cont}
 use Rattle.runs.specs.Laws.Weights.{cont-inside}
-use Rattle.numbers.specs.Answers.{childrenIn, childrenBetween}
+use Rattle.events.specs.Numbers.{childrenIn, childrenBetween}
 use Rattle.live.specs.Tie.{Hops}
 
 -- ---- scans

@@ -19,10 +19,9 @@ use Rattle.runs.specs.Laws.Phase.{held-within, oldest-within}
 use Rattle.runs.specs.Laws.Waiting.{run-more}
 use Rattle.runs.specs.Laws.Moves.{some-stack, holds-some, rich-holds, held-facts, onward, ran}
 use Rattle.runs.specs.Laws.Consequences.{steals-most, phases-count, pending-unrun}
-use Rattle.deques.specs.Answers.{marked, newestMark, oldestMark, popped, robbed}
-use Rattle.state.specs.declared.RunState.{RunState}
-use Rattle.running.specs.Answers.{heldNext, placeNext}
-use Rattle.state.specs.Answers.{stateOf, ranState, nextPhase, takenOrdinal, robbedState}
+use Rattle.events.specs.Deques.{marked, newestMark, oldestMark, popped, robbed}
+use Rattle.events.specs.Running.{heldNext, placeNext}
+use Rattle.events.specs.Moves.{Fields, fieldsOf, ranFields, nextPhase, takenOrdinal, robbedFields}
 use Rattle.live.specs.Tie.{HandShown, Shows}
 use Rattle.live.specs.Laws.Hands.{opened-shown, ended-nothing, ended-newest, ended-idle-shown, ended-shown, oldest-none, oldest-pusher, oldest-ordinal, robbed-shown, idle-none, thief-shown, other-shown, push-other, pop-other, rob-other, push-unrun, push-run, pop-unrun, pop-run, rob-unrun, popped-length, robbed-length}
 use Rattle.live.specs.Laws.Ready.{run-ready, steal-ready}
@@ -36,7 +35,7 @@ record Stored (ks before after : List ℕ) (w i : ℕ) : Type 0 where
   pub rest : (j : ℕ) → j < length ks → (j ≡ i → ⊥) → marked after 17 j ≡ marked before 17 j
 
 -- What is known before a move, of an accepted tree's kinds.
-pub record Known (p : ℕ) (ks : List ℕ) (s : RunState) (r : Run) : Type 0 where
+pub record Known (p : ℕ) (ks : List ℕ) (s : Fields) (r : Run) : Type 0 where
   pub some-step : 1 ≤ length ks
   pub most : length ks ≤ 4095
   pub shape : Shape (length ks) (endAt ks) (sizeAt ks)
@@ -44,13 +43,13 @@ pub record Known (p : ℕ) (ks : List ℕ) (s : RunState) (r : Run) : Type 0 whe
   pub shows : Shows p ks s r
 
 -- A steal by t from v: step q pushed what is stolen, and the next state shows the next run.
-pub record Stolen (p : ℕ) (ks : List ℕ) (s : RunState) (r : Run) (t v q : ℕ) : Type 0 where
+pub record Stolen (p : ℕ) (ks : List ℕ) (s : Fields) (r : Run) (t v q : ℕ) : Type 0 where
   pub found : oldestMark (s .place) v (getD (s .low) v 0) (length ks) ≡ some q
   pub taken : oldest (workerAt r v .hand .deque) ≡ pushes p ks q
   pub numbered : p ≡ workFirst → takenOrdinal s ks v q ≡ ordinal ks (pushes p ks q)
-  pub next : Shows p ks (robbedState s ks t v q) (steal r t v)
+  pub next : Shows p ks (robbedFields s ks t v q) (steal r t v)
 
-module _ {p : ℕ} {ks : List ℕ} {s : RunState} {r : Run} (known : Known p ks s r) where
+module _ {p : ℕ} {ks : List ℕ} {s : Fields} {r : Run} (known : Known p ks s r) where
   open Known known using (some-step, most, shape as sh, inv, shows)
 
   -- ---- what a worker holds
@@ -104,7 +103,7 @@ module _ {p : ℕ} {ks : List ℕ} {s : RunState} {r : Run} (known : Known p ks 
     stored-shows : (after : List ℕ) (h : ℕ) → Stored ks (s .place) after w i
         → HandShown p ks after w h (getD (s .low) w 0) (getD (s .base) w 0)
         (getD (s .phase) w 0) next
-        → Shows p ks (stateOf after (set (s .held) w h) (s .phase) (s .low) (s .base) (s .steals) (s .policy))
+        → Shows p ks (fieldsOf after (set (s .held) w h) (s .phase) (s .low) (s .base) (s .steals) (s .policy))
         (runStep p ks r w)
     unfolding runStep next marked ran onward
     stored-shows after h stored shown =
@@ -150,8 +149,8 @@ module _ {p : ℕ} {ks : List ℕ} {s : RunState} {r : Run} (known : Known p ks 
         rw (next-newest e (found .0) (found .1))
         (ended-shown p ks sh most _ (shows .places) w _ _ _ _ _ few hand i holding unrun e (found .0) (found .1))
 
-    shows-next : (b : Bool) → isEnd (kindAt ks i) ≡ b → Shows p ks (ranState s ks w i) (runStep p ks r w)
-    unfolding ranState placeNext next
+    shows-next : (b : Bool) → isEnd (kindAt ks i) ≡ b → Shows p ks (ranFields s ks w i) (runStep p ks r w)
+    unfolding ranFields placeNext next
     shows-next true e =
         rw e
         (stored-shows (popped (s .place) w (getD (s .low) w 0) i) (heldNext (s .policy) ks (s .place) w (getD (s .low) w 0) i) emptied
@@ -161,7 +160,7 @@ module _ {p : ℕ} {ks : List ℕ} {s : RunState} {r : Run} (known : Known p ks 
         (stored-shows (set (s .place) i w) (holds p ks i) pushed
         (opened-shown p ks sh most _ (shows .places) w _ _ _ _ _ few (shows .hands w few) i holding unrun e))
 
-    pub run-shows : Shows p ks (ranState s ks w i) (runStep p ks r w)
+    pub run-shows : Shows p ks (ranFields s ks w i) (runStep p ks r w)
     run-shows = shows-next (isEnd (kindAt ks i)) refl
 
   -- ---- a steal
@@ -244,8 +243,8 @@ module _ {p : ℕ} {ks : List ℕ} {s : RunState} {r : Run} (known : Known p ks 
           table-set p ks sh most _ _ _ _ _ _ victim-table after t step step (takenOrdinal s ks v q) (length (r .phases))
           thief places small thief-hand (λ u l n j b. refl)
 
-      shows-stolen : Shows p ks (robbedState s ks t v q) (steal r t v)
-      unfolding robbedState steal victim thief step after marked
+      shows-stolen : Shows p ks (robbedFields s ks t v q) (steal r t v)
+      unfolding robbedFields steal victim thief step after marked
       shows-stolen =
           let taken : pushes (s .policy) ks q ≡ step = ap (λ (x : ℕ). pushes x ks q) (shows .policy) ∙ sym pushed-by in
           let stolen : Steal = record { thief = t; victim = v; step = step } in

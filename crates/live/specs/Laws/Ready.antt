@@ -21,8 +21,8 @@ use Rattle.runs.specs.Laws.Weights.{span, self-same, span-weighs, span-most, sp
 use Rattle.runs.specs.Laws.Waiting.{waits-no-longer, child-never-waits, async-never-waits, run-stays}
 use Rattle.runs.specs.Laws.Phase.{phase-runs, after-ended, after-kept}
 use Rattle.runs.specs.Laws.Moves.{sum-one, getD-alike, log-own, some-holds, held-facts, onward, ran, ran-here, ran-other, begin-new, begin-robbed, begin-other, enriched, lightened, steal-thief, steal-other, steal-victim}
-use Rattle.state.specs.declared.RunState.{RunState}
-use Rattle.running.specs.Answers.{waitsFor}
+use Rattle.events.specs.Running.{waitsFor}
+use Rattle.events.specs.Moves.{Fields}
 use Rattle.live.specs.Tie.{Line, PushedBelow, Ready, AllReady, Shows}
 use Rattle.live.specs.Laws.Scans.{waits-shown}
 use Rattle.live.specs.Laws.Hands.{line-low, line-step}
@@ -309,7 +309,7 @@ module _ (p : ℕ) (ks : List ℕ) (sh : Shape (length ks) (endAt ks) (sizeAt ks
 -- ---- the theorem
 
 -- On a state that shows a run: a worker whose held step is not its `low` does not wait.
-pub never-waits : (p : ℕ) (ks : List ℕ) → length ks ≤ 4095 → (s : RunState) (r : Run) → Shows p ks s r → (w : ℕ) → w < mostWorkers
+pub never-waits : (p : ℕ) (ks : List ℕ) → length ks ≤ 4095 → (s : Fields) (r : Run) → Shows p ks s r → (w : ℕ) → w < mostWorkers
     → getD (s .held) w 0 < length ks → (getD (s .held) w 0 ≡ getD (s .low) w 0 → ⊥) → waitsFor ks (s .place) (getD (s .held) w 0) ≡ false
 never-waits p ks most s r shows w few within apart = by (workerAt r w .hand .held) refl
   where

@@ -11,9 +11,9 @@ use lib.Dec.{eqb}
 use Rattle.rules.specs.Bytes.{count, all}
 use Rattle.rules.specs.Tree.{finishBefore}
 use Rattle.rules.specs.Scheduling.{Entry, hasRun, waits}
-use Rattle.deques.specs.Laws.Marks.{newest-turn, newest-done, oldest-turn, oldest-done}
-use Rattle.deques.specs.Answers.{marked, newestMark, oldestMark}
-use Rattle.running.specs.Answers.{allRun, waitsFor}
+use Rattle.events.specs.Laws.Marks.{newest-turn, newest-done, oldest-turn, oldest-done}
+use Rattle.events.specs.Deques.{marked, newestMark, oldestMark}
+use Rattle.events.specs.Running.{allRun, waitsFor}
 
 -- ---- marks
 

@@ -14,8 +14,8 @@ use Rattle.rules.specs.Scheduling.{mostWorkers, Worker, Run, idleWorker, worker
 use Rattle.tasks.specs.Laws.Shape.{Shape}
 use Rattle.tasks.specs.Laws.Frames.{endAt, sizeAt}
 use Rattle.tasks.specs.Laws.Places.{root-first}
-use Rattle.deques.specs.Answers.{marked}
-use Rattle.state.specs.declared.RunState.{RunState}
+use Rattle.events.specs.Deques.{marked}
+use Rattle.events.specs.Moves.{Fields}
 use Rattle.live.specs.Tie.{HandShown, AllReady, Shows}
 use Rattle.live.specs.Laws.Hands.{other-shown}
 
@@ -28,7 +28,7 @@ pub record Table (p : ℕ) (ks place helds lows bases phases : List ℕ) (worker
       → HandShown p ks place u (getD helds u 0) (getD lows u 0) (getD bases u 0) (getD phases u 0) (getD workers u idleWorker)
 
 -- What a state shows of a run is the tables and four facts more.
-module _ (p : ℕ) (ks : List ℕ) (s : RunState) (r : Run) where
+module _ (p : ℕ) (ks : List ℕ) (s : Fields) (r : Run) where
   abbrev pub Tables : Type 0
   Tables = Table p ks (s .place) (s .held) (s .low) (s .base) (s .phase) (r .workers)
 

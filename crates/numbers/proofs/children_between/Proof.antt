@@ -5,7 +5,7 @@ use mathlib.Core.Path.{sym, _∙_}
 use native.Mathlib.Omega.{arith}
 use Rattle.rules.specs.Tree.{kinds}
 use Rattle.tree.specs.Laws.Records.{length-kinds, kind-at}
-use Rattle.numbers.specs.Laws.Children.{Counted, counted-start, counted-end, counted-child, counted-inner, counted-done}
+use Rattle.events.specs.Laws.Children.{Counted, counted-start, counted-end, counted-child, counted-inner, counted-done}
 use Rattle.numbers.proofs.children_between.Statement.{statement}
 use Rattle.numbers.proofs.children_between.Tie as tie
 

@@ -3,7 +3,7 @@ use mathlib.Core.Path.{ap, _∙_}
 use Prim.Native.Nat.{ℕ, _+_, _%_}
 use native.Mathlib.Omega.{arith}
 use Rattle.rules.specs.Tree.{kinds}
-use Rattle.numbers.specs.Laws.Numbers.{ordinal-counted, ordinal-uncounted}
+use Rattle.events.specs.Laws.Numbers.{ordinal-counted, ordinal-uncounted}
 use borrow.Author.Needs.{needs}
 use Rattle.numbers.proofs.ordinal_from.Statement.{statement}
 use Rattle.numbers.proofs.ordinal_from.Tie as tie

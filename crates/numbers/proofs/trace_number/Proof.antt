@@ -1,5 +1,5 @@
 -- `numbers::trace_number` meets its contract: an ordinal under work-first, else the serial number. Assumes nothing.
-use Rattle.numbers.specs.Laws.Numbers.{number-ordinal, number-serial}
+use Rattle.events.specs.Laws.Numbers.{number-ordinal, number-serial}
 use Rattle.numbers.proofs.trace_number.Statement.{statement}
 use Rattle.numbers.proofs.trace_number.Tie as tie
 

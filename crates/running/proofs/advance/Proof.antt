@@ -5,10 +5,10 @@ use mathlib.Core.Option.{some}
 use native.Mathlib.Omega.{arith}
 use lib.ListN.{length}
 use Rattle.rules.specs.Tree.{kinds, kindAt}
-use Rattle.deques.specs.Answers.{newestMark}
-use Rattle.deques.specs.Laws.Marks.{found-at, found-nothing, newest-before}
+use Rattle.events.specs.Deques.{newestMark}
+use Rattle.events.specs.Laws.Marks.{found-at, found-nothing, newest-before}
 use Rattle.policy.specs.Laws.Parts.{holds-most, pushes-most}
-use Rattle.running.specs.Laws.Running.{next-opens, place-opens, next-pops, next-ends, place-ends}
+use Rattle.events.specs.Laws.Running.{next-opens, place-opens, next-pops, next-ends, place-ends}
 use borrow.Author.Needs.{needs}
 use Rattle.running.proofs.advance.Statement.{statement}
 use Rattle.running.proofs.advance.Tie as tie

@@ -2,7 +2,7 @@
 -- Assumes nothing.
 use Prim.Native.Nat.{_-_}
 use native.Mathlib.Omega.{arith}
-use Rattle.running.specs.Laws.Waiting.{Counted, counted-start, counted-unrun, counted-run, counted-done}
+use Rattle.events.specs.Laws.Waiting.{Counted, counted-start, counted-unrun, counted-run, counted-done}
 use Rattle.running.proofs.all_run.Statement.{statement}
 use Rattle.running.proofs.all_run.Tie as tie
 

@@ -4,9 +4,9 @@ use mathlib.Core.Path.{_≡_, sym, subst, _∙_}
 use mathlib.Core.Bool.{false}
 use lib.ListN.{length}
 use Rattle.rules.specs.Tree.{kinds}
-use Rattle.running.specs.Answers.{waitsFor, runNumber}
-use Rattle.running.specs.Laws.Waiting.{waits-at-low}
-use Rattle.running.specs.Laws.Running.{judged-worker, judged-long, judged-idle, judged-waits, judged-runs}
+use Rattle.events.specs.Running.{waitsFor, runNumber}
+use Rattle.events.specs.Laws.Waiting.{waits-at-low}
+use Rattle.events.specs.Laws.Running.{judged-worker, judged-long, judged-idle, judged-waits, judged-runs}
 use borrow.Author.Needs.{needs}
 use borrow.Author.Tests.{not-true}
 use Rattle.running.proofs.judge_run.Statement.{statement}

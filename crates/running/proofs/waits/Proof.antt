@@ -2,7 +2,7 @@
 use mathlib.Core.Path.{sym, ap, _∙_}
 use mathlib.Core.Bool.{Bool, not}
 use Rattle.rules.specs.Tree.{kinds}
-use Rattle.running.specs.Laws.Waiting.{waits-found, waits-nothing}
+use Rattle.events.specs.Laws.Waiting.{waits-found, waits-nothing}
 use borrow.Author.Needs.{needs}
 use Rattle.running.proofs.waits.Statement.{statement}
 use Rattle.running.proofs.waits.Tie as tie

@@ -1,6 +1,6 @@
 -- `starts::first_state` meets its contract: it is written out. Assumes nothing.
 use mathlib.Core.Path.{refl}
-use Rattle.state.specs.Answers.{fresh}
+use Rattle.events.specs.Moves.{fresh}
 use borrow.Author.Needs.{needs}
 use Rattle.starts.proofs.first_state.Statement.{statement}
 use Rattle.starts.proofs.first_state.Tie as tie

@@ -3,7 +3,7 @@ use Prim.Native.Nat.{ℕ, _≤_, _<_}
 use mathlib.Core.Path.{subst}
 use lib.ListN.{length}
 use Rattle.rules.specs.Tree.{kinds}
-use Rattle.stealing.specs.Laws.Stealing.{judged-thief, judged-victim, judged-long, judged-busy, judged-idle}
+use Rattle.events.specs.Laws.Stealing.{judged-thief, judged-victim, judged-long, judged-busy, judged-idle}
 use borrow.Author.Needs.{needs}
 use Rattle.stealing.proofs.judge_steal.Statement.{statement}
 use Rattle.stealing.proofs.judge_steal.Tie as tie

@@ -5,10 +5,10 @@ use mathlib.Core.Option.{Option, some}
 use native.Mathlib.Omega.{arith}
 use lib.ListN.{length}
 use Rattle.rules.specs.Tree.{kinds}
-use Rattle.deques.specs.Answers.{oldestMark, pusherOf, robbed}
-use Rattle.deques.specs.Laws.Marks.{pusher-at, pusher-nothing, oldest-before}
+use Rattle.events.specs.Deques.{oldestMark, pusherOf, robbed}
+use Rattle.events.specs.Laws.Marks.{pusher-at, pusher-nothing, oldest-before}
 use Rattle.policy.specs.Laws.Parts.{pushes-most}
-use Rattle.stealing.specs.Laws.Stealing.{takes-nothing, takes-step}
+use Rattle.events.specs.Laws.Stealing.{takes-nothing, takes-step}
 use borrow.Author.Needs.{needs}
 use Rattle.stealing.proofs.take_step.Statement.{statement}
 use Rattle.stealing.proofs.take_step.Tie as tie

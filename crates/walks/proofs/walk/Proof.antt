@@ -6,8 +6,7 @@ use native.Mathlib.Omega.{arith}
 use lib.ListN.{length, getD}
 use borrow.Author.Needs.{needs}
 use Rattle.rules.specs.Tree.{kinds}
-use Rattle.state.specs.declared.RunState.{RunState}
-use Rattle.state.specs.Answers.{stateOf}
+use Rattle.events.specs.Moves.{Fields, fieldsOf}
 use Rattle.live.specs.Laws.Hints.{shows-hints}
 use Rattle.tables.specs.Laws.Fronts.{start-frame}
 use Rattle.walks.specs.Laws.Recording.{Recording}
@@ -17,7 +16,7 @@ use Rattle.walks.proofs.walk.Tie as tie
 
 abbrev Inv-loop : tie.InvT-loop
 Inv-loop tree ends openers sums policy events log₀ trace₀ n place₀ held₀ latest₀ low₀ base₀ steals₀ loads₀ logs₀ k₀ log trace place held latest low base steals loads logs k =
-    (k ≤ length events / 2) × Recording policy tree events k (stateOf place held latest low base steals policy) log trace loads logs steals
+    (k ≤ length events / 2) × Recording policy tree events k (fieldsOf place held latest low base steals policy) log trace loads logs steals
 
 abbrev μ-loop : tie.MeasureT-loop
 μ-loop tree ends openers sums policy events log₀ trace₀ n place₀ held₀ latest₀ low₀ base₀ steals₀ loads₀ logs₀ k₀ log trace place held latest low base steals loads logs k =
@@ -49,10 +48,10 @@ lent-trace : (c : tie.At-loop Inv-loop μ-loop) → length (c .loop .trace) ≡ 
 lent-trace c = c .loop .inv .1 .traceRoom ∙ sym (entry c .pre .1 .1 .1 .1 .1)
 
 -- The state before an event.
-abbrev state : tie.At-loop Inv-loop μ-loop → RunState
+abbrev state : tie.At-loop Inv-loop μ-loop → Fields
 state c =
     let l = c .loop in
-    stateOf (l .place) (l .held) (l .latest) (l .low) (l .base) (l .steals) (entry c .args .policy)
+    fieldsOf (l .place) (l .held) (l .latest) (l .low) (l .base) (l .steals) (entry c .args .policy)
 
 -- ---- a turn
 
@@ -60,10 +59,10 @@ abbrev top : tie.After-event-on Inv-loop μ-loop → tie.At-loop Inv-loop μ-loo
 top c = c .before .before .before .before .before .before .before .before .before
 
 -- The state after the event.
-abbrev next : tie.After-event-on Inv-loop μ-loop → RunState
+abbrev next : tie.After-event-on Inv-loop μ-loop → Fields
 next c =
     let r = c .event-on .last .1 .1 .1 in
-    stateOf (r .0) (r .1 .0) (r .1 .1 .0) (r .1 .1 .1 .0) (r .1 .1 .1 .1 .0) (c .event-on .result .steals) (entry (top c) .args .policy)
+    fieldsOf (r .0) (r .1 .0) (r .1 .1 .0) (r .1 .1 .1 .0) (r .1 .1 .1 .1 .0) (c .event-on .result .steals) (entry (top c) .args .policy)
 
 turn : (c : tie.After-event-on Inv-loop μ-loop)
     → let at = top c in
@@ -78,7 +77,7 @@ turn c =
       more = c .before .before .before .before .before .before .before .before .loop-test .taken;
       first = refl;
       second = refl;
-      answers = c .event-on .ensures;
+      moved = c .event-on .ensures;
     }
 
 -- It has run a step, or stolen one.

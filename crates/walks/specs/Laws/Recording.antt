@@ -27,12 +27,11 @@ use Rattle.runs.specs.Laws.Weights.{span}
 use Rattle.runs.specs.Laws.Moves.{sum-one, ran as ranBy, run-is, begin-length, begin-robbed, enriched, steal-thief, victim-rich, first-within, second-within, run-held, event-runs, event-steals}
 use Rattle.runs.specs.Laws.Always.{start-invariant, event-keeps}
 use Rattle.runs.specs.Laws.Consequences.{covered-once, runs-most, steals-most}
-use Rattle.state.specs.declared.RunState.{RunState}
-use Rattle.numbers.specs.declared.TraceNumber.{TraceNumber}
-use Rattle.state.specs.declared.Outcome.{Outcome}
-use Rattle.state.specs.declared.Outcome.the-variants.{Ran, Stole, Refused}
-use Rattle.numbers.specs.Answers.{numberValue}
-use Rattle.state.specs.Answers.{fresh, eventAnswer}
+use Rattle.events.specs.declared.TraceNumber.{TraceNumber}
+use Rattle.events.specs.declared.Outcome.{Outcome}
+use Rattle.events.specs.declared.Outcome.the-variants.{Ran, Stole, Refused}
+use Rattle.events.specs.Numbers.{numberValue}
+use Rattle.events.specs.Moves.{Fields, fresh, eventMove}
 use Rattle.walks.specs.declared.Ended.{Ended}
 use Rattle.live.specs.Tie.{Shows, heldStep, told}
 use Rattle.live.specs.Follows.{number-traced}
@@ -48,7 +47,7 @@ use Rattle.loads.specs.Laws.Loads.{partWeight, start-loads, Takes, begin-loads,
 abbrev pub Front : List ℕ → List ℕ → Type 0
 Front bytes buffer = take (length bytes) buffer ≡ bytes
 
-pub record Recording (p : ℕ) (tree events : List ℕ) (k : ℕ) (s : RunState) (log trace ls : List ℕ) (logs steals : ℕ) : Type 0 where
+pub record Recording (p : ℕ) (tree events : List ℕ) (k : ℕ) (s : Fields) (log trace ls : List ℕ) (logs steals : ℕ) : Type 0 where
   pub run : Run
   pub walked : recordWalk mostWorkers p (kinds tree) (records 2 events)
       ≡ walk (judgeEvent (kinds tree)) (nextRun p (kinds tree)) k run (drop k (records 2 events))
@@ -156,7 +155,7 @@ module _ (p : ℕ) (tree events : List ℕ) (accepts : startVerdict p tree .numb
   frame : Frame tree
   frame = accepted-frame tree (start-tree-accepts p tree accepts)
 
-  known : (s : RunState) (r : Run) → Invariant p (kinds tree) r → Shows p (kinds tree) s r → Known p (kinds tree) s r
+  known : (s : Fields) (r : Run) → Invariant p (kinds tree) r → Shows p (kinds tree) s r → Known p (kinds tree) s r
   known s r inv shows = record { some-step = frame .some; most = frame .most; shape = frame .shape; inv = inv; shows = shows }
 
   pub recording-start : (log trace : List ℕ) → length log ≡ 16380 → length trace ≡ 8188
@@ -179,7 +178,7 @@ module _ (p : ℕ) (tree events : List ℕ) (accepts : startVerdict p tree .numb
         whole = omega arith;
       }
 
-  module _ (k : ℕ) (s : RunState) (log trace ls : List ℕ) (logs steals : ℕ) (so : Recording p tree events k s log trace ls logs steals) where
+  module _ (k : ℕ) (s : Fields) (log trace ls : List ℕ) (logs steals : ℕ) (so : Recording p tree events k s log trace ls logs steals) where
     -- All events are done.
     pub recording-done : length events / 2 ≤ k
         → recordWalk mostWorkers p (kinds tree) (records 2 events) ≡ record { verdict = accepted; state = so .run }
@@ -201,11 +200,11 @@ module _ (p : ℕ) (tree events : List ℕ) (accepts : startVerdict p tree .numb
       second-byte = field-at 2 events k 1 more (omega arith) ∙ sym second
 
       -- Its outcome is the rules' word.
-      tells : eventAnswer s tree a b .outcome ≡ told p (kinds tree) (so .run) event
+      tells : eventMove s tree a b .outcome ≡ told p (kinds tree) (so .run) event
       tells = rw (first-byte, second-byte) at (event-tells p tree frame s (so .run) (so .invariant) (so .shows) event)
 
       -- It is refused.
-      pub event-refused : (x : ℕ) → eventAnswer s tree a b .outcome ≡ Refused x
+      pub event-refused : (x : ℕ) → eventMove s tree a b .outcome ≡ Refused x
           → (_≡_ {A = Verdict} (record { number = x; position = k }) (recordWalk mostWorkers p (kinds tree) (records 2 events) .verdict))
           × (x ≡ 0 → ⊥)
       event-refused x e =
@@ -228,21 +227,21 @@ module _ (p : ℕ) (tree events : List ℕ) (accepts : startVerdict p tree .numb
         unfolding eventCall
         called = rw fine to
 
-        next-known : Known p (kinds tree) (eventAnswer s tree a b .state) next
+        next-known : Known p (kinds tree) (eventMove s tree a b .after) next
         next-known =
-            known (eventAnswer s tree a b .state) next
+            known (eventMove s tree a b .after) next
             (rw called at (event-keeps p (kinds tree) (frame .some) (frame .shape) (so .run) (so .invariant) event))
             (rw (called, first-byte, second-byte) at (event-shows p tree frame s (so .run) (so .invariant) (so .shows) event))
 
       -- It runs a step.
-      module _ (phase step : ℕ) (ran : eventAnswer s tree a b .outcome ≡ Ran (record { 0 = phase }) (record { 0 = step })) where
+      module _ (phase step : ℕ) (ran : eventMove s tree a b .outcome ≡ Ran (record { 0 = phase }) (record { 0 = step })) where
         runs : Runs p (kinds tree) (so .run) event a phase step
         runs = rw first-byte at (told-run p (kinds tree) (so .run) event phase step (sym tells ∙ ran))
 
         abbrev ran-run : Run
         ran-run = ranBy p (kinds tree) (so .run) a step
 
-        ran-known : Known p (kinds tree) (eventAnswer s tree a b .state) ran-run
+        ran-known : Known p (kinds tree) (eventMove s tree a b .after) ran-run
         ran-known = next-known (runs .fine) ran-run (runs .next)
 
         ran-count : logs + 1 ≡ length (ran-run .log)
@@ -253,7 +252,7 @@ module _ (p : ℕ) (tree events : List ℕ) (accepts : startVerdict p tree .numb
         pub ran-room : logs < length (kinds tree)
         ran-room = omega (arith, ran-count, runs-most p (kinds tree) (frame .some) (frame .shape) ran-run (ran-known .inv))
 
-        pub ran-next : Recording p tree events (k + 1) (eventAnswer s tree a b .state)
+        pub ran-next : Recording p tree events (k + 1) (eventMove s tree a b .after)
             (recordPut log logs (phase % 256) (phase / 256 % 256) step) trace ls (logs + 1) steals
         unfolding ranBy
         ran-next =
@@ -276,8 +275,8 @@ module _ (p : ℕ) (tree events : List ℕ) (accepts : startVerdict p tree .numb
             }
 
       -- It steals one, which the thief then holds.
-      module _ (number : TraceNumber) (stole : eventAnswer s tree a b .outcome ≡ Stole number) (step : ℕ)
-          (held : step ≡ getD (eventAnswer s tree a b .state .held) a 0) where
+      module _ (number : TraceNumber) (stole : eventMove s tree a b .outcome ≡ Stole number) (step : ℕ)
+          (held : step ≡ getD (eventMove s tree a b .after .held) a 0) where
         theft : Steals p (kinds tree) (so .run) event a b (numberValue number)
         theft = rw (first-byte, second-byte) at (told-steal p (kinds tree) (so .run) event number (sym tells ∙ stole))
 
@@ -293,7 +292,7 @@ module _ (p : ℕ) (tree events : List ℕ) (accepts : startVerdict p tree .numb
         abbrev stole-run : Run
         stole-run = steal (so .run) a b
 
-        stole-known : Known p (kinds tree) (eventAnswer s tree a b .state) stole-run
+        stole-known : Known p (kinds tree) (eventMove s tree a b .after) stole-run
         stole-known = next-known (theft .fine) stole-run (theft .next)
 
         stole-count : steals + 1 ≡ length (stole-run .steals)
@@ -374,7 +373,7 @@ module _ (p : ℕ) (tree events : List ℕ) (accepts : startVerdict p tree .numb
         unfolding steal
         stole-whole = begin-whole (kinds tree) (weights tree) (frame .shape) takes ∙ rw (so .loaded) at (so .whole)
 
-        pub stole-next : Recording p tree events (k + 1) (eventAnswer s tree a b .state) log
+        pub stole-next : Recording p tree events (k + 1) (eventMove s tree a b .after) log
             (recordPut trace steals a b (numberValue number))
             (loadMoved ls a b (partWeight (kinds tree) (weights tree) step)) logs (steals + 1)
         unfolding steal
@@ -404,4 +403,4 @@ module _ (p : ℕ) (tree events : List ℕ) (accepts : startVerdict p tree .numb
 pub record Walks (p : ℕ) (tree events : List ℕ) (w : Ended) (log trace : List ℕ) : Type 0 where
   pub verdict : _≡_ {A = Verdict} (record { number = w .number; position = w .position })
       (recordWalk mostWorkers p (kinds tree) (records 2 events) .verdict)
-  pub recorded : w .number ≡ 0 → (s : RunState) × Recording p tree events (length events / 2) s log trace (w .loads) (w .logs) (w .steals)
+  pub recorded : w .number ≡ 0 → (s : Fields) × Recording p tree events (length events / 2) s log trace (w .loads) (w .logs) (w .steals)

@@ -9,13 +9,11 @@ use Rattle.rules.specs.Tree.{kinds, weights}
 use Rattle.rules.specs.Scheduling.{Run}
 use Rattle.rules.specs.Calls.{startVerdict}
 use Rattle.tables.specs.Answers.{Ends, Sums, weightBefore}
-use Rattle.state.specs.declared.RunState.{RunState}
-use Rattle.numbers.specs.declared.TraceNumber.{TraceNumber}
-use Rattle.state.specs.declared.Outcome.{Outcome}
-use Rattle.state.specs.declared.Outcome.the-variants.{Ran, Stole, Refused}
-use Rattle.state.specs.declared.Answer.{Answer}
-use Rattle.numbers.specs.Answers.{numberValue}
-use Rattle.state.specs.Answers.{stateOf, answerOf, fresh, eventAnswer}
+use Rattle.events.specs.declared.TraceNumber.{TraceNumber}
+use Rattle.events.specs.declared.Outcome.{Outcome}
+use Rattle.events.specs.declared.Outcome.the-variants.{Ran, Stole, Refused}
+use Rattle.events.specs.Numbers.{numberValue}
+use Rattle.events.specs.Moves.{Fields, Move, fieldsOf, moveOf, fresh, eventMove}
 use Rattle.outputs.specs.Answers.{recordPut}
 use Rattle.balance.specs.Answers.{loadMoved}
 use Rattle.tree.specs.declared.Phase.{Phase}
@@ -26,15 +24,15 @@ use Rattle.tables.specs.Laws.Fronts.{start-frame}
 use Rattle.walks.specs.Laws.Recording.{Recording, Walks, recording-start, recording-done, event-refused, ran-room, ran-next, stole-room, stole-weight, stole-next}
 
 -- What holds of a state holds of an equal one, and the count of steals is the state's.
-at-state : {p : ℕ} {tree events : List ℕ} {k : ℕ} {s : RunState} {log trace ls : List ℕ} {logs steals : ℕ} (after : RunState) → s ≡ after
+at-state : {p : ℕ} {tree events : List ℕ} {k : ℕ} {s : Fields} {log trace ls : List ℕ} {logs steals : ℕ} (after : Fields) → s ≡ after
     → Recording p tree events k s log trace ls logs steals → Recording p tree events k after log trace ls logs (after .steals)
 at-state {p} {tree} {events} {k} {s} {log} {trace} {ls} {logs} after e so =
-    subst (λ (x : RunState). Recording p tree events k x log trace ls logs (x .steals)) e
+    subst (λ (x : Fields). Recording p tree events k x log trace ls logs (x .steals)) e
     (rw (so .stealCount ∙ sym (so .shows .steals)) at so)
 
 -- The arrays that the walk begins with are those of a start.
 pub fresh-arrays : (p : ℕ)
-    → stateOf (replicate 4095 17) (set (replicate 16 65535) 0 0) (replicate 16 0) (replicate 16 0) (replicate 16 0) 0 p ≡ fresh p
+    → fieldsOf (replicate 4095 17) (set (replicate 16 65535) 0 0) (replicate 16 0) (replicate 16 0) (replicate 16 0) 0 p ≡ fresh p
 unfolding fresh
 fresh-arrays p = refl
 
@@ -42,14 +40,14 @@ fresh-arrays p = refl
 pub turn-start : (p : ℕ) (tree events : List ℕ) → startVerdict p tree .number ≡ 0
     → (sums : List ℕ) → Sums (weights tree) sums (length (kinds tree)) → (n : ℕ) → n ≡ length (kinds tree)
     → (log trace : List ℕ) → length log ≡ 16380 → length trace ≡ 8188
-    → (s : RunState) → s ≡ fresh p → (ls : List ℕ) → ls ≡ set (replicate 16 0) 0 (getD sums n 0)
+    → (s : Fields) → s ≡ fresh p → (ls : List ℕ) → ls ≡ set (replicate 16 0) 0 (getD sums n 0)
     → Recording p tree events 0 s log trace ls 0 (s .steals)
 turn-start p tree events accepts sums right n m log trace h l s e ls f =
     rw (f, m, right (length (kinds tree)) (omega arith))
     (at-state s (sym e) (recording-start p tree events accepts log trace h l))
 
 -- The end.
-pub turn-done : {p : ℕ} {tree events : List ℕ} {k : ℕ} {s : RunState} {log trace ls : List ℕ} {logs : ℕ}
+pub turn-done : {p : ℕ} {tree events : List ℕ} {k : ℕ} {s : Fields} {log trace ls : List ℕ} {logs : ℕ}
     → startVerdict p tree .number ≡ 0 → Recording p tree events k s log trace ls logs (s .steals)
     → k ≤ length events / 2 → length events / 2 ≤ k
     → Walks p tree events (record { number = 0; position = 0; logs = logs; steals = s .steals; loads = ls }) log trace
@@ -62,14 +60,14 @@ turn-done {p} {tree} {events} {k} {s} {log} {trace} {ls} {logs} accepts so h l =
     }
 
 -- Event k, of bytes a and b, with outcome o and the state after it.
-pub record Turn (p : ℕ) (tree events : List ℕ) (k : ℕ) (s : RunState) (log trace ls : List ℕ) (logs a b : ℕ) (o : Outcome) (after : RunState)
+pub record Turn (p : ℕ) (tree events : List ℕ) (k : ℕ) (s : Fields) (log trace ls : List ℕ) (logs a b : ℕ) (o : Outcome) (after : Fields)
     : Type 0 where
   pub accepts : startVerdict p tree .number ≡ 0
   pub so : Recording p tree events k s log trace ls logs (s .steals)
   pub more : k < length events / 2
   pub first : a ≡ getD events (2 * k) 0
   pub second : b ≡ getD events (2 * k + 1) 0
-  pub answers : answerOf o after ≡ eventAnswer s tree a b
+  pub moved : moveOf o after ≡ eventMove s tree a b
 
 -- The tables from which a stolen part's weight is read.
 pub record Weighed (tree ends sums : List ℕ) : Type 0 where
@@ -79,13 +77,13 @@ pub record Weighed (tree ends sums : List ℕ) : Type 0 where
   pub added : Sums (weights tree) sums (length (kinds tree))
   pub light : weightBefore (weights tree) (length (kinds tree)) < 18446744073709551616
 
-module _ {p : ℕ} {tree events : List ℕ} {k : ℕ} {s : RunState} {log trace ls : List ℕ} {logs a b : ℕ} {o : Outcome} {after : RunState}
+module _ {p : ℕ} {tree events : List ℕ} {k : ℕ} {s : Fields} {log trace ls : List ℕ} {logs a b : ℕ} {o : Outcome} {after : Fields}
     (turn : Turn p tree events k s log trace ls logs a b o after) where
-  outcome : eventAnswer s tree a b .outcome ≡ o
-  outcome = sym (ap (λ (x : Answer). x .outcome) (turn .answers))
+  outcome : eventMove s tree a b .outcome ≡ o
+  outcome = sym (ap (λ (x : Move). x .outcome) (turn .moved))
 
-  state : eventAnswer s tree a b .state ≡ after
-  state = sym (ap (λ (x : Answer). x .state) (turn .answers))
+  state : eventMove s tree a b .after ≡ after
+  state = sym (ap (λ (x : Move). x .after) (turn .moved))
 
   -- It is refused.
   pub turn-refused : (x : ℕ) → o ≡ Refused x → (loads : List ℕ) (mine yours : List ℕ)
@@ -111,8 +109,8 @@ module _ {p : ℕ} {tree events : List ℕ} {k : ℕ} {s : RunState} {log trace 
 
   -- It has stolen one, which the thief holds now.
   module _ {number : TraceNumber} (stole : o ≡ Stole number) (step : ℕ) (held : step ≡ getD (after .held) a 0) where
-    taken : step ≡ getD (eventAnswer s tree a b .state .held) a 0
-    taken = held ∙ ap (λ (x : RunState). getD (x .held) a 0) (sym state)
+    taken : step ≡ getD (eventMove s tree a b .after .held) a 0
+    taken = held ∙ ap (λ (x : Fields). getD (x .held) a 0) (sym state)
 
     room : (a < 16) × (b < 16) × (a ≡ b → ⊥) × (2 * s .steals + 2 < length (kinds tree)) × (step < length (kinds tree))
     room = stole-room p tree events (turn .accepts) k s log trace ls logs (s .steals) (turn .so) (turn .more) a b (turn .first) (turn .second) number (outcome ∙ stole) step taken

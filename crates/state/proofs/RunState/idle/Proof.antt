@@ -1,5 +1,5 @@
 -- `RunState::idle` meets its contract: count of ones and trailing zeros of the set are its count and its lowest. Assumes nothing.
-use Rattle.state.specs.Laws.Idle.{idle-answers}
+use Rattle.state.specs.Laws.Cases.{idle-answers}
 use borrow.Author.Needs.{needs}
 use Rattle.state.proofs.RunState.idle.Statement.{statement}
 use Rattle.state.proofs.RunState.idle.Tie as tie

@@ -1,5 +1,6 @@
 -- `RunState::run` meets its contract: it lends its arrays to `run_on`, with empty tables. Assumes nothing.
-use Rattle.state.specs.Laws.Cases.{no-hints}
+use Rattle.events.specs.Laws.Moves.{no-hints}
+use Rattle.state.specs.Laws.Cases.{run-answers}
 use borrow.Author.Needs.{needs}
 use Rattle.state.proofs.RunState.run.Statement.{statement}
 use Rattle.state.proofs.RunState.run.Tie as tie
@@ -17,8 +18,8 @@ run-on-requires c κs =
 
 returns : tie.Need-returns
 returns c =
-    let s = c .before .before .before .before .before .before .before .before .before .before .before .args .self in
-    c .run-on .ensures (s .base) (s .steals)
+    let a = c .before .before .before .before .before .before .before .before .before .before .before .args in
+    run-answers (a .self) (a .tree .now) (a .worker) _ (c .run-on .ensures (a .self .base) (a .self .steals))
 
 pub run-spec : {M : Type 1} → statement M
 run-spec =

@@ -1,4 +1,5 @@
 -- `RunState::steal` meets its contract: it lends its arrays to `steal_on`, with an empty table. Assumes nothing.
+use Rattle.state.specs.Laws.Cases.{steal-answers}
 use borrow.Author.Needs.{needs}
 use Rattle.state.proofs.RunState.steal.Statement.{statement}
 use Rattle.state.proofs.RunState.steal.Tie as tie
@@ -10,7 +11,9 @@ steal-on-requires : tie.Need-steal-on-requires
 steal-on-requires c κs = search needs
 
 returns : tie.Need-returns
-returns c = c .steal-on .ensures
+returns c =
+    let a = c .before .before .before .before .before .before .before .before .before .before .before .before .args in
+    steal-answers (a .self) (a .tree .now) (a .thief) (a .victim) _ (c .steal-on .ensures)
 
 pub steal-spec : {M : Type 1} → statement M
 steal-spec = tie.close (tie.spec slice-aggregate-steal-on steal-on-requires returns)
