@@ -1,4 +1,5 @@
-//! Compiles the tuned baseline, and links it with the proved library's archive, which `rt staticlib frame` makes.
+//! Compiles the tuned baseline, and links it with the proved library's archives, which `rt staticlib` makes of the crates `frame`
+//! and `recorder`.
 
 use std::path::Path;
 use std::process::Command;
@@ -14,14 +15,16 @@ fn main() {
     let source = Path::new(&here).join("tuned.c");
     let object = Path::new(&out).join("tuned.o");
     let tuned = Path::new(&out).join("libtuned.a");
-    let frame = Path::new(&here).join("../target/staticlib/libframe.a");
-    let [source, object, tuned, frame] = [&source, &object, &tuned, &frame].map(|path| path.to_str().expect("a name in UTF-8"));
-    // The library's archive is for any x86-64, so this is too.
+    let [source, object, tuned] = [&source, &object, &tuned].map(|path| path.to_str().expect("a name in UTF-8"));
+    // The library's archives are for any x86-64, so this is too.
     let words = ["-std=c11", "-O3", "-march=x86-64", "-g", "-Wall", "-Wextra", "-Werror", "-c", source, "-o", object];
     run("gcc", &words);
     run("ar", &["rcs", tuned, object]);
     println!("cargo:rerun-if-changed={source}");
-    println!("cargo:rerun-if-changed={frame}");
     println!("cargo:rustc-link-arg={tuned}");
-    println!("cargo:rustc-link-arg={frame}");
+    for name in ["libframe.a", "librecorder.a"] {
+        let archive = Path::new(&here).join("../target/staticlib").join(name);
+        println!("cargo:rerun-if-changed={}", archive.display());
+        println!("cargo:rustc-link-arg={}", archive.display());
+    }
 }

@@ -20,8 +20,8 @@ use library::{
 const HEADER: &str = "include/frame.h";
 const RUST: &str = "tests/tests/library/mod.rs";
 /// The crates whose functions the archives export.
-const SOURCES: [&str; 2] = ["crates/frame/src/lib.rt", "crates/viewer/src/lib.rt"];
-/// The crate of the structs that `frame` answers.
+const SOURCES: [&str; 3] = ["crates/frame/src/lib.rt", "crates/recorder/src/lib.rt", "crates/viewer/src/lib.rt"];
+/// The crate of the structs that `frame` and `recorder` answer.
 const SOURCE_OF_ANSWERS: &str = "crates/flat/src/lib.rt";
 const SOURCE_OF_STATE: &str = "crates/state/src/lib.rt";
 

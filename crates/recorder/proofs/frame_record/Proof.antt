@@ -1,10 +1,10 @@
--- `frame::frame_record` meets its contract: it flattens what `record` answers. Assumes nothing.
+-- `recorder::frame_record` meets its contract: it flattens what `record` answers. Assumes nothing.
 use mathlib.Core.Path.{ap, _∙_}
 use Rattle.flat.specs.declared.FrameRecord.{FrameRecord}
 use Rattle.flat.specs.Answers.{flatRecord}
 use borrow.Author.Needs.{needs}
-use Rattle.frame.proofs.frame_record.Statement.{statement}
-use Rattle.frame.proofs.frame_record.Tie as tie
+use Rattle.recorder.proofs.frame_record.Statement.{statement}
+use Rattle.recorder.proofs.frame_record.Tie as tie
 
 record-requires : tie.Need-record-requires
 record-requires c κs = search needs

@@ -1,10 +1,10 @@
--- `frame::frame_replay` meets its contract: it flattens what `replay` answers. Assumes nothing.
+-- `recorder::frame_replay` meets its contract: it flattens what `replay` answers. Assumes nothing.
 use mathlib.Core.Path.{ap, _∙_}
 use Rattle.flat.specs.declared.FrameReplay.{FrameReplay}
 use Rattle.flat.specs.Answers.{flatReplay}
 use borrow.Author.Needs.{needs}
-use Rattle.frame.proofs.frame_replay.Statement.{statement}
-use Rattle.frame.proofs.frame_replay.Tie as tie
+use Rattle.recorder.proofs.frame_replay.Statement.{statement}
+use Rattle.recorder.proofs.frame_replay.Tie as tie
 
 replay-requires : tie.Need-replay-requires
 replay-requires c κs = search needs
