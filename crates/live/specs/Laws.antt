@@ -6,7 +6,7 @@
 --     Hints    tables of the tree serve the calls on a state that shows a run
 --     Tables   all workers beside each other: the start, and one worker's change
 --     Moves    an accepted run or steal: the next state shows the next run
---     Answers  a run's and a steal's answer beside the rules' verdict, case by case; a refusal keeps the state
+--     Answers  a run's and a steal's move beside the rules' verdict, case by case; a refusal keeps every field
 --     Events   each call on a state that shows a run: the start, an event, the idle workers
 pub mod Scans
 pub mod Hops
