@@ -10,6 +10,15 @@ use Rattle.rules.specs.Tree.{kinds}
 use Rattle.rules.specs.Calls.{mostEvents, mostTraceRecords, startVerdict}
 use Rattle.tree.specs.declared.Accepted.{Accepted}
 
+-- The refusal and position of a policy and a tree, or the tree's count of steps; what is not answered is 0.
+unfoldable pub admission : ℕ → List ℕ → Accepted
+admission p tree =
+    record {
+      number = startVerdict p tree .number;
+      position = startVerdict p tree .position;
+      steps = cond (eqb (startVerdict p tree .number) 0) (length (kinds tree)) 0;
+    }
+
 -- Refusals 1 to 7 of a call, by whether its records are whole and not too many, and whether a lent output is short.
 unfoldable pub givenVerdict : ℕ → List ℕ → Bool → Bool → Verdict
 givenVerdict p tree whole short = firstRefused (startVerdict p tree ∷ refusedIf (not whole) 6 0 ∷ refusedIf short 7 0 ∷ [])

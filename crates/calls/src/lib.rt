@@ -1,18 +1,42 @@
-// What a record or a replay call is given, judged before its events or its trace are walked (document 01, "Refusals"): policy, tree,
-// the length of the events or the trace, and the room of the lent outputs.
+// What a call is given, judged before any event or trace record is looked at (document 01, "Refusals"): policy and tree, the length
+// of the events or the trace, and the room of the lent outputs.
 ghost use mathlib.Core.Path.{_≡_};
 ghost use Prim.Native.Nat.{_≤_};
 ghost use Rattle.tree.specs.declared.Accepted.{Accepted};
-ghost use Rattle.calls.specs.Answers.{judged, tooShort, recordAdmitted, replayAdmitted};
+ghost use Rattle.calls.specs.Answers.{admission, judged, tooShort, recordAdmitted, replayAdmitted};
 use outputs::EVENT;
 use outputs::RECORD;
+use policy::HELP_FIRST;
+use policy::WORK_FIRST;
 use tree::Accepted;
+use validation::accept;
 
 // The most events of a record call.
 pub const MOST_EVENTS: usize = 8192;
 
 // The most records of a trace.
 pub const MOST_TRACE_RECORDS: usize = 2047;
+
+// Judges a policy and a tree: refusals 1 to 5, or how many steps the tree has.
+pub fn admit(tree: &[u8], policy: u8) -> Accepted
+    ensures { λ r. ⌜ r ≡ admission policy (now (tree .entry)) ⌝ }
+{
+    if policy < WORK_FIRST {
+        return Accepted {
+            number: 1,
+            position: 0,
+            steps: 0,
+        };
+    }
+    if HELP_FIRST < policy {
+        return Accepted {
+            number: 1,
+            position: 0,
+            steps: 0,
+        };
+    }
+    accept(tree)
+}
 
 // Judges in rising number, after the start: whether the call's records are whole and not too many, and whether a lent output is
 // short.
@@ -57,7 +81,7 @@ fn too_short(steps: usize, log: usize, trace: usize) -> bool
 pub fn admit_record(tree: &[u8], policy: u8, events: &[u8], log: usize, trace: usize) -> Accepted
     ensures { λ r. ⌜ r ≡ recordAdmitted policy (now (tree .entry)) (now (events .entry)) log trace ⌝ }
 {
-    let start = admission::admit(tree, policy);
+    let start = admit(tree, policy);
     let whole = outputs::whole_records(events, EVENT, MOST_EVENTS);
     let short = too_short(start.steps, log, trace);
     judge(start, whole, short)
@@ -67,7 +91,7 @@ pub fn admit_record(tree: &[u8], policy: u8, events: &[u8], log: usize, trace: u
 pub fn admit_replay(tree: &[u8], policy: u8, trace: &[u8], list: usize) -> Accepted
     ensures { λ r. ⌜ r ≡ replayAdmitted policy (now (tree .entry)) (now (trace .entry)) list ⌝ }
 {
-    let start = admission::admit(tree, policy);
+    let start = admit(tree, policy);
     let whole = outputs::whole_records(trace, RECORD, MOST_TRACE_RECORDS);
     let short = list < RECORD * start.steps;
     judge(start, whole, short)

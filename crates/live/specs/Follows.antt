@@ -13,7 +13,7 @@ use Rattle.rules.specs.Tree.{kinds, ordinal}
 use Rattle.rules.specs.Scheduling.{workFirst, mostWorkers, Run, start, idleSet, idleCount, idleLowest}
 use Rattle.rules.specs.Traces.{traceNumber}
 use Rattle.rules.specs.Calls.{startVerdict, eventCall, afterEvents}
-use Rattle.tasks.specs.Laws.Admission.{start-tree-accepts}
+use Rattle.tasks.specs.Laws.Starts.{start-tree-accepts}
 use Rattle.tasks.specs.Laws.Frames.{Frame, accepted-frame}
 use Rattle.runs.specs.Invariant.{Invariant}
 use Rattle.runs.specs.Laws.Always.{start-invariant, event-keeps, always}

@@ -1,3 +1,5 @@
 -- What need not be believed: everything here is proved from the definitions.
---     Parts   what running an opening step holds and pushes, case by case
+--     Parts     what running an opening step holds and pushes, case by case
+--     Running   what running a step does to its worker, case by case
 pub mod Parts
+pub mod Running

@@ -5,16 +5,25 @@ ghost use Prim.Native.Nat.{_<_};
 ghost use lib.ListN.{length};
 ghost use Rattle.rules.specs.Tree.{kinds};
 ghost use Rattle.rules.specs.Scheduling.{pushesChild, holds, pushes};
-ghost use Rattle.tasks.specs.Answers.{runningOf};
+ghost use Rattle.policy.specs.Answers.{runningOf};
 ghost use Rattle.tables.specs.Answers.{Ends};
 use lookup::cont_by;
-use tasks::HELP_FIRST;
-use tasks::Running;
 use tree::ASYNC;
 use tree::END;
 use tree::RECORD;
 use tree::Step;
 use tree::kind;
+
+// Policies.
+pub const WORK_FIRST: u8 = 1;
+
+pub const HELP_FIRST: u8 = 2;
+
+// What running a step does to its worker: it holds a step and pushes one, or it pops.
+pub enum Running {
+    Opens { hold: Step, push: Step },
+    Ends,
+}
 
 // Whether running an opening step of this kind pushes the child and goes on with the parent.
 pub fn pushes_child(policy: u8, kind: u8) -> bool

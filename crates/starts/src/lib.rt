@@ -43,7 +43,7 @@ fn first_state(policy: u8) -> RunState
 pub fn start(tree: &[u8], policy: u8) -> Started
     ensures { λ r. ⌜ r ≡ startAnswer policy (now (tree .entry)) ⌝ }
 {
-    let admitted = admission::admit(tree, policy);
+    let admitted = calls::admit(tree, policy);
     if admitted.number != 0 {
         return Started {
             number: admitted.number,

@@ -1,12 +1,11 @@
 -- What need not be believed: everything here is proved from the rules.
---     Admission   a policy and a tree, judged: each answer, and what an accepted start says of both
---     Scans       the forward scan to a child's end and the backward scan to a task's opening, as loops make them
---     Steps       the finish child before a step, and what running a step holds and pushes, case by case
---     Shape       trees over any count, test for ends and sizes: induction, nesting, odd sizes
---     Balance     lists of kinds that end their open tasks exactly at their end
---     Frames      an accepted tree: its length, shape, count of spawned tasks and open tasks
---     Places      the task, the ordinal and the finish child before a step, from the opening step that it is a part of
-pub mod Admission
+--     Scans     the forward scan to a child's end and the backward scan to a task's opening, as loops make them
+--     Steps     the finish child before a step, case by case
+--     Shape     trees over any count, test for ends and sizes: induction, nesting, odd sizes
+--     Starts    what an accepted start says of the policy and of the tree
+--     Balance   lists of kinds that end their open tasks exactly at their end
+--     Frames    an accepted tree: its length, shape, count of spawned tasks and open tasks
+--     Places    the task, the ordinal and the finish child before a step, from the opening step that it is a part of
 pub mod Scans
 pub mod Steps
 pub mod Shape

@@ -1,6 +1,5 @@
-// The task of a step and the step's ordinal in it (document 01, "The tree file"), and the answers on children and on running
-// that crates above give. Every function takes any bytes and any step, stays within the slice and ends; a scan reads only the
-// records between the step asked for and the answer.
+// The task of a step and the step's ordinal in it (document 01, "The tree file"), found by a scan. Every function takes any bytes
+// and any step, stays within the slice and ends; a scan reads only the records between the step asked for and the answer.
 ghost use mathlib.Core.Path.{_≡_};
 ghost use Rattle.rules.specs.Tree.{kinds, ordinal};
 ghost use Rattle.tasks.specs.Answers.{taskOf};
@@ -9,21 +8,10 @@ use tree::Ordinal;
 use tree::RECORD;
 use tree::Step;
 
-// Policies.
-pub const WORK_FIRST: u8 = 1;
-
-pub const HELP_FIRST: u8 = 2;
-
 // A finish child by its first step, or none.
 pub enum FinishChild {
     From(Step),
     Nothing,
-}
-
-// What running a step does to its worker: it holds a step and pushes one, or it pops.
-pub enum Running {
-    Opens { hold: Step, push: Step },
-    Ends,
 }
 
 // The task of a step, named by its first step, and the step's ordinal in it.

@@ -1,10 +1,13 @@
-// Whether a tree may be read (document 01, "Refusals"): its length, and each of its records while some tasks are open.
+// Whether a tree may be read (document 01, "Refusals"): its length, each of its records while some
+// tasks are open, and the whole of it.
 ghost use mathlib.Core.Path.{_≡_};
 ghost use mathlib.Core.List.{[]};
 ghost use Prim.Native.Nat.{_<_};
 ghost use lib.ListN.{length, getD};
+ghost use Rattle.tree.specs.Answers.{acceptance};
 ghost use Rattle.rules.specs.Tree.{kinds, treeRecords, wrongLength, wellFormed, judgeTreeRecord};
 use tree::ASYNC;
+use tree::Accepted;
 use tree::END;
 use tree::MOST_STEPS;
 use tree::RECORD;
@@ -59,4 +62,49 @@ pub fn judge(tree: &[u8], i: usize, depth: usize) -> u8
         return 5;
     }
     0
+}
+
+// Reads a tree whole: refusals 2 to 5, or how many steps it has.
+pub fn accept(tree: &[u8]) -> Accepted
+    ensures { λ r. ⌜ r ≡ acceptance (now (tree .entry)) ⌝ }
+{
+    if wrong_length(tree) {
+        return Accepted {
+            number: 2,
+            position: 0,
+            steps: 0,
+        };
+    }
+    let n = tree.len() / RECORD;
+    let mut i = 0;
+    let mut depth: usize = 1;
+    while i < n {
+        let number = judge(tree, i, depth);
+        if number != 0 {
+            return Accepted {
+                number,
+                position: i,
+                steps: 0,
+            };
+        }
+        let k = tree[RECORD * i];
+        i += 1;
+        if k == END {
+            depth -= 1;
+        } else {
+            depth += 1;
+        }
+    }
+    if depth != 0 {
+        return Accepted {
+            number: 5,
+            position: n,
+            steps: 0,
+        };
+    }
+    Accepted {
+        number: 0,
+        position: 0,
+        steps: n,
+    }
 }

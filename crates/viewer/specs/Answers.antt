@@ -4,8 +4,8 @@ use Rattle.tree.specs.declared.Accepted.{Accepted}
 use Rattle.tasks.specs.declared.Task.{Task}
 use Rattle.tasks.specs.declared.FinishChild.{FinishChild}
 use Rattle.tasks.specs.declared.FinishChild.the-variants.{From, Nothing}
-use Rattle.tasks.specs.declared.Running.{Running}
-use Rattle.tasks.specs.declared.Running.the-variants.{Opens, Ends}
+use Rattle.policy.specs.declared.Running.{Running}
+use Rattle.policy.specs.declared.Running.the-variants.{Opens, Ends}
 use Rattle.viewer.specs.declared.FrameTree.{FrameTree}
 use Rattle.viewer.specs.declared.FrameTask.{FrameTask}
 use Rattle.viewer.specs.declared.FrameRunning.{FrameRunning}

@@ -4,7 +4,8 @@ ghost use mathlib.Core.Path.{_≡_};
 ghost use lib.ListN.{getD};
 ghost use Rattle.rules.specs.Tree.{kinds, weights, kindAt, cont, finishBefore};
 ghost use Rattle.tree.specs.Answers.{acceptance};
-ghost use Rattle.tasks.specs.Answers.{taskOf, childOf, runningOf};
+ghost use Rattle.policy.specs.Answers.{runningOf};
+ghost use Rattle.tasks.specs.Answers.{taskOf, childOf};
 ghost use Rattle.viewer.specs.Answers.{flatTree, flatTask, flatChild, flatRunning};
 use tree::Step;
 
@@ -20,7 +21,7 @@ pub struct FrameTree {
 pub extern "C" fn frame_tree(tree: &[u8]) -> FrameTree
     ensures { λ r. ⌜ r ≡ flatTree (acceptance (now (tree .entry))) ⌝ }
 {
-    let a = admission::accept(tree);
+    let a = validation::accept(tree);
     FrameTree {
         number: a.number as usize,
         position: a.position,
@@ -95,12 +96,12 @@ pub extern "C" fn frame_running(tree: &[u8], policy: u8, step: usize) -> FrameRu
     ensures { λ r. ⌜ r ≡ flatRunning (runningOf policy (kinds (now (tree .entry))) step) ⌝ }
 {
     match policy::running_of(tree, policy, Step(step)) {
-        tasks::Running::Opens { hold, push } => FrameRunning {
+        policy::Running::Opens { hold, push } => FrameRunning {
             opens: 1,
             hold: hold.0,
             push: push.0,
         },
-        tasks::Running::Ends => FrameRunning {
+        policy::Running::Ends => FrameRunning {
             opens: 0,
             hold: 0,
             push: 0,

@@ -14,7 +14,7 @@ use Rattle.rules.specs.Tree.{kinds}
 use Rattle.rules.specs.Scheduling.{Run, start, isRun, steal, judgeEvent, nextRun}
 use Rattle.rules.specs.Calls.{eventCall, afterEvents, recordWalk, recordOf, recordVerdict, recordCall}
 use Rattle.tree.specs.Laws.Walks.{walk-on, walk-stop, walk-end}
-use Rattle.tasks.specs.Laws.Admission.{start-tree-accepts}
+use Rattle.tasks.specs.Laws.Starts.{start-tree-accepts}
 use Rattle.tasks.specs.Laws.Frames.{accepted-frame}
 use Rattle.runs.specs.Laws.Moves.{ran, run-is, run-held, event-runs}
 use Rattle.runs.specs.Laws.Always.{always}

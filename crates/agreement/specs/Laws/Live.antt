@@ -17,7 +17,7 @@ use Rattle.runs.specs.Laws.Moves.{ran, run-is, run-held, event-runs, first-with
 use Rattle.runs.specs.Laws.Always.{start-invariant, event-keeps}
 use Rattle.state.specs.declared.RunState.{RunState}
 use Rattle.state.specs.Answers.{fields, startAnswer, eventAnswer}
-use Rattle.tasks.specs.Laws.Admission.{start-tree-accepts}
+use Rattle.tasks.specs.Laws.Starts.{start-tree-accepts}
 use Rattle.live.specs.Tie.{Shows, told}
 use Rattle.live.specs.Laws.Events.{start-shows, event-tells, event-shows}
 use Rattle.agreement.specs.Laws.Folds.{AcceptedTo}

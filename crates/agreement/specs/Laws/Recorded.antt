@@ -12,7 +12,7 @@ use Rattle.rules.specs.Bytes.{wholeRecords, Verdict, accepted, refusedIf, first
 use Rattle.rules.specs.Tree.{kinds}
 use Rattle.rules.specs.Scheduling.{mostWorkers, Run, start, judgeEvent}
 use Rattle.rules.specs.Calls.{startVerdict, afterEvents, Recorded, recordWalk, recordVerdict, recordOf, recordRefused, recordCall}
-use Rattle.tasks.specs.Laws.Admission.{start-tree-accepts}
+use Rattle.tasks.specs.Laws.Starts.{start-tree-accepts}
 use Rattle.tasks.specs.Laws.Frames.{Frame, accepted-frame}
 use Rattle.runs.specs.Laws.Moves.{map-one}
 use Rattle.runs.specs.Laws.Always.{always}

@@ -12,7 +12,7 @@ use Rattle.rules.specs.Tree.{kinds}
 use Rattle.rules.specs.Scheduling.{mostWorkers, Phase, Steal, Run, start}
 use Rattle.rules.specs.Traces.{traceBytes, replayWalk}
 use Rattle.rules.specs.Calls.{startVerdict, afterEvents, Replayed, replayVerdict, replayOf, replayRefused, replayCall}
-use Rattle.tasks.specs.Laws.Admission.{start-tree-accepts, admitted-policy}
+use Rattle.tasks.specs.Laws.Starts.{start-tree-accepts, admitted-policy}
 use Rattle.tasks.specs.Laws.Frames.{Frame, accepted-frame}
 use Rattle.runs.specs.Laws.Always.{always}
 use Rattle.runs.specs.Laws.Consequences.{steals-most}

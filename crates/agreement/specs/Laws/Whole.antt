@@ -11,7 +11,7 @@ use Rattle.rules.specs.Tree.{kinds}
 use Rattle.rules.specs.Scheduling.{mostWorkers, Entry, Steal, Run, judgeEvent}
 use Rattle.rules.specs.Traces.{traceBytes, runList}
 use Rattle.rules.specs.Calls.{startVerdict, written, finished, Recorded, recordOf, Replayed, replayOf, replayCall}
-use Rattle.tasks.specs.Laws.Admission.{start-tree-accepts, admitted-policy}
+use Rattle.tasks.specs.Laws.Starts.{start-tree-accepts, admitted-policy}
 use Rattle.tasks.specs.Laws.Frames.{Frame, accepted-frame}
 use Rattle.runs.specs.Invariant.{Invariant}
 use Rattle.runs.specs.Laws.Always.{always}

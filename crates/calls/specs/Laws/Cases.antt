@@ -14,9 +14,9 @@ use Rattle.rules.specs.Tree.{kinds}
 use Rattle.rules.specs.Calls.{startVerdict}
 use Rattle.tree.specs.declared.Accepted.{Accepted}
 use Rattle.tree.specs.Laws.Verdicts.{first-accepts}
-use Rattle.tasks.specs.Answers.{admission}
-use Rattle.tasks.specs.Laws.Admission.{admitted-position}
-use Rattle.tasks.specs.Laws.Starts.{start-judged, start-begins, begun-steps}
+use Rattle.calls.specs.Answers.{admission}
+use Rattle.tasks.specs.Laws.Starts.{admitted-position}
+use Rattle.calls.specs.Laws.Starts.{start-judged, start-begins, begun-steps}
 use Rattle.calls.specs.Answers.{givenVerdict, admitted, judged}
 
 -- ---- the code's answer

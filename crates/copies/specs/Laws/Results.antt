@@ -13,7 +13,7 @@ use Rattle.rules.specs.Tree.{kinds}
 use Rattle.rules.specs.Scheduling.{mostWorkers, Run}
 use Rattle.rules.specs.Traces.{traceBytes, entryBytes}
 use Rattle.rules.specs.Calls.{written, recordWalk, finished}
-use Rattle.tasks.specs.Laws.Admission.{start-tree-accepts}
+use Rattle.tasks.specs.Laws.Starts.{start-tree-accepts}
 use Rattle.tasks.specs.Laws.Frames.{Frame, accepted-frame}
 use Rattle.events.specs.Moves.{Fields}
 use Rattle.runs.specs.Laws.Consequences.{runs-most, steals-most, finished-runs, runs-finished}

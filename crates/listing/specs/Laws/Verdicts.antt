@@ -13,7 +13,7 @@ use Rattle.rules.specs.Tree.{kinds}
 use Rattle.rules.specs.Traces.{replayWalk}
 use Rattle.rules.specs.Calls.{startVerdict, replayVerdict, replayOf, replayRefused, replayCall, Replayed as Call}
 use Rattle.tree.specs.Laws.Verdicts.{first-accepts}
-use Rattle.tasks.specs.Laws.Admission.{start-tree-accepts}
+use Rattle.tasks.specs.Laws.Starts.{start-tree-accepts}
 use Rattle.tasks.specs.Laws.Frames.{accepted-frame}
 use Rattle.runs.specs.Laws.Counts.{and-both}
 

@@ -7,7 +7,7 @@ use lib.ListN.{length, take, replicate}
 use lib.Seq.{length-take-le, take-at}
 use borrow.Author.Needs.{needs}
 use Rattle.rules.specs.Tree.{kinds}
-use Rattle.tasks.specs.Laws.Admission.{start-tree-accepts}
+use Rattle.tasks.specs.Laws.Starts.{start-tree-accepts}
 use Rattle.tables.specs.Answers.{Ends}
 use Rattle.tables.specs.Laws.Fronts.{start-frame, ends-prefix, openers-prefix}
 use Rattle.traces.specs.Answers.{Retraced}

@@ -10,7 +10,7 @@ use Rattle.rules.specs.Tree.{kinds}
 use Rattle.rules.specs.Scheduling.{Phase}
 use Rattle.rules.specs.Traces.{entryBytes, replayWalk, runList}
 use Rattle.rules.specs.Calls.{written}
-use Rattle.tasks.specs.Laws.Admission.{admitted-policy}
+use Rattle.tasks.specs.Laws.Starts.{admitted-policy}
 use Rattle.tasks.specs.Laws.Frames.{Frame}
 use Rattle.tables.specs.Laws.Fronts.{start-frame}
 use Rattle.splits.specs.Invariant.{Split}

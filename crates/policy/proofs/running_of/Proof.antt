@@ -5,7 +5,7 @@ use native.Mathlib.Omega.{arith}
 use lib.ListN.{length}
 use Rattle.rules.specs.Tree.{kinds}
 use Rattle.tree.specs.Laws.Records.{length-kinds}
-use Rattle.tasks.specs.Laws.Steps.{running-past, running-end, running-open}
+use Rattle.policy.specs.Laws.Running.{running-past, running-end, running-open}
 use borrow.Author.Needs.{needs}
 use Rattle.policy.proofs.running_of.Statement.{statement}
 use Rattle.policy.proofs.running_of.Tie as tie

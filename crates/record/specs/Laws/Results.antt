@@ -12,7 +12,7 @@ use Rattle.rules.specs.Scheduling.{Run}
 use Rattle.rules.specs.Traces.{loads, heaviest}
 use Rattle.rules.specs.Calls.{recordWalk, finished, recordOf, recordRefused, recordCall, Recorded as Call}
 use Rattle.tree.specs.declared.Accepted.{Accepted}
-use Rattle.tasks.specs.Laws.Admission.{start-tree-accepts}
+use Rattle.tasks.specs.Laws.Starts.{start-tree-accepts}
 use Rattle.tasks.specs.Laws.Frames.{accepted-frame}
 use Rattle.walks.specs.declared.Ended.{Ended}
 use Rattle.calls.specs.Answers.{recordAdmitted}

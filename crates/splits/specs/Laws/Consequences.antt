@@ -16,7 +16,7 @@ use Rattle.rules.specs.Traces.{covers, runAlone, runningOrder, runList, replayW
 use Rattle.rules.specs.Calls.{startVerdict, replayVerdict}
 use Rattle.tree.specs.Laws.Counts.{length-count}
 use Rattle.tree.specs.Laws.Verdicts.{first-accepts}
-use Rattle.tasks.specs.Laws.Admission.{start-tree-accepts, admitted-policy}
+use Rattle.tasks.specs.Laws.Starts.{start-tree-accepts, admitted-policy}
 use Rattle.tasks.specs.Laws.Shape.{Shape}
 use Rattle.tasks.specs.Laws.Frames.{endAt, sizeAt, Frame, accepted-frame}
 use Rattle.runs.specs.Invariant.{logOf, self, frontierEnd}

@@ -6,8 +6,8 @@ use lib.Count.{ones, trailingZeros}
 use borrow.Author.Tests.{ne-eqb}
 use Rattle.rules.specs.Calls.{startVerdict}
 use Rattle.tree.specs.declared.Accepted.{Accepted}
-use Rattle.tasks.specs.Answers.{admission}
-use Rattle.tasks.specs.Laws.Admission.{admitted-position}
+use Rattle.calls.specs.Answers.{admission}
+use Rattle.tasks.specs.Laws.Starts.{admitted-position}
 use Rattle.events.specs.Moves.{Move, fresh, runMove, stealMove}
 use Rattle.events.specs.Idle.{idleBits}
 use Rattle.events.specs.Laws.Moves.{event-run, event-steal}

@@ -6,7 +6,7 @@ use native.Mathlib.Omega.{arith}
 use lib.ListN.{length, take}
 use lib.Seq.{getD-take, length-take-le}
 use Rattle.rules.specs.Calls.{startVerdict}
-use Rattle.tasks.specs.Laws.Admission.{start-tree-accepts}
+use Rattle.tasks.specs.Laws.Starts.{start-tree-accepts}
 use Rattle.tasks.specs.Laws.Frames.{Frame, accepted-frame}
 use Rattle.tables.specs.Answers.{Ends, Openers}
 

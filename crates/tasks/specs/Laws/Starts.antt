@@ -1,39 +1,37 @@
--- What the answer of `admit` says of the start of a run, of a recording and of a replay.
-use Prim.Native.Nat.{ℕ, _≤_}
-use mathlib.Core.Path.{_≡_, refl, sym, ap, _∙_}
-use mathlib.Core.List.{List}
-use lib.ListN.{length}
-use borrow.Author.Tests.{eq-eqb}
-use Rattle.rules.specs.Bytes.{Verdict}
-use Rattle.rules.specs.Tree.{kinds}
+-- What an accepted start says of the policy and of the tree.
+use Prim.Native.Nat.{ℕ}
+use mathlib.Core.Path.{_≡_}
+use mathlib.Core.Bool.{_||_, not}
+use mathlib.Core.List.{List, [], _∷_}
+use mathlib.Core.Logic.{_⊎_, inl, inr}
+use native.Mathlib.Decide.{ℕ-discrete}
+use native.Mathlib.Omega.{arith}
+use lib.Dec.{eqb}
+use borrow.Author.Tests.{ne-eqb}
+use Rattle.rules.specs.Bytes.{refusedIf, firstRefused}
+use Rattle.rules.specs.Tree.{treeVerdict}
 use Rattle.rules.specs.Calls.{startVerdict}
-use Rattle.tree.specs.declared.Accepted.{Accepted}
-use Rattle.tasks.specs.Answers.{admission}
-use Rattle.tasks.specs.Laws.Admission.{start-tree-accepts}
-use Rattle.tasks.specs.Laws.Frames.{accepted-frame}
+use Rattle.tree.specs.Laws.Verdicts.{first-accepts, first-position}
 
--- The start's verdict is the rules'.
-pub start-judged : (p : ℕ) (tree : List ℕ) (a : Accepted) → a ≡ admission p tree
-    → _≡_ {A = Verdict} (record { number = a .number; position = a .position }) (startVerdict p tree)
-unfolding admission
-start-judged p tree a e = ap {B = Verdict} (λ (x : Accepted). record { number = x .number; position = x .position }) e
+module _ (p : ℕ) (tree : List ℕ) (e : startVerdict p tree .number ≡ 0) where
+  neither : (p ≡ 1 → ⊥) → (p ≡ 2 → ⊥) → ⊥
+  unfolding startVerdict firstRefused refusedIf
+  neither n m = omega (arith, rw (ne-eqb p 1 n, ne-eqb p 2 m) at e)
 
--- What is known once the start is accepted: n is the count of steps.
-pub record Begun (p : ℕ) (tree : List ℕ) (n : ℕ) : Type 0 where
-  pub fine : startVerdict p tree .number ≡ 0
-  pub steps : n ≡ length (kinds tree)
+  -- An accepted start has accepted the tree,
+  pub start-tree-accepts : treeVerdict tree .number ≡ 0
+  unfolding startVerdict
+  start-tree-accepts = first-accepts _ _ (first-accepts _ _ e .1) .0
 
-pub start-begins : (p : ℕ) (tree : List ℕ) (a : Accepted) → a ≡ admission p tree → a .number ≡ 0 → Begun p tree (a .steps)
-unfolding admission
-start-begins p tree a e z =
-    let fine = sym (ap (λ (v : Verdict). v .number) (start-judged p tree a e)) ∙ z in
-    record {
-      fine = fine;
-      steps = ap (λ (x : Accepted). x .steps) e ∙ rw (eq-eqb (startVerdict p tree .number) 0 fine) refl;
-    }
+  -- and the policy,
+  pub admitted-policy : (p ≡ 1) ⊎ (p ≡ 2)
+  admitted-policy =
+      elim (ℕ-discrete p 1) [
+        | yes one ↦ inl one
+        | no n ↦ elim (ℕ-discrete p 2) [ yes two ↦ inr two | no m ↦ absurd (neither n m) ]
+      ]
 
--- The tree has some steps, and not too many.
-pub begun-steps : {p : ℕ} {tree : List ℕ} {n : ℕ} → Begun p tree n → (1 ≤ n) × (n ≤ 4095)
-begun-steps {p} {tree} begun =
-    let frame = accepted-frame tree (start-tree-accepts p tree (begun .fine)) in
-    rw (begun .steps) (frame .some, frame .most)
+  -- and names no position.
+  pub admitted-position : startVerdict p tree .position ≡ 0
+  unfolding startVerdict
+  admitted-position = first-position (refusedIf (not (eqb p 1 || eqb p 2)) 1 0 ∷ treeVerdict tree ∷ []) e

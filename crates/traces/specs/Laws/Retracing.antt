@@ -19,7 +19,7 @@ use Rattle.tree.specs.Laws.Records.{length-records}
 use Rattle.tree.specs.Laws.Walks.{walk-stop, walk-end}
 use Rattle.tasks.specs.Laws.Frames.{Frame, accepted-frame}
 use Rattle.tasks.specs.Laws.Places.{root-first}
-use Rattle.tasks.specs.Laws.Admission.{start-tree-accepts, admitted-policy}
+use Rattle.tasks.specs.Laws.Starts.{start-tree-accepts, admitted-policy}
 use Rattle.tables.specs.Answers.{Ends, Openers, Sums, weightBefore}
 use Rattle.runs.specs.Laws.Counts.{and-both}
 use Rattle.splits.specs.Invariant.{Split}

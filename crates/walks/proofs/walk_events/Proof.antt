@@ -7,7 +7,7 @@ use lib.ListN.{length}
 use lib.Seq.{length-take-le}
 use borrow.Author.Needs.{needs}
 use Rattle.rules.specs.Tree.{kinds}
-use Rattle.tasks.specs.Laws.Admission.{start-tree-accepts}
+use Rattle.tasks.specs.Laws.Starts.{start-tree-accepts}
 use Rattle.tasks.specs.Laws.Frames.{Frame}
 use Rattle.tables.specs.Laws.Fronts.{start-frame, ends-prefix, openers-prefix}
 use Rattle.walks.proofs.walk_events.Statement.{statement}

@@ -19,7 +19,7 @@ use Rattle.tree.specs.declared.Phase.{Phase}
 use Rattle.tree.specs.declared.Step.{Step}
 use Rattle.tree.specs.Laws.Records.{length-records, field-at}
 use Rattle.tree.specs.Laws.Walks.{walk-on, walk-stop, walk-end}
-use Rattle.tasks.specs.Laws.Admission.{start-tree-accepts}
+use Rattle.tasks.specs.Laws.Starts.{start-tree-accepts}
 use Rattle.tasks.specs.Laws.Frames.{Frame, accepted-frame}
 use Rattle.tables.specs.Answers.{Ends, Sums, weightBefore}
 use Rattle.runs.specs.Invariant.{Invariant}

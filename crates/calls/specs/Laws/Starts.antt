@@ -1,21 +1,23 @@
--- Judging a policy and a tree, as the code does it: a law for each return, and what an accepted start says of the two.
+-- A policy and a tree, judged: each answer in the terms of the code, and what it says of the start of a run, of a recording and of
+-- a replay.
 use Prim.Native.Nat.{ℕ, _≤_}
-use mathlib.Core.Path.{_≡_, refl, sym}
-use mathlib.Core.Bool.{_||_, not, or-true}
+use mathlib.Core.Path.{_≡_, refl, sym, ap, _∙_}
+use mathlib.Core.Bool.{not, or-true}
 use mathlib.Core.List.{List, [], _∷_}
-use mathlib.Core.Logic.{_⊎_, inl, inr}
 use native.Mathlib.Decide.{ℕ-discrete}
 use native.Mathlib.Omega.{arith}
 use lib.ListN.{length}
 use lib.Dec.{eqb}
 use borrow.Author.Tests.{eq-eqb, ne-eqb}
 use Rattle.rules.specs.Bytes.{Verdict, accepted, refusedIf, firstRefused}
-use Rattle.rules.specs.Tree.{treeRecords, treeWalk, wrongLength, treeVerdict}
+use Rattle.rules.specs.Tree.{kinds, treeRecords, treeWalk, wrongLength, treeVerdict}
 use Rattle.rules.specs.Calls.{startVerdict}
 use Rattle.tree.specs.declared.Accepted.{Accepted}
 use Rattle.tree.specs.Answers.{acceptance}
-use Rattle.tree.specs.Laws.Verdicts.{first-accepts, first-position}
-use Rattle.tasks.specs.Answers.{admission}
+use Rattle.tree.specs.Laws.Verdicts.{first-position}
+use Rattle.tasks.specs.Laws.Starts.{start-tree-accepts}
+use Rattle.tasks.specs.Laws.Frames.{accepted-frame}
+use Rattle.calls.specs.Answers.{admission}
 
 -- One condition alone decides.
 alone : (v : Verdict) → (v .number ≡ 0 → v .position ≡ 0) → firstRefused (v ∷ []) ≡ v
@@ -57,27 +59,30 @@ module _ (p : ℕ) (tree : List ℕ) where
   unfolding admission acceptance
   admission-tree h r e = rw (by-tree h, alone (treeVerdict tree) (tree-position tree)) e
 
--- ---- an accepted start
+-- ---- what the answer says
 
-module _ (p : ℕ) (tree : List ℕ) (e : startVerdict p tree .number ≡ 0) where
-  neither : (p ≡ 1 → ⊥) → (p ≡ 2 → ⊥) → ⊥
-  unfolding startVerdict firstRefused refusedIf
-  neither n m = omega (arith, rw (ne-eqb p 1 n, ne-eqb p 2 m) at e)
+-- The start's verdict is the rules'.
+pub start-judged : (p : ℕ) (tree : List ℕ) (a : Accepted) → a ≡ admission p tree
+    → _≡_ {A = Verdict} (record { number = a .number; position = a .position }) (startVerdict p tree)
+unfolding admission
+start-judged p tree a e = ap {B = Verdict} (λ (x : Accepted). record { number = x .number; position = x .position }) e
 
-  -- An accepted start has accepted the tree,
-  pub start-tree-accepts : treeVerdict tree .number ≡ 0
-  unfolding startVerdict
-  start-tree-accepts = first-accepts _ _ (first-accepts _ _ e .1) .0
+-- What is known once the start is accepted: n is the count of steps.
+pub record Begun (p : ℕ) (tree : List ℕ) (n : ℕ) : Type 0 where
+  pub fine : startVerdict p tree .number ≡ 0
+  pub steps : n ≡ length (kinds tree)
 
-  -- and the policy,
-  pub admitted-policy : (p ≡ 1) ⊎ (p ≡ 2)
-  admitted-policy =
-      elim (ℕ-discrete p 1) [
-        | yes one ↦ inl one
-        | no n ↦ elim (ℕ-discrete p 2) [ yes two ↦ inr two | no m ↦ absurd (neither n m) ]
-      ]
+pub start-begins : (p : ℕ) (tree : List ℕ) (a : Accepted) → a ≡ admission p tree → a .number ≡ 0 → Begun p tree (a .steps)
+unfolding admission
+start-begins p tree a e z =
+    let fine = sym (ap (λ (v : Verdict). v .number) (start-judged p tree a e)) ∙ z in
+    record {
+      fine = fine;
+      steps = ap (λ (x : Accepted). x .steps) e ∙ rw (eq-eqb (startVerdict p tree .number) 0 fine) refl;
+    }
 
-  -- and names no position.
-  pub admitted-position : startVerdict p tree .position ≡ 0
-  unfolding startVerdict
-  admitted-position = first-position (refusedIf (not (eqb p 1 || eqb p 2)) 1 0 ∷ treeVerdict tree ∷ []) e
+-- The tree has some steps, and not too many.
+pub begun-steps : {p : ℕ} {tree : List ℕ} {n : ℕ} → Begun p tree n → (1 ≤ n) × (n ≤ 4095)
+begun-steps {p} {tree} begun =
+    let frame = accepted-frame tree (start-tree-accepts p tree (begun .fine)) in
+    rw (begun .steps) (frame .some, frame .most)

@@ -1,9 +1,9 @@
--- `admission::admit` meets its contract: each return is a law of its answer. Assumes nothing.
+-- `calls::admit` meets its contract: each return is a law of its answer. Assumes nothing.
 use native.Mathlib.Omega.{arith}
-use Rattle.tasks.specs.Laws.Admission.{admission-policy, admission-tree}
+use Rattle.calls.specs.Laws.Starts.{admission-policy, admission-tree}
 use borrow.Author.Needs.{needs}
-use Rattle.admission.proofs.admit.Statement.{statement}
-use Rattle.admission.proofs.admit.Tie as tie
+use Rattle.calls.proofs.admit.Statement.{statement}
+use Rattle.calls.proofs.admit.Tie as tie
 
 returns : tie.Need-returns
 returns c =

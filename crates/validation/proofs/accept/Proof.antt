@@ -1,4 +1,4 @@
--- `admission::accept` meets its contract: the loop is the walk over the records, and each return is a law of the verdict.
+-- `validation::accept` meets its contract: the loop is the walk over the records, and each return is a law of the verdict.
 -- Assumes nothing.
 use Prim.Native.Nat.{ℕ, _-_, _/_}
 use native.Mathlib.Omega.{arith}
@@ -11,8 +11,8 @@ use Rattle.rules.specs.Bytes.{Verdict}
 use Rattle.rules.specs.Tree.{treeRecords, judgeTreeRecord, wrongLength}
 use Rattle.tree.specs.Laws.Records.{length-kinds}
 use Rattle.tree.specs.Laws.Acceptance.{Walking, walking-start, walking-end, walking-open, walking-stop, walking-done, verdict-wrong, verdict-stop, verdict-open, verdict-accepted, answered-refused, answered-accepted}
-use Rattle.admission.proofs.accept.Statement.{statement}
-use Rattle.admission.proofs.accept.Tie as tie
+use Rattle.validation.proofs.accept.Statement.{statement}
+use Rattle.validation.proofs.accept.Tie as tie
 
 abbrev Inv-loop : tie.InvT-loop
 Inv-loop tree n i₀ depth₀ i depth = Walking tree i depth

@@ -1,0 +1,15 @@
+-- What running a step does to its worker under a policy, in the rules' words.
+use Prim.Native.Nat.{ℕ}
+use mathlib.Core.Bool.{cond, _||_}
+use mathlib.Core.List.{List}
+use lib.ListN.{length}
+use lib.Dec.{leb}
+use Rattle.rules.specs.Tree.{kindAt, isEnd}
+use Rattle.rules.specs.Scheduling.{holds, pushes}
+use Rattle.policy.specs.declared.Running.{Running}
+use Rattle.policy.specs.declared.Running.the-variants.{Opens, Ends}
+
+-- What running a step holds and pushes. An end pushes nothing, and so does a step that the tree has not.
+unfoldable pub runningOf : ℕ → List ℕ → ℕ → Running
+runningOf p ks i =
+    cond (leb (length ks) i || isEnd (kindAt ks i)) Ends (Opens (record { 0 = holds p ks i }) (record { 0 = pushes p ks i }))
