@@ -12,12 +12,12 @@ use Rattle.rules.specs.Bytes.{littleEndian, cut, sum}
 use Rattle.rules.specs.Tree.{kinds}
 use Rattle.rules.specs.Scheduling.{mostWorkers, Entry, Steal}
 use Rattle.rules.specs.Calls.{Recorded, recordCall, Replayed, replayCall}
-use Rattle.runs.specs.Invariant.{logOf, self}
-use Rattle.state.specs.declared.RunState.{RunState}
-use Rattle.events.specs.declared.Outcome.{Outcome}
-use Rattle.events.specs.declared.Outcome.the-variants.{Ran, Stole, Refused}
-use Rattle.state.specs.declared.Answer.{Answer}
-use Rattle.state.specs.Answers.{startAnswer, eventAnswer}
+use Rattle.run_invariant.specs.Invariant.{logOf, self}
+use Rattle.run_state.specs.declared.RunState.{RunState}
+use Rattle.run_spec.specs.declared.Outcome.{Outcome}
+use Rattle.run_spec.specs.declared.Outcome.the-variants.{Ran, Stole, Refused}
+use Rattle.run_state.specs.declared.Answer.{Answer}
+use Rattle.run_state.specs.Answers.{startAnswer, eventAnswer}
 
 -- ---- the live run, by the calls of single events
 

@@ -1,3 +1,5 @@
 -- What need not be believed: everything here is proved from the definitions.
---     Loads   the loads of phases, and how a steal moves weight from one to another
+--     Loads      the loads of phases, and how a steal moves weight from one to another
+--     Heaviest   the loop that looks for the heaviest worker, turn by turn
 pub mod Loads
+pub mod Heaviest

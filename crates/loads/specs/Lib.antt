@@ -1,5 +1,5 @@
 -- Loads: how a steal moves weight from one worker's load to another's.
---     Answers   what the tables say of a stolen step's weight (to be believed)
---     Laws      loads over phases, and the weight that moves by the tables (proved)
+--     Answers   the weight that a steal moves, and what it leaves in the loads
+--     Laws      loads over phases, the weight that moves by the tables, the search for the heaviest (proved)
 pub mod Answers
 pub mod Laws

@@ -1,10 +1,20 @@
-// What a steal does to the loads, in recording and in replay: the weight from the stolen step to the end of its task, with all
-// that is spawned there, leaves the victim's load for the thief's (document 01, "Trace, log, run list").
+// The loads of the workers, in recording and in replay (document 01, "Trace, log, run list"): at a steal the weight from the stolen
+// step to the end of its task, with all that is spawned there, leaves the victim's load for the thief's; and the heaviest worker.
 ghost use mathlib.Core.Path.{_≡_};
-ghost use Prim.Native.Nat.{_<_};
-ghost use Rattle.balance.specs.Answers.{loadMoved};
-ghost use Rattle.loads.specs.Answers.{weightBetween, Movable};
-use tables::wide;
+ghost use Prim.Native.Nat.{_+_, _≤_, _<_};
+ghost use lib.ListN.{length, getD};
+ghost use Rattle.rules.specs.Traces.{heaviest as heaviestOf};
+ghost use Rattle.loads.specs.Answers.{loadMoved, weightBetween, Movable};
+use tree_tables::wide;
+
+// Some weight leaves the victim's load for the thief's.
+pub fn move_load(loads: &mut [u64; 16], thief: usize, victim: usize, weight: u64)
+    requires { ⌜ (thief < 16) × (victim < 16) × (thief ≡ victim → ⊥) × (weight ≤ getD (now loads) victim 0) × (getD (now loads) thief 0 + weight < 18446744073709551616) ⌝ }
+    ensures { λ r. ⌜ now (loads .exit) ≡ loadMoved (now (loads .entry)) thief victim weight ⌝ }
+{
+    loads[victim] -= weight;
+    loads[thief] += weight;
+}
 
 // A step is stolen: all from it to the end of its task, by the tree's tables, goes to the thief's load.
 pub fn move_part(
@@ -21,5 +31,22 @@ pub fn move_part(
 {
     let end = wide(ends[step]);
     let weight = sums[end] - sums[step];
-    balance::move_load(loads, thief, victim, weight);
+    move_load(loads, thief, victim, weight);
+}
+
+// The heaviest worker, the lowest numbered among equals.
+pub fn heaviest(loads: &[u64; 16]) -> usize
+    requires { ⌜ length (now loads) ≡ 16 ⌝ }
+    ensures { λ r. ⌜ r ≡ heaviestOf (now (loads .entry)) ⌝ }
+{
+    let mut best = 0;
+    let mut w = 1;
+    while w < 16 {
+        let k = w;
+        w += 1;
+        if loads[best] < loads[k] {
+            best = k;
+        }
+    }
+    best
 }

@@ -6,6 +6,6 @@ fn main() {
     let mut input: [u8; 49152] = [0; 49152];
     let mut text: [u8; 73728] = [0; 73728];
     let count = io::read_full(STDIN_FILENO, &mut input);
-    let length = listing::list_phases(&input[..count], &mut text);
+    let length = phases_text::list_phases(&input[..count], &mut text);
     io::write_all(STDOUT_FILENO, &text[..length]);
 }

@@ -6,13 +6,13 @@ ghost use lib.ListN.{length};
 ghost use Rattle.rules.specs.Tree.{kinds};
 ghost use Rattle.rules.specs.Scheduling.{pushesChild, holds, pushes};
 ghost use Rattle.policy.specs.Answers.{runningOf};
-ghost use Rattle.tables.specs.Answers.{Ends};
-use lookup::cont_by;
+ghost use Rattle.tree_tables.specs.Answers.{Ends};
 use tree::ASYNC;
 use tree::END;
 use tree::RECORD;
 use tree::Step;
 use tree::kind;
+use tree_tables::lookup::cont_by;
 
 // Policies.
 pub const WORK_FIRST: u8 = 1;

@@ -1,6 +1,6 @@
 -- What recording answers, by the rules.
 use Rattle.rules.specs.Calls.{Recorded as Call}
-use Rattle.recorded.specs.declared.Recorded.{Recorded}
+use Rattle.record.specs.declared.answer.Recorded.{Recorded}
 
 -- The answers of a record call, beside what it leaves in the lent log and trace.
 unfoldable pub answers : Call → Recorded

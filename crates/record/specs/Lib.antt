@@ -3,3 +3,5 @@
 --     Laws      each of its answers (proved)
 pub mod Answers
 pub mod Laws
+pub mod Answer
+pub mod Body

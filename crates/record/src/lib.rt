@@ -1,9 +1,12 @@
 // Recording: a list of events becomes the log and the trace, or a refusal with its position (document 01, "Trace, log, run list"
 // and "Refusals"). Log and trace are written once every event is accepted.
+pub mod answer;
+pub mod body;
+
 ghost use mathlib.Core.Path.{_≡_};
 ghost use Rattle.rules.specs.Calls.{recordCall};
 ghost use Rattle.record.specs.Answers.{answers};
-use recorded::Recorded;
+use answer::Recorded;
 
 // Records a list of events: refusals 1 to 12, or the log and the trace at the front of the lent buffers.
 pub fn record(tree: &[u8], policy: u8, events: &[u8], log: &mut [u8], trace: &mut [u8]) -> Recorded
@@ -11,14 +14,14 @@ pub fn record(tree: &[u8], policy: u8, events: &[u8], log: &mut [u8], trace: &mu
     ensures log { λ r. ⌜ now (log .exit) ≡ recordCall 16 policy (now (tree .entry)) (now (events .entry)) (now (log .entry)) (now (trace .entry)) .log ⌝ }
     ensures trace { λ r. ⌜ now (trace .exit) ≡ recordCall 16 policy (now (tree .entry)) (now (events .entry)) (now (log .entry)) (now (trace .entry)) .trace ⌝ }
 {
-    let admitted = calls::admit_record(tree, policy, events, log.len(), trace.len());
+    let admitted = arguments::admit_record(tree, policy, events, log.len(), trace.len());
     if admitted.number != 0 {
-        return recorded::refused(admitted.number, admitted.position);
+        return answer::refused(admitted.number, admitted.position);
     }
-    let walked = copies::run(tree, policy, events, log, trace);
+    let walked = body::run(tree, policy, events, log, trace);
     let last = admitted.steps - 1;
     let loads = walked.loads;
-    recorded::answer(
+    answer::answer(
         walked.number,
         walked.position,
         walked.logs,

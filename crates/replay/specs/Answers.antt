@@ -1,6 +1,6 @@
 -- What replay answers, by the rules.
 use Rattle.rules.specs.Calls.{Replayed as Call}
-use Rattle.replayed.specs.declared.Replayed.{Replayed}
+use Rattle.replay.specs.declared.answer.Replayed.{Replayed}
 
 -- The answers of a replay call, beside what it leaves in the lent run list.
 unfoldable pub answers : Call → Replayed

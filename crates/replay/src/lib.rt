@@ -1,20 +1,23 @@
 // Replay: a trace becomes the run list, or a refusal with its position (document 01, "Trace, log, run list" and "Refusals").
 // The list is written once every record is accepted.
+pub mod answer;
+pub mod body;
+
 ghost use mathlib.Core.Path.{_≡_};
 ghost use Rattle.rules.specs.Calls.{replayCall};
 ghost use Rattle.replay.specs.Answers.{answers};
-use replayed::Replayed;
+use answer::Replayed;
 
 // Replays a trace: refusals 1 to 8 and 13 to 15, or the run list at the front of the lent buffer.
 pub fn replay(tree: &[u8], policy: u8, trace: &[u8], list: &mut [u8]) -> Replayed
     ensures answers { λ r. ⌜ r ≡ answers (replayCall 16 policy (now (tree .entry)) (now (trace .entry)) (now (list .entry))) ⌝ }
     ensures list { λ r. ⌜ now (list .exit) ≡ replayCall 16 policy (now (tree .entry)) (now (trace .entry)) (now (list .entry)) .list ⌝ }
 {
-    let admitted = calls::admit_replay(tree, policy, trace, list.len());
+    let admitted = arguments::admit_replay(tree, policy, trace, list.len());
     if admitted.number != 0 {
-        return replayed::refused(admitted.number, admitted.position);
+        return answer::refused(admitted.number, admitted.position);
     }
-    let walked = outcomes::run(tree, policy, trace, admitted.steps, list);
+    let walked = body::run(tree, policy, trace, admitted.steps, list);
     let loads = walked.loads;
-    replayed::answer(walked.number, walked.position, walked.phases, loads)
+    answer::answer(walked.number, walked.position, walked.phases, loads)
 }

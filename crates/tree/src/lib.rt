@@ -1,8 +1,11 @@
 // The tree file: a frame's tasks as records of 8 bytes (document 01, "The tree file"). Every function takes any bytes and
 // any step, stays within the slice and ends.
+pub mod validation;
+pub mod words;
+
 ghost use mathlib.Core.Path.{_≡_};
-ghost use lib.ListN.{length};
-ghost use Rattle.rules.specs.Tree.{kinds, kindAt};
+ghost use lib.ListN.{length, getD};
+ghost use Rattle.rules.specs.Tree.{kinds, kindAt, weights};
 
 // The serial number of a step.
 pub struct Step(pub usize);
@@ -50,4 +53,15 @@ pub struct Accepted {
     pub number: u8,
     pub position: usize,
     pub steps: usize,
+}
+
+// The weight of a step, 0 where the tree has no such step.
+pub fn weight(tree: &[u8], step: Step) -> u32
+    ensures { λ r. ⌜ r ≡ getD (weights (now (tree .entry))) (step .0) 0 ⌝ }
+{
+    let i = step.0;
+    if tree.len() / RECORD <= i {
+        return 0;
+    }
+    words::word(tree, RECORD * i + 4)
 }

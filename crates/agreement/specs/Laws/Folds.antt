@@ -14,11 +14,11 @@ use Rattle.rules.specs.Tree.{kinds}
 use Rattle.rules.specs.Scheduling.{Run, start, isRun, steal, judgeEvent, nextRun}
 use Rattle.rules.specs.Calls.{eventCall, afterEvents, recordWalk, recordOf, recordVerdict, recordCall}
 use Rattle.tree.specs.Laws.Walks.{walk-on, walk-stop, walk-end}
-use Rattle.tasks.specs.Laws.Starts.{start-tree-accepts}
-use Rattle.tasks.specs.Laws.Frames.{accepted-frame}
-use Rattle.runs.specs.Laws.Moves.{ran, run-is, run-held, event-runs}
-use Rattle.runs.specs.Laws.Always.{always}
-use Rattle.runs.specs.Laws.Consequences.{runs-most, steals-most}
+use Rattle.tree_scan.specs.Laws.Starts.{start-tree-accepts}
+use Rattle.tree_scan.specs.Laws.Frames.{accepted-frame}
+use Rattle.run_invariant.specs.Laws.Moves.{ran, run-is, run-held, event-runs}
+use Rattle.run_invariant.specs.Laws.Always.{always}
+use Rattle.run_invariant.specs.Laws.Consequences.{runs-most, steals-most}
 use Rattle.record.specs.Laws.Cases.{accepts-both, by-accepted}
 
 -- ---- one event more

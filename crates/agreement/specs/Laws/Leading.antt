@@ -11,15 +11,15 @@ use borrow.Author.Tests.{eq-eqb, ne-eqb}
 use Rattle.rules.specs.Scheduling.{Phase, phaseAt, Run, workerAt}
 use Rattle.rules.specs.Traces.{runList}
 use Rattle.rules.specs.Calls.{finished}
-use Rattle.tasks.specs.Laws.Shape.{Shape}
-use Rattle.tasks.specs.Laws.Frames.{endAt, sizeAt}
-use Rattle.runs.specs.Invariant.{logOf, self, pending, Invariant}
-use Rattle.runs.specs.Laws.Weights.{span, end-within, span-weighs, span-out}
-use Rattle.runs.specs.Laws.Moves.{pending-idle, none-stack}
-use Rattle.runs.specs.Laws.Consequences.{finished-idle, finished-runs, runs-finished, log-leads}
-use Rattle.splits.specs.Invariant.{Split}
-use Rattle.splits.specs.Laws.Order.{alone-none}
-use Rattle.splits.specs.Laws.Consequences.{list-parts, list-none, order-first, list-length}
+use Rattle.tree_scan.specs.Laws.Shape.{Shape}
+use Rattle.tree_scan.specs.Laws.Frames.{endAt, sizeAt}
+use Rattle.run_invariant.specs.Invariant.{logOf, self, pending, Invariant}
+use Rattle.run_invariant.specs.Laws.Weights.{span, end-within, span-weighs, span-out}
+use Rattle.run_invariant.specs.Laws.Moves.{pending-idle, none-stack}
+use Rattle.run_invariant.specs.Laws.Consequences.{finished-idle, finished-runs, runs-finished, log-leads}
+use Rattle.replay_invariant.specs.Invariant.{Split}
+use Rattle.replay_invariant.specs.Laws.Order.{alone-none}
+use Rattle.replay_invariant.specs.Laws.Consequences.{list-parts, list-none, order-first, list-length}
 use Rattle.agreement.specs.Agreement.{Leads, liveFirsts}
 use Rattle.agreement.specs.Laws.Phases.{StepsBelow, same-length}
 

@@ -11,15 +11,15 @@ use Rattle.rules.specs.Bytes.{records, cut, sum}
 use Rattle.rules.specs.Tree.{kinds}
 use Rattle.rules.specs.Scheduling.{mostWorkers, Run, start, workerAt, isRun, oldest, steal, judgeEvent, nextRun}
 use Rattle.rules.specs.Calls.{startVerdict, eventCall, afterEvents}
-use Rattle.tasks.specs.Laws.Frames.{Frame, accepted-frame}
-use Rattle.runs.specs.Invariant.{Invariant}
-use Rattle.runs.specs.Laws.Moves.{ran, run-is, run-held, event-runs, first-within, enriched, steal-thief}
-use Rattle.runs.specs.Laws.Always.{start-invariant, event-keeps}
-use Rattle.state.specs.declared.RunState.{RunState}
-use Rattle.state.specs.Answers.{fields, startAnswer, eventAnswer}
-use Rattle.tasks.specs.Laws.Starts.{start-tree-accepts}
-use Rattle.live.specs.Tie.{Shows, told}
-use Rattle.live.specs.Laws.Events.{start-shows, event-tells, event-shows}
+use Rattle.tree_scan.specs.Laws.Frames.{Frame, accepted-frame}
+use Rattle.run_invariant.specs.Invariant.{Invariant}
+use Rattle.run_invariant.specs.Laws.Moves.{ran, run-is, run-held, event-runs, first-within, enriched, steal-thief}
+use Rattle.run_invariant.specs.Laws.Always.{start-invariant, event-keeps}
+use Rattle.run_state.specs.declared.RunState.{RunState}
+use Rattle.run_state.specs.Answers.{fields, startAnswer, eventAnswer}
+use Rattle.tree_scan.specs.Laws.Starts.{start-tree-accepts}
+use Rattle.run_refinement.specs.Tie.{Shows, told}
+use Rattle.run_refinement.specs.Laws.Events.{start-shows, event-tells, event-shows}
 use Rattle.agreement.specs.Laws.Folds.{AcceptedTo}
 use Rattle.agreement.specs.Agreement.{Event, eventBytes, call, refusalOf, stole, stateAfter, liveRun, liveSteals, runsIn}
 

@@ -10,8 +10,8 @@ use lib.Dec.{eqb}
 use borrow.Author.Tests.{eq-eqb, ne-eqb}
 use Rattle.rules.specs.Bytes.{count, sum}
 use Rattle.rules.specs.Scheduling.{Entry}
-use Rattle.runs.specs.Invariant.{logOf, self}
-use Rattle.runs.specs.Laws.Counts.{sum-none, sum-same, sum-plus, sum-self}
+use Rattle.run_invariant.specs.Invariant.{logOf, self}
+use Rattle.run_invariant.specs.Laws.Counts.{sum-none, sum-same, sum-plus, sum-self}
 use Rattle.agreement.specs.Laws.Records.{Small}
 
 -- No entry has phase m or a later one; none has step n or a later one.

@@ -12,12 +12,12 @@ use Rattle.rules.specs.Bytes.{wholeRecords, Verdict, accepted, refusedIf, first
 use Rattle.rules.specs.Tree.{kinds}
 use Rattle.rules.specs.Scheduling.{mostWorkers, Run, start, judgeEvent}
 use Rattle.rules.specs.Calls.{startVerdict, afterEvents, Recorded, recordWalk, recordVerdict, recordOf, recordRefused, recordCall}
-use Rattle.tasks.specs.Laws.Starts.{start-tree-accepts}
-use Rattle.tasks.specs.Laws.Frames.{Frame, accepted-frame}
-use Rattle.runs.specs.Laws.Moves.{map-one}
-use Rattle.runs.specs.Laws.Always.{always}
-use Rattle.runs.specs.Laws.Consequences.{runs-most, steals-most}
-use Rattle.calls.specs.Answers.{tooShort}
+use Rattle.tree_scan.specs.Laws.Starts.{start-tree-accepts}
+use Rattle.tree_scan.specs.Laws.Frames.{Frame, accepted-frame}
+use Rattle.run_invariant.specs.Laws.Moves.{map-one}
+use Rattle.run_invariant.specs.Laws.Always.{always}
+use Rattle.run_invariant.specs.Laws.Consequences.{runs-most, steals-most}
+use Rattle.arguments.specs.Answers.{tooShort}
 use Rattle.record.specs.Laws.Cases.{Ready, record-event, record-all}
 use Rattle.agreement.specs.Laws.Folds.{AcceptedTo, accepted-walks, refused-walks, walk-folds, counts}
 use Rattle.agreement.specs.Agreement.{Event, eventBytes, shortOutputs}

@@ -10,7 +10,7 @@ use Rattle.rules.specs.Scheduling.{Entry, Steal}
 use Rattle.rules.specs.Traces.{traceBytes, entryBytes}
 use Rattle.rules.specs.Calls.{written}
 use Rattle.tree.specs.Laws.Records.{number-back}
-use Rattle.outputs.specs.Laws.Records.{length-trace}
+use Rattle.buffers.specs.Laws.Records.{length-trace}
 use Rattle.agreement.specs.Agreement.{entriesOf, replayedWorkers, liveWorkers}
 
 -- Phases and steps that fit two bytes each.

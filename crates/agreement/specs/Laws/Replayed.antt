@@ -12,12 +12,12 @@ use Rattle.rules.specs.Tree.{kinds}
 use Rattle.rules.specs.Scheduling.{mostWorkers, Phase, Steal, Run, start}
 use Rattle.rules.specs.Traces.{traceBytes, replayWalk}
 use Rattle.rules.specs.Calls.{startVerdict, afterEvents, Replayed, replayVerdict, replayOf, replayRefused, replayCall}
-use Rattle.tasks.specs.Laws.Starts.{start-tree-accepts, admitted-policy}
-use Rattle.tasks.specs.Laws.Frames.{Frame, accepted-frame}
-use Rattle.runs.specs.Laws.Always.{always}
-use Rattle.runs.specs.Laws.Consequences.{steals-most}
-use Rattle.splits.specs.Laws.Traces.{trace-replays}
-use Rattle.outputs.specs.Laws.Records.{length-trace}
+use Rattle.tree_scan.specs.Laws.Starts.{start-tree-accepts, admitted-policy}
+use Rattle.tree_scan.specs.Laws.Frames.{Frame, accepted-frame}
+use Rattle.run_invariant.specs.Laws.Always.{always}
+use Rattle.run_invariant.specs.Laws.Consequences.{steals-most}
+use Rattle.replay_invariant.specs.Laws.Traces.{trace-replays}
+use Rattle.buffers.specs.Laws.Records.{length-trace}
 use Rattle.agreement.specs.Agreement.{shortList}
 
 -- ---- bytes

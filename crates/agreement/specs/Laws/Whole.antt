@@ -11,16 +11,16 @@ use Rattle.rules.specs.Tree.{kinds}
 use Rattle.rules.specs.Scheduling.{mostWorkers, Entry, Steal, Run, judgeEvent}
 use Rattle.rules.specs.Traces.{traceBytes, runList}
 use Rattle.rules.specs.Calls.{startVerdict, written, finished, Recorded, recordOf, Replayed, replayOf, replayCall}
-use Rattle.tasks.specs.Laws.Starts.{start-tree-accepts, admitted-policy}
-use Rattle.tasks.specs.Laws.Frames.{Frame, accepted-frame}
-use Rattle.runs.specs.Invariant.{Invariant}
-use Rattle.runs.specs.Laws.Always.{always}
-use Rattle.runs.specs.Laws.Consequences.{steals-most, phases-count}
-use Rattle.splits.specs.Invariant.{Split}
-use Rattle.splits.specs.Laws.Always.{always-split}
-use Rattle.splits.specs.Laws.Traces.{trace-replays}
-use Rattle.splits.specs.Laws.Consequences.{list-none, list-length, list-once, list-within}
-use Rattle.state.specs.Answers.{startAnswer}
+use Rattle.tree_scan.specs.Laws.Starts.{start-tree-accepts, admitted-policy}
+use Rattle.tree_scan.specs.Laws.Frames.{Frame, accepted-frame}
+use Rattle.run_invariant.specs.Invariant.{Invariant}
+use Rattle.run_invariant.specs.Laws.Always.{always}
+use Rattle.run_invariant.specs.Laws.Consequences.{steals-most, phases-count}
+use Rattle.replay_invariant.specs.Invariant.{Split}
+use Rattle.replay_invariant.specs.Laws.Always.{always-split}
+use Rattle.replay_invariant.specs.Laws.Traces.{trace-replays}
+use Rattle.replay_invariant.specs.Laws.Consequences.{list-none, list-length, list-once, list-within}
+use Rattle.run_state.specs.Answers.{startAnswer}
 use Rattle.agreement.specs.Agreement.{Event, entriesOf, replayedWorkers, liveWorkers, shortOutputs, shortList, live, steals, recorded, traced, logged, replayed, listed, Same, Agreement}
 use Rattle.agreement.specs.Laws.Live.{pair, runAfter, call-number, live-same, live-accepted, live-runs, live-steals}
 use Rattle.agreement.specs.Laws.Records.{Small, entries-back, trace-back, workers-back}

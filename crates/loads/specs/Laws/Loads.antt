@@ -16,13 +16,13 @@ use Rattle.rules.specs.Tree.{taskEnd}
 use Rattle.rules.specs.Scheduling.{mostWorkers, Phase, firstPhases, phaseAt, begin}
 use Rattle.rules.specs.Traces.{fromStep, covers, phaseLoad, workerLoad, loads}
 use Rattle.tree.specs.Laws.Counts.{length-count}
-use Rattle.tasks.specs.Laws.Shape.{Shape}
-use Rattle.tasks.specs.Laws.Frames.{endAt, sizeAt}
-use Rattle.tables.specs.Answers.{Ends, Sums, weightBefore}
-use Rattle.runs.specs.Laws.Counts.{any-one, any-sum, sum-plus, sum-two}
-use Rattle.runs.specs.Laws.Weights.{span, end-within}
-use Rattle.runs.specs.Laws.Moves.{sum-one, sum-set, robbed}
-use Rattle.balance.specs.Answers.{loadMoved}
+use Rattle.tree_scan.specs.Laws.Shape.{Shape}
+use Rattle.tree_scan.specs.Laws.Frames.{endAt, sizeAt}
+use Rattle.tree_tables.specs.Answers.{Ends, Sums, weightBefore}
+use Rattle.run_invariant.specs.Laws.Counts.{any-one, any-sum, sum-plus, sum-two}
+use Rattle.run_invariant.specs.Laws.Weights.{span, end-within}
+use Rattle.run_invariant.specs.Laws.Moves.{sum-one, sum-set, robbed}
+use Rattle.loads.specs.Answers.{loadMoved}
 use Rattle.loads.specs.Answers.{weightBetween, Movable}
 
 -- ---- sums

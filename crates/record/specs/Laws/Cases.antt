@@ -10,10 +10,10 @@ use Rattle.rules.specs.Tree.{kinds}
 use Rattle.rules.specs.Calls.{startVerdict, recordWalk, recordVerdict, recordOf, recordRefused, recordCall}
 use Rattle.tree.specs.declared.Accepted.{Accepted}
 use Rattle.tree.specs.Laws.Verdicts.{first-accepts}
-use Rattle.runs.specs.Laws.Counts.{or-none}
-use Rattle.calls.specs.Answers.{tooShort, recordAdmitted}
-use Rattle.calls.specs.Laws.Cases.{Given, given-last, given-refused, given}
-use Rattle.copies.specs.Answers.{Admitted}
+use Rattle.run_invariant.specs.Laws.Counts.{or-none}
+use Rattle.arguments.specs.Answers.{tooShort, recordAdmitted}
+use Rattle.arguments.specs.Laws.Cases.{Given, given-last, given-refused, given}
+use Rattle.record.specs.Body.Answers.{Admitted}
 
 -- ---- the verdict
 

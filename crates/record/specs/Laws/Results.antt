@@ -12,14 +12,14 @@ use Rattle.rules.specs.Scheduling.{Run}
 use Rattle.rules.specs.Traces.{loads, heaviest}
 use Rattle.rules.specs.Calls.{recordWalk, finished, recordOf, recordRefused, recordCall, Recorded as Call}
 use Rattle.tree.specs.declared.Accepted.{Accepted}
-use Rattle.tasks.specs.Laws.Starts.{start-tree-accepts}
-use Rattle.tasks.specs.Laws.Frames.{accepted-frame}
-use Rattle.walks.specs.declared.Ended.{Ended}
-use Rattle.calls.specs.Answers.{recordAdmitted}
-use Rattle.calls.specs.Laws.Cases.{given-steps}
-use Rattle.copies.specs.Answers.{Outcome}
-use Rattle.recorded.specs.declared.Recorded.{Recorded}
-use Rattle.recorded.specs.Answers.{refusal, answered}
+use Rattle.tree_scan.specs.Laws.Starts.{start-tree-accepts}
+use Rattle.tree_scan.specs.Laws.Frames.{accepted-frame}
+use Rattle.record_walk.specs.declared.Ended.{Ended}
+use Rattle.arguments.specs.Answers.{recordAdmitted}
+use Rattle.arguments.specs.Laws.Cases.{given-steps}
+use Rattle.record.specs.Body.Answers.{Outcome}
+use Rattle.record.specs.declared.answer.Recorded.{Recorded}
+use Rattle.record.specs.Answer.Answers.{refusal, answered}
 use Rattle.record.specs.Answers.{answers}
 use Rattle.record.specs.Laws.Cases.{record-given, record-ready, record-event, record-all}
 

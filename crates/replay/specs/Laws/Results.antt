@@ -11,11 +11,11 @@ use Rattle.rules.specs.Scheduling.{Phase}
 use Rattle.rules.specs.Traces.{replayWalk, loads, heaviest}
 use Rattle.rules.specs.Calls.{replayOf, replayRefused, replayCall, Replayed as Call}
 use Rattle.tree.specs.declared.Accepted.{Accepted}
-use Rattle.traces.specs.declared.Ended.{Ended}
-use Rattle.calls.specs.Answers.{replayAdmitted}
-use Rattle.outcomes.specs.Answers.{Outcome}
-use Rattle.replayed.specs.declared.Replayed.{Replayed}
-use Rattle.replayed.specs.Answers.{refusal, answered}
+use Rattle.replay_walk.specs.declared.Ended.{Ended}
+use Rattle.arguments.specs.Answers.{replayAdmitted}
+use Rattle.replay.specs.Body.Answers.{Outcome}
+use Rattle.replay.specs.declared.answer.Replayed.{Replayed}
+use Rattle.replay.specs.Answer.Answers.{refusal, answered}
 use Rattle.replay.specs.Answers.{answers}
 use Rattle.replay.specs.Laws.Cases.{replay-given, record-refused, none-refused}
 

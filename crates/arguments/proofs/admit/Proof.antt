@@ -1,0 +1,27 @@
+-- `calls::admit` meets its contract: each return is a law of its answer. Assumes nothing.
+use native.Mathlib.Omega.{arith}
+use Rattle.arguments.specs.Laws.Starts.{admission-policy, admission-tree}
+use borrow.Author.Needs.{needs}
+use Rattle.arguments.proofs.admit.Statement.{statement}
+use Rattle.arguments.proofs.admit.Tie as tie
+
+returns : tie.Need-returns
+returns c =
+    let a = c .before .before .args in
+    admission-policy (a .policy) (a .tree .now) (λ e. absurd (omega arith)) (λ e. absurd (omega arith))
+
+returns-2 : tie.Need-returns-2
+returns-2 c =
+    let a = c .before .before .before .args in
+    admission-policy (a .policy) (a .tree .now) (λ e. absurd (omega arith)) (λ e. absurd (omega arith))
+
+accept-requires : tie.Need-accept-requires
+accept-requires c κs = search needs
+
+returns-3 : tie.Need-returns-3
+returns-3 c =
+    let a = c .before .before .before .before .args in
+    admission-tree (a .policy) (a .tree .now) (omega arith, omega arith) (c .accept .result) (c .accept .ensures)
+
+pub admit-spec : {M : Type 1} → statement M
+admit-spec = tie.close (tie.spec returns returns-2 accept-requires returns-3)

@@ -1,0 +1,99 @@
+// What a call is given, judged before any event or trace record is looked at (document 01, "Refusals"): policy and tree, the length
+// of the events or the trace, and the room of the lent outputs.
+
+ghost use mathlib.Core.Path.{_≡_};
+ghost use Prim.Native.Nat.{_≤_};
+ghost use Rattle.tree.specs.declared.Accepted.{Accepted};
+ghost use Rattle.arguments.specs.Answers.{admission, judged, tooShort, recordAdmitted, replayAdmitted};
+use buffers::EVENT;
+use buffers::RECORD;
+use policy::HELP_FIRST;
+use policy::WORK_FIRST;
+use tree::Accepted;
+use tree::validation::accept;
+
+// The most events of a record call.
+pub const MOST_EVENTS: usize = 8192;
+
+// The most records of a trace.
+pub const MOST_TRACE_RECORDS: usize = 2047;
+
+// Judges a policy and a tree: refusals 1 to 5, or how many steps the tree has.
+pub fn admit(tree: &[u8], policy: u8) -> Accepted
+    ensures { λ r. ⌜ r ≡ admission policy (now (tree .entry)) ⌝ }
+{
+    if policy < WORK_FIRST {
+        return Accepted {
+            number: 1,
+            position: 0,
+            steps: 0,
+        };
+    }
+    if HELP_FIRST < policy {
+        return Accepted {
+            number: 1,
+            position: 0,
+            steps: 0,
+        };
+    }
+    accept(tree)
+}
+
+// Judges in rising number, after the start: whether the call's records are whole and not too many, and whether a lent output is
+// short.
+fn judge(start: Accepted, whole: bool, short: bool) -> Accepted
+    ensures { λ r. ⌜ r ≡ judged start whole short ⌝ }
+{
+    if start.number != 0 {
+        return start;
+    }
+    if !whole {
+        return Accepted {
+            number: 6,
+            position: 0,
+            steps: 0,
+        };
+    }
+    if short {
+        return Accepted {
+            number: 7,
+            position: 0,
+            steps: 0,
+        };
+    }
+    start
+}
+
+// Whether a lent output is short, for so many steps and by the lengths of log and trace. No steps, as of a refused tree, need no room.
+fn too_short(steps: usize, log: usize, trace: usize) -> bool
+    requires { ⌜ steps ≤ 4095 ⌝ }
+    ensures { λ r. ⌜ r ≡ tooShort steps log trace ⌝ }
+{
+    if steps == 0 {
+        return false;
+    }
+    if log < RECORD * steps {
+        return true;
+    }
+    trace < 2 * (steps - 1)
+}
+
+// Judges a record call whose lent log and trace have so many bytes: refusals 1 to 7, or how many steps the tree has.
+pub fn admit_record(tree: &[u8], policy: u8, events: &[u8], log: usize, trace: usize) -> Accepted
+    ensures { λ r. ⌜ r ≡ recordAdmitted policy (now (tree .entry)) (now (events .entry)) log trace ⌝ }
+{
+    let start = admit(tree, policy);
+    let whole = buffers::whole_records(events, EVENT, MOST_EVENTS);
+    let short = too_short(start.steps, log, trace);
+    judge(start, whole, short)
+}
+
+// Judges a replay call whose lent list has so many bytes: refusals 1 to 7, or how many steps the tree has.
+pub fn admit_replay(tree: &[u8], policy: u8, trace: &[u8], list: usize) -> Accepted
+    ensures { λ r. ⌜ r ≡ replayAdmitted policy (now (tree .entry)) (now (trace .entry)) list ⌝ }
+{
+    let start = admit(tree, policy);
+    let whole = buffers::whole_records(trace, RECORD, MOST_TRACE_RECORDS);
+    let short = list < RECORD * start.steps;
+    judge(start, whole, short)
+}

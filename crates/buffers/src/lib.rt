@@ -1,0 +1,50 @@
+// What recording and replay share beside their rules: whether what they are given is whole records, the records of four bytes
+// that they write, and the bytes that are copied out (document 01, "Trace, log, run list" and "Refusals").
+
+ghost use mathlib.Core.Path.{_≡_};
+ghost use Prim.Native.Nat.{_+_, _*_, _≤_};
+ghost use lib.ListN.{length, take};
+ghost use Rattle.rules.specs.Bytes.{wholeRecords};
+ghost use Rattle.rules.specs.Calls.{written};
+ghost use Rattle.buffers.specs.Answers.{recordPut};
+
+// Bytes of a record of a log, a trace or a run list.
+pub const RECORD: usize = 4;
+
+// Bytes of an event.
+pub const EVENT: usize = 2;
+
+// Whether bytes are whole records of a width, and not too many.
+pub fn whole_records(bytes: &[u8], width: usize, most: usize) -> bool
+    requires { ⌜ 1 ≤ width ⌝ }
+    ensures { λ r. ⌜ r ≡ wholeRecords width most (now (bytes .entry)) ⌝ }
+{
+    if bytes.len() % width != 0 {
+        return false;
+    }
+    bytes.len() / width <= most
+}
+
+// Stores record k: two bytes and a number of two bytes.
+pub fn put_record(bytes: &mut [u8], k: usize, first: u8, second: u8, number: usize)
+    requires { ⌜ 4 * k + 4 ≤ length (now bytes) ⌝ }
+    ensures { λ r. ⌜ now (bytes .exit) ≡ recordPut (now (bytes .entry)) k first second number ⌝ }
+{
+    let at = RECORD * k;
+    bytes[at] = first;
+    bytes[at + 1] = second;
+    bytes[at + 2] = (number % 256) as u8;
+    bytes[at + 3] = (number / 256 % 256) as u8;
+}
+
+// Copies the first `count` bytes over the front of a lent buffer.
+pub fn copy_out(from: &[u8], count: usize, to: &mut [u8])
+    requires { ⌜ (count ≤ length (now from)) × (count ≤ length (now to)) ⌝ }
+    ensures { λ r. ⌜ now (to .exit) ≡ written (take count (now (from .entry))) (now (to .entry)) ⌝ }
+{
+    let mut i = 0;
+    while i < count {
+        to[i] = from[i];
+        i += 1;
+    }
+}

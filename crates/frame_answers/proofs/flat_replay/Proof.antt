@@ -1,0 +1,14 @@
+-- `flat::flat_replay` meets its contract: it copies each part of the answer. Assumes nothing.
+use mathlib.Core.Path.{refl}
+use borrow.Author.Needs.{needs}
+use Rattle.frame_answers.proofs.flat_replay.Statement.{statement}
+use Rattle.frame_answers.proofs.flat_replay.Tie as tie
+
+cast-t3 : tie.Need-cast-t3
+cast-t3 c = search needs
+
+returns : tie.Need-returns
+returns c = refl
+
+pub flat-replay-spec : {M : Type 1} → statement M
+flat-replay-spec = tie.close (tie.spec cast-t3 returns)

@@ -1,0 +1,42 @@
+// Recording and replay as C sees them: answers as flat structs of numbers, and a slice as a pointer and a length. Every function
+// takes any bytes and any numbers.
+
+ghost use mathlib.Core.Path.{_≡_};
+ghost use Rattle.rules.specs.Calls.{recordCall, replayCall};
+ghost use Rattle.record.specs.Answers.{answers};
+ghost use Rattle.replay.specs.Answers.{answers as replayAnswers};
+ghost use Rattle.frame_answers.specs.Answers.{flatRecord, flatReplay};
+use frame_answers::FrameRecord;
+use frame_answers::FrameReplay;
+
+// Records a list of events: the log and the trace stand at the front of the lent buffers then, and beyond them their old bytes.
+// A refusal changes no byte.
+#[no_mangle]
+pub extern "C" fn frame_record(
+    tree: &[u8],
+    policy: u8,
+    events: &[u8],
+    log: &mut [u8],
+    trace: &mut [u8],
+) -> FrameRecord
+    ensures answers { λ r. ⌜ r ≡ flatRecord (answers (recordCall 16 policy (now (tree .entry)) (now (events .entry)) (now (log .entry)) (now (trace .entry)))) ⌝ }
+    ensures log { λ r. ⌜ now (log .exit) ≡ recordCall 16 policy (now (tree .entry)) (now (events .entry)) (now (log .entry)) (now (trace .entry)) .log ⌝ }
+    ensures trace { λ r. ⌜ now (trace .exit) ≡ recordCall 16 policy (now (tree .entry)) (now (events .entry)) (now (log .entry)) (now (trace .entry)) .trace ⌝ }
+{
+    frame_answers::flat_record(record::record(tree, policy, events, log, trace))
+}
+
+// Replays a trace: the run list stands at the front of the lent buffer then, and beyond it its old bytes. A refusal changes no
+// byte.
+#[no_mangle]
+pub extern "C" fn frame_replay(
+    tree: &[u8],
+    policy: u8,
+    trace: &[u8],
+    list: &mut [u8],
+) -> FrameReplay
+    ensures answers { λ r. ⌜ r ≡ flatReplay (replayAnswers (replayCall 16 policy (now (tree .entry)) (now (trace .entry)) (now (list .entry)))) ⌝ }
+    ensures list { λ r. ⌜ now (list .exit) ≡ replayCall 16 policy (now (tree .entry)) (now (trace .entry)) (now (list .entry)) .list ⌝ }
+{
+    frame_answers::flat_replay(replay::replay(tree, policy, trace, list))
+}

@@ -1,0 +1,13 @@
+-- `viewer::frame_cont` meets its contract: it answers what `cont` answers. Assumes nothing.
+use borrow.Author.Needs.{needs}
+use Rattle.frame_tree.proofs.frame_cont.Statement.{statement}
+use Rattle.frame_tree.proofs.frame_cont.Tie as tie
+
+cont-requires : tie.Need-cont-requires
+cont-requires c κs = search needs
+
+returns : tie.Need-returns
+returns c = c .cont .ensures
+
+pub frame-cont-spec : {M : Type 1} → statement M
+frame-cont-spec = tie.close (tie.spec cont-requires returns)

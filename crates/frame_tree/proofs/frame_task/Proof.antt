@@ -1,0 +1,15 @@
+-- `viewer::frame_task` meets its contract: it flattens what `task_of` answers. Assumes nothing.
+use mathlib.Core.Path.{ap}
+use Rattle.frame_tree.specs.Answers.{flatTask}
+use borrow.Author.Needs.{needs}
+use Rattle.frame_tree.proofs.frame_task.Statement.{statement}
+use Rattle.frame_tree.proofs.frame_task.Tie as tie
+
+task-of-requires : tie.Need-task-of-requires
+task-of-requires c κs = search needs
+
+returns : tie.Need-returns
+returns c = ap flatTask (c .task-of .ensures)
+
+pub frame-task-spec : {M : Type 1} → statement M
+frame-task-spec = tie.close (tie.spec task-of-requires returns)

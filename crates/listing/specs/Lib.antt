@@ -1,3 +1,0 @@
--- What need not be believed: everything here is proved from the rules.
---     Laws      that what is printed of a replay is the rules' text
-pub mod Laws

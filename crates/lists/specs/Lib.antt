@@ -1,5 +1,0 @@
--- The run list.
---     Answers   what the functions answer and write
---     Laws      that it is the rules' run list
-pub mod Answers
-pub mod Laws

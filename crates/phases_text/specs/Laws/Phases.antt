@@ -1,0 +1,110 @@
+-- The whole text: what is printed of a refused and of an accepted replay.
+use Prim.Native.Nat.{ℕ, _-_, _*_, _≤_}
+use mathlib.Core.Path.{_≡_, refl, sym, ap, _∙_}
+use mathlib.Core.List.{List, _++_}
+use native.Mathlib.Omega.{arith}
+use lib.ListN.{length, take, drop, replicate, length-replicate}
+use borrow.Author.Tests.{eq-eqb, ne-eqb}
+use Rattle.rules.specs.Bytes.{Verdict}
+use Rattle.rules.specs.Tree.{kinds}
+use Rattle.rules.specs.Traces.{entryBytes}
+use Rattle.rules.specs.Calls.{written, replayVerdict, replayOf, replayRefused, replayCall, Replayed as Call}
+use Rattle.rules.specs.Program.{inputPolicy, inputTree, inputTrace, heading, phaseLines, refusedLine, phasesText}
+use Rattle.replay_invariant.specs.Splits.{phasesOf}
+use Rattle.replay.specs.declared.answer.Replayed.{Replayed}
+use Rattle.replay.specs.Answers.{answers}
+use Rattle.phases_text.specs.Report.Answers.{refusalText}
+use Rattle.phases_text.specs.Line.Answers.{linesOf, Phased}
+use Rattle.phases_text.specs.Input.Answers.{Parts}
+use Rattle.phases_text.specs.Laws.Verdicts.{start-steps, same-verdict, call-accepted, call-refused, call-number, accepted-start}
+use Rattle.phases_text.specs.Laws.Lists.{runOf, listed-lines, listed-phases, listed-room}
+
+-- What is known once replay is called: what it answers, and what it leaves in the run list that it is lent.
+pub record Called (input : List ℕ) (r : Replayed) (out : List ℕ) : Type 0 where
+  pub list : List ℕ
+  pub room : length list ≡ 16380
+  pub answered : r ≡ answers (replayCall 16 (inputPolicy input) (inputTree input) (inputTrace input) list)
+  pub left : out ≡ replayCall 16 (inputPolicy input) (inputTree input) (inputTrace input) list .list
+
+pub parts-called : {input : List ℕ} {policy start end : ℕ} → Parts input policy start end
+    → (list : List ℕ) (r : Replayed) (out : List ℕ)
+    → let call = replayCall 16 policy (take (end - start) (drop start input)) (take (length input - end) (drop end input)) list in
+    r ≡ answers call → out ≡ call .list → length list ≡ 16380 → Called input r out
+parts-called {input} {policy} {start} {end} parts list r out a l room =
+    record {
+      list = list;
+      room = room;
+      answered = rw (parts .policy-is, parts .tree-is, parts .trace-is) at a;
+      left = rw (parts .policy-is, parts .tree-is, parts .trace-is) at l;
+    }
+
+module _ {input : List ℕ} {r : Replayed} {out : List ℕ} (called : Called input r out) where
+  abbrev list : List ℕ
+  list = called .list
+
+  abbrev p : ℕ
+  p = inputPolicy input
+
+  abbrev tree : List ℕ
+  tree = inputTree input
+
+  abbrev trace : List ℕ
+  trace = inputTrace input
+
+  verdict : Verdict
+  verdict = replayVerdict 16 p tree trace list
+
+  -- The rules' run list has room too.
+  same : replayVerdict 16 p tree trace (replicate (4 * length (kinds tree)) 0) ≡ verdict
+  unfolding verdict
+  same =
+      same-verdict 16 p tree trace (replicate (4 * length (kinds tree)) 0) list
+      (λ z. omega (arith, length-replicate {A = ℕ} (4 * length (kinds tree)) 0))
+      (λ z. omega (arith, start-steps p tree z, called .room))
+
+  number : r .number ≡ verdict .number
+  unfolding answers verdict
+  number = ap (λ (x : Replayed). x .number) (called .answered) ∙ call-number 16 p tree trace list
+
+  text-refused : (verdict .number ≡ 0 → ⊥) → phasesText 16 input ≡ refusedLine verdict
+  unfolding phasesText
+  text-refused n = rw (same, ne-eqb (verdict .number) 0 n) refl
+
+  text-accepted : verdict .number ≡ 0
+      → phasesText 16 input ≡ heading ++ phaseLines (phasesOf 16 p tree trace) (runOf 16 p tree trace)
+  unfolding phasesText phasesOf
+  text-accepted z = rw (same, eq-eqb (verdict .number) 0 z) refl
+
+  -- A refused replay's text.
+  pub called-refused : (r .number ≡ 0 → ⊥) → refusalText (r .number) (r .position) ≡ phasesText 16 input
+  unfolding refusalText answers replayRefused verdict
+  called-refused n =
+      let refused : verdict .number ≡ 0 → ⊥ = λ z. n (number ∙ z) in
+      let is = called .answered ∙ ap {B = Replayed} answers (call-refused 16 p tree trace list refused) in
+      ap (λ (x : Replayed). refusalText (x .number) (x .position)) is ∙ sym (text-refused refused)
+
+  -- An accepted replay's.
+  module _ (none : r .number ≡ 0) where
+    fine : verdict .number ≡ 0
+    fine = sym number ∙ none
+
+    out-is : out ≡ written (entryBytes (runOf 16 p tree trace)) list
+    unfolding verdict replayOf phasesOf
+    out-is = called .left ∙ ap (λ (c : Call). c .list) (call-accepted 16 p tree trace list fine)
+
+    pub called-steps : length (kinds (inputTree input)) ≤ 4095
+    unfolding verdict
+    called-steps = start-steps p tree (accepted-start 16 p tree trace list fine)
+
+    pub called-room : 4 * length (kinds (inputTree input)) ≤ length out
+    unfolding verdict
+    called-room = rw out-is (listed-room 16 p tree trace list fine)
+
+    pub called-phases : Phased (inputTrace input) out (length (kinds (inputTree input)))
+    unfolding verdict
+    called-phases = rw out-is (listed-phases 16 p tree trace list fine)
+
+    pub called-listed : heading ++ linesOf (inputTrace input) out (length (kinds (inputTree input))) ≡ phasesText 16 input
+    unfolding verdict
+    called-listed =
+        rw out-is (ap (λ (l : List ℕ). heading ++ l) (listed-lines 16 p tree trace list fine)) ∙ sym (text-accepted fine)

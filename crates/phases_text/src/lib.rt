@@ -1,0 +1,35 @@
+// The text that program `phases` prints (document 01, "Tree S and its schedules"): the bytes that it has read go through
+// replay, and the run list or the refusal becomes lines.
+pub mod input;
+pub mod line;
+pub mod number;
+pub mod report;
+
+ghost use mathlib.Core.Path.{_≡_};
+ghost use Prim.Native.Nat.{_≤_};
+ghost use lib.ListN.{length};
+ghost use Rattle.rules.specs.Program.{phasesText};
+ghost use Rattle.rules.specs.Calls.{written};
+use report::put_listing;
+use report::put_refusal;
+
+// Replays the tree and the trace of an input, and writes the text. Gives its length. A heading and 4,095 lines, of three numbers of
+// five digits and a byte each, have at most 73,728 bytes.
+pub fn list_phases(input: &[u8], text: &mut [u8]) -> usize
+    requires { ⌜ 73728 ≤ length (now text) ⌝ }
+    ensures counts { λ r. ⌜ r ≡ length (phasesText 16 (now (input .entry))) ⌝ }
+    ensures text { λ r. ⌜ now (text .exit) ≡ written (phasesText 16 (now (input .entry))) (now (text .entry)) ⌝ }
+{
+    let parts = input::parts_of(input);
+    let policy = parts.policy;
+    let start = parts.start;
+    let end = parts.end;
+    let mut list: [u8; 16380] = [0; 16380];
+    let tree = &input[start..end];
+    let trace = &input[end..];
+    let replayed = replay::replay(tree, policy, trace, &mut list);
+    if replayed.number != 0 {
+        return put_refusal(text, replayed.number as usize, replayed.position);
+    }
+    put_listing(text, trace, &list, tree::steps(tree))
+}

@@ -1,0 +1,46 @@
+// The lines that program `phases` prints of a run list: phase, worker and step of each record.
+
+ghost use mathlib.Core.Path.{_≡_};
+ghost use Prim.Native.Nat.{_+_, _*_, _≤_};
+ghost use lib.ListN.{length};
+ghost use Rattle.rules.specs.Calls.{written};
+ghost use Rattle.phases_text.specs.Line.Answers.{numberAt, workerBy, linesOf, Phased};
+use super::number::put_line;
+
+// The number of two bytes of a record.
+fn number_at(bytes: &[u8], at: usize) -> usize
+    requires { ⌜ at + 2 ≤ length (now bytes) ⌝ }
+    ensures { λ r. ⌜ r ≡ numberAt (now (bytes .entry)) at ⌝ }
+{
+    bytes[at] as usize + 256 * (bytes[at + 1] as usize)
+}
+
+// The worker of a phase: worker 0 of phase 0, of a later one the thief of the trace record that began it.
+fn worker_of(trace: &[u8], phase: usize) -> usize
+    requires { ⌜ 4 * phase ≤ length (now trace) ⌝ }
+    ensures { λ r. ⌜ r ≡ workerBy (now (trace .entry)) phase ⌝ }
+{
+    if phase == 0 {
+        return 0;
+    }
+    trace[buffers::RECORD * (phase - 1)] as usize
+}
+
+// Writes a line for each of the first records of a run list. Gives the count of all bytes.
+pub fn put_lines(text: &mut [u8], trace: &[u8], list: &[u8], records: usize) -> usize
+    requires { ⌜ (4 * records ≤ length (now list)) × (18 * records ≤ length (now text)) × Phased (now trace) (now list) records ⌝ }
+    ensures counts { λ r. ⌜ r ≡ length (linesOf (now (trace .entry)) (now (list .entry)) records) ⌝ }
+    ensures text { λ r. ⌜ now (text .exit) ≡ written (linesOf (now (trace .entry)) (now (list .entry)) records) (now (text .entry)) ⌝ }
+{
+    let mut k = 0;
+    let mut at = 0;
+    while k < records {
+        let i = buffers::RECORD * k;
+        k += 1;
+        let phase = number_at(list, i);
+        let step = number_at(list, i + 2);
+        let worker = worker_of(trace, phase);
+        at += put_line(&mut text[at..], phase, worker, step);
+    }
+    at
+}

@@ -1,0 +1,38 @@
+-- `recorded::answer` meets its contract: a return where the walk is refused, and one where it is not. Assumes nothing.
+use mathlib.Core.Path.{refl, _∙_}
+use lib.Dec.{ltb}
+use borrow.Author.Needs.{needs}
+use borrow.Author.Tests.{eq-eqb, ne-eqb}
+use Rattle.record.specs.Answer.Answers.{answered}
+use Rattle.record.proofs.answer.answer.Statement.{statement}
+use Rattle.record.proofs.answer.answer.Tie as tie
+
+refused-requires : tie.Need-refused-requires
+refused-requires c κs = search needs
+
+returns : tie.Need-returns
+unfolding answered
+returns c = c .refused .ensures ∙ rw (ne-eqb (c .before .before .args .number) 0 (c .before .if1 .taken)) refl
+
+heaviest-requires : tie.Need-heaviest-requires
+heaviest-requires c κs = search needs
+
+returns-2 : tie.Need-returns-2
+unfolding answered
+returns-2 c =
+    let one = c .before .before in
+    let a = one .before .args in
+    let loads = a .t6 in
+    rw (eq-eqb (a .number) 0 (one .if1 .left))
+    (λ k. record {
+      number = 0;
+      position = 0;
+      logs = a .logs;
+      steals = a .steals;
+      finished = ltb (a .last) (a .logs);
+      loads = loads;
+      heaviest = c .heaviest .ensures k;
+    })
+
+pub answer-spec : {M : Type 1} → statement M
+answer-spec = tie.close (tie.spec refused-requires returns heaviest-requires returns-2)

@@ -1,0 +1,109 @@
+-- `copies::run` meets its contract: a law for each return. Assumes nothing.
+use native.Mathlib.Omega.{arith}
+use mathlib.Core.Path.{refl}
+use borrow.Author.Needs.{needs}
+use Rattle.record_walk.specs.Laws.Recording.{Walks}
+use Rattle.record.specs.Body.Laws.Results.{lost-outcome, bytes-most, log-room, trace-room, done-outcome}
+use Rattle.record.proofs.body.run.Statement.{statement}
+use Rattle.record.proofs.body.run.Tie as tie
+
+-- ---- what is known at a place, and the way back to an earlier one
+
+-- Past the walk over the events.
+abbrev entry : tie.After-walk-events → tie.Start
+entry c = c .before .before .before .before .before .before .before
+
+walked : (c : tie.After-walk-events)
+    → let a = entry c .args in
+    let walk = c .walk-events in
+    Walks (a .policy) (a .tree .now) (a .events .now) (walk .result) (walk .last .1 .1 .1 .0) (walk .last .1 .1 .1 .1 .0)
+walked c = c .walk-events .ensures
+
+-- Past the events.
+abbrev walk-at : tie.Else1 → tie.After-walk-events
+walk-at c = c .before .before .before .before
+
+-- Past the first copy.
+abbrev one-copied : tie.After-slice-known3 → tie.Else1
+one-copied c = c .before .before .before .before .before .before
+
+-- ---- the needs
+
+slice-aggregate-walk-events : tie.Need-slice-aggregate-walk-events
+slice-aggregate-walk-events c = search needs
+
+slice-aggregate-walk-events-2 : tie.Need-slice-aggregate-walk-events-2
+slice-aggregate-walk-events-2 c = search needs
+
+walk-events-requires : tie.Need-walk-events-requires
+walk-events-requires c κs = (c .before .before .before .before .before .before .pre .started, (refl, refl))
+
+returns : tie.Need-returns
+returns c =
+    let at = c .before .before .before .before in
+    lost-outcome (entry at .pre) (walked at) (c .if1 .taken)
+
+slice-aggregate-copy-out : tie.Need-slice-aggregate-copy-out
+slice-aggregate-copy-out c = search needs
+
+mul-copy-out : tie.Need-mul-copy-out
+mul-copy-out c =
+    let one = c .before .before in
+    let at = walk-at one in
+    omega (arith, bytes-most (entry at .pre) (walked at) (one .if1 .left))
+
+copy-out-requires : tie.Need-copy-out-requires
+copy-out-requires c κs =
+    let one = c .before .before .before in
+    let at = walk-at one in
+    let few = bytes-most (entry at .pre) (walked at) (one .if1 .left) in
+    (omega arith, log-room (entry at .pre) (walked at) (one .if1 .left))
+
+slice-aggregate-copy-out-2 : tie.Need-slice-aggregate-copy-out-2
+slice-aggregate-copy-out-2 c = search needs
+
+mul-copy-out-2 : tie.Need-mul-copy-out-2
+mul-copy-out-2 c =
+    let one = one-copied (c .before .before) in
+    let at = walk-at one in
+    omega (arith, bytes-most (entry at .pre) (walked at) (one .if1 .left))
+
+copy-out-requires-2 : tie.Need-copy-out-requires-2
+copy-out-requires-2 c κs =
+    let one = one-copied (c .before .before .before) in
+    let at = walk-at one in
+    let few = bytes-most (entry at .pre) (walked at) (one .if1 .left) in
+    (omega arith, trace-room (entry at .pre) (walked at) (one .if1 .left))
+
+same-length : tie.Need-same-length
+same-length c = search needs
+
+same-length-2 : tie.Need-same-length-2
+same-length-2 c = search needs
+
+returns-2 : tie.Need-returns-2
+returns-2 c =
+    let trace = c .before .before .copy-out2 in
+    let first = c .before .before .before .before .before .before in
+    let log = first .before .before .copy-out in
+    let one = one-copied first in
+    let at = walk-at one in
+    done-outcome (entry at .pre) (walked at) (one .if1 .left) (log .last .1 .1 .0) (trace .last .1 .1 .0) (log .ensures) (trace .ensures)
+
+pub run-spec : {M : Type 1} → statement M
+run-spec =
+    tie.close
+    (tie.spec
+    slice-aggregate-walk-events
+    slice-aggregate-walk-events-2
+    walk-events-requires
+    returns
+    slice-aggregate-copy-out
+    mul-copy-out
+    copy-out-requires
+    slice-aggregate-copy-out-2
+    mul-copy-out-2
+    copy-out-requires-2
+    same-length
+    same-length-2
+    returns-2)

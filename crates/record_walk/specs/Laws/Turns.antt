@@ -1,0 +1,138 @@
+-- The loop over the events in the terms of the code: what a call on the arrays ensures, and what is stored then.
+use Prim.Native.Nat.{ℕ, _+_, _*_, _/_, _%_, _≤_, _<_}
+use mathlib.Core.Path.{_≡_, refl, sym, ap, subst, _∙_}
+use mathlib.Core.List.{List}
+use native.Mathlib.Omega.{arith}
+use lib.ListN.{length, getD, set, replicate}
+use Rattle.rules.specs.Bytes.{accepted, Walked}
+use Rattle.rules.specs.Tree.{kinds, weights}
+use Rattle.rules.specs.Scheduling.{Run}
+use Rattle.rules.specs.Calls.{startVerdict}
+use Rattle.tree_tables.specs.Answers.{Ends, Sums, weightBefore}
+use Rattle.run_spec.specs.declared.TraceNumber.{TraceNumber}
+use Rattle.run_spec.specs.declared.Outcome.{Outcome}
+use Rattle.run_spec.specs.declared.Outcome.the-variants.{Ran, Stole, Refused}
+use Rattle.run_spec.specs.Numbers.{numberValue}
+use Rattle.run_spec.specs.Moves.{Fields, Move, fieldsOf, moveOf, fresh, eventMove}
+use Rattle.buffers.specs.Answers.{recordPut}
+use Rattle.loads.specs.Answers.{loadMoved}
+use Rattle.tree.specs.declared.Phase.{Phase}
+use Rattle.tree.specs.declared.Step.{Step}
+use Rattle.loads.specs.Answers.{weightBetween, Movable}
+use Rattle.loads.specs.Laws.Loads.{part-between}
+use Rattle.tree_tables.specs.Laws.Fronts.{start-frame}
+use Rattle.record_walk.specs.Laws.Recording.{Recording, Walks, recording-start, recording-done, event-refused, ran-room, ran-next, stole-room, stole-weight, stole-next}
+
+-- What holds of a state holds of an equal one, and the count of steals is the state's.
+at-state : {p : ℕ} {tree events : List ℕ} {k : ℕ} {s : Fields} {log trace ls : List ℕ} {logs steals : ℕ} (after : Fields) → s ≡ after
+    → Recording p tree events k s log trace ls logs steals → Recording p tree events k after log trace ls logs (after .steals)
+at-state {p} {tree} {events} {k} {s} {log} {trace} {ls} {logs} after e so =
+    subst (λ (x : Fields). Recording p tree events k x log trace ls logs (x .steals)) e
+    (rw (so .stealCount ∙ sym (so .shows .steals)) at so)
+
+-- The arrays that the walk begins with are those of a start.
+pub fresh-arrays : (p : ℕ)
+    → fieldsOf (replicate 4095 17) (set (replicate 16 65535) 0 0) (replicate 16 0) (replicate 16 0) (replicate 16 0) 0 p ≡ fresh p
+unfolding fresh
+fresh-arrays p = refl
+
+-- The start: all weight is worker 0's.
+pub turn-start : (p : ℕ) (tree events : List ℕ) → startVerdict p tree .number ≡ 0
+    → (sums : List ℕ) → Sums (weights tree) sums (length (kinds tree)) → (n : ℕ) → n ≡ length (kinds tree)
+    → (log trace : List ℕ) → length log ≡ 16380 → length trace ≡ 8188
+    → (s : Fields) → s ≡ fresh p → (ls : List ℕ) → ls ≡ set (replicate 16 0) 0 (getD sums n 0)
+    → Recording p tree events 0 s log trace ls 0 (s .steals)
+turn-start p tree events accepts sums right n m log trace h l s e ls f =
+    rw (f, m, right (length (kinds tree)) (omega arith))
+    (at-state s (sym e) (recording-start p tree events accepts log trace h l))
+
+-- The end.
+pub turn-done : {p : ℕ} {tree events : List ℕ} {k : ℕ} {s : Fields} {log trace ls : List ℕ} {logs : ℕ}
+    → startVerdict p tree .number ≡ 0 → Recording p tree events k s log trace ls logs (s .steals)
+    → k ≤ length events / 2 → length events / 2 ≤ k
+    → Walks p tree events (record { number = 0; position = 0; logs = logs; steals = s .steals; loads = ls }) log trace
+unfolding accepted
+turn-done {p} {tree} {events} {k} {s} {log} {trace} {ls} {logs} accepts so h l =
+    let all : k ≡ length events / 2 = omega arith in
+    record {
+      verdict = sym (ap (λ (w : Walked Run). w .verdict) (recording-done p tree events accepts k s log trace ls logs (s .steals) so l));
+      recorded = λ z. (s, rw all at so);
+    }
+
+-- Event k, of bytes a and b, with outcome o and the state after it.
+pub record Turn (p : ℕ) (tree events : List ℕ) (k : ℕ) (s : Fields) (log trace ls : List ℕ) (logs a b : ℕ) (o : Outcome) (after : Fields)
+    : Type 0 where
+  pub accepts : startVerdict p tree .number ≡ 0
+  pub so : Recording p tree events k s log trace ls logs (s .steals)
+  pub more : k < length events / 2
+  pub first : a ≡ getD events (2 * k) 0
+  pub second : b ≡ getD events (2 * k + 1) 0
+  pub moved : moveOf o after ≡ eventMove s tree a b
+
+-- The tables from which a stolen part's weight is read.
+pub record Weighed (tree ends sums : List ℕ) : Type 0 where
+  pub sized : length ends ≡ length (kinds tree)
+  pub right : Ends (kinds tree) ends (length ends)
+  pub longer : length (kinds tree) < length sums
+  pub added : Sums (weights tree) sums (length (kinds tree))
+  pub light : weightBefore (weights tree) (length (kinds tree)) < 18446744073709551616
+
+module _ {p : ℕ} {tree events : List ℕ} {k : ℕ} {s : Fields} {log trace ls : List ℕ} {logs a b : ℕ} {o : Outcome} {after : Fields}
+    (turn : Turn p tree events k s log trace ls logs a b o after) where
+  outcome : eventMove s tree a b .outcome ≡ o
+  outcome = sym (ap (λ (x : Move). x .outcome) (turn .moved))
+
+  state : eventMove s tree a b .after ≡ after
+  state = sym (ap (λ (x : Move). x .after) (turn .moved))
+
+  -- It is refused.
+  pub turn-refused : (x : ℕ) → o ≡ Refused x → (loads : List ℕ) (mine yours : List ℕ)
+      → Walks p tree events (record { number = x; position = k; logs = 0; steals = 0; loads = loads }) mine yours
+  turn-refused x e loads mine yours =
+      let by = event-refused p tree events (turn .accepts) k s log trace ls logs (s .steals) (turn .so) (turn .more) a b (turn .first) (turn .second) x (outcome ∙ e) in
+      record { verdict = by .0; recorded = λ z. absurd (by .1 z) }
+
+  -- It has run a step.
+  module _ {phase : Phase} {step : Step} (ran : o ≡ Ran phase step) where
+    pub ran-fits : (4 * logs + 4 ≤ length log) × (logs < 4095)
+    ran-fits =
+        let most = start-frame p tree (turn .accepts) .most in
+        let room = ran-room p tree events (turn .accepts) k s log trace ls logs (s .steals) (turn .so) (turn .more) a b (turn .first) (turn .second) (phase .0) (step .0) (outcome ∙ ran) in
+        (omega (arith, room, turn .so .logRoom, most), omega (arith, room, most))
+
+    pub ran-turn : (longer : List ℕ) → longer ≡ recordPut log logs (phase .0 % 256) (phase .0 / 256 % 256) (step .0)
+        → Recording p tree events (k + 1) after longer trace ls (logs + 1) (after .steals)
+    ran-turn longer e =
+        rw e
+        (at-state after state
+        (ran-next p tree events (turn .accepts) k s log trace ls logs (s .steals) (turn .so) (turn .more) a b (turn .first) (turn .second) (phase .0) (step .0) (outcome ∙ ran)))
+
+  -- It has stolen one, which the thief holds now.
+  module _ {number : TraceNumber} (stole : o ≡ Stole number) (step : ℕ) (held : step ≡ getD (after .held) a 0) where
+    taken : step ≡ getD (eventMove s tree a b .after .held) a 0
+    taken = held ∙ ap (λ (x : Fields). getD (x .held) a 0) (sym state)
+
+    room : (a < 16) × (b < 16) × (a ≡ b → ⊥) × (2 * s .steals + 2 < length (kinds tree)) × (step < length (kinds tree))
+    room = stole-room p tree events (turn .accepts) k s log trace ls logs (s .steals) (turn .so) (turn .more) a b (turn .first) (turn .second) number (outcome ∙ stole) step taken
+
+    pub stole-fits : (4 * s .steals + 4 ≤ length trace) × (a < 16) × (b < 16) × (a ≡ b → ⊥)
+    stole-fits =
+        (omega (arith, room, turn .so .traceRoom, start-frame p tree (turn .accepts) .most), room .0, room .1, room .2)
+
+    module _ {ends sums : List ℕ} (weighed : Weighed tree ends sums) where
+      filled : Ends (kinds tree) ends (length (kinds tree))
+      filled = rw (weighed .sized) at (weighed .right)
+
+      pub stole-movable : Movable ends sums ls a b step
+      stole-movable =
+          stole-weight p tree events (turn .accepts) k s log trace ls logs (s .steals) (turn .so) (turn .more) a b (turn .first) (turn .second) number (outcome ∙ stole) step taken
+          ends sums (omega (arith, weighed .sized)) filled (weighed .longer) (weighed .added) (weighed .light)
+
+      pub stole-turn : (further : List ℕ) → further ≡ recordPut trace (s .steals) a b (numberValue number)
+          → (moved : List ℕ) → moved ≡ loadMoved ls a b (weightBetween ends sums step)
+          → Recording p tree events (k + 1) after log further moved logs (after .steals)
+      stole-turn further e moved f =
+          let frame = start-frame p tree (turn .accepts) in
+          rw (e, f, part-between (kinds tree) (weights tree) (frame .shape) ends sums filled (weighed .added) step (room .4))
+          (at-state after state
+          (stole-next p tree events (turn .accepts) k s log trace ls logs (s .steals) (turn .so) (turn .more) a b (turn .first) (turn .second) number (outcome ∙ stole) step taken))

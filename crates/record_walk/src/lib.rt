@@ -1,0 +1,146 @@
+// The walk over a list of events: each goes through the same functions as a single event, on arrays of the walk's own and with the
+// tree's tables, which are filled once. What it comes to is a refusal with its position, or the log, the trace and the loads.
+pub mod output;
+
+ghost use mathlib.Core.Path.{_≡_};
+ghost use Prim.Native.Nat.{_<_};
+ghost use lib.ListN.{length};
+ghost use Rattle.rules.specs.Tree.{kinds, weights};
+ghost use Rattle.rules.specs.Calls.{startVerdict};
+ghost use Rattle.tree_tables.specs.Answers.{Ends, Openers, Sums};
+ghost use Rattle.record_walk.specs.Laws.Recording.{Walks};
+use buffers::EVENT;
+use run_deques::NOT_RUN;
+use run_event::run::NO_STEP;
+use run_spec::Outcome;
+use tree_tables::wide;
+
+// What the walk over the events comes to.
+pub struct Ended {
+    pub number: u8,
+    pub position: usize,
+    pub logs: usize,
+    pub steals: usize,
+    pub loads: [u64; 16],
+}
+
+// Runs the events from the start on, up to the first that is refused, with the tree's tables.
+fn walk(
+    tree: &[u8],
+    ends: &[u16],
+    openers: &[u16],
+    sums: &[u64],
+    policy: u8,
+    events: &[u8],
+    log: &mut [u8],
+    trace: &mut [u8],
+) -> Ended
+    requires { ⌜ startVerdict policy (now tree) .number ≡ 0 ⌝ }
+    requires { ⌜ (length (now ends) ≡ length (kinds (now tree))) × Ends (kinds (now tree)) (now ends) (length (now ends)) ⌝ }
+    requires { ⌜ (length (now openers) ≡ length (kinds (now tree))) × Openers (kinds (now tree)) (now openers) (length (now openers)) ⌝ }
+    requires { ⌜ (length (kinds (now tree)) < length (now sums)) × Sums (weights (now tree)) (now sums) (length (kinds (now tree))) ⌝ }
+    requires { ⌜ (length (now log) ≡ 16380) × (length (now trace) ≡ 8188) ⌝ }
+    ensures { λ r. ⌜ Walks policy (now (tree .entry)) (now (events .entry)) r (now (log .exit)) (now (trace .exit)) ⌝ }
+{
+    let n = tree::steps(tree);
+    let mut place: [u8; 4095] = [NOT_RUN; 4095];
+    let mut held: [u16; 16] = [NO_STEP; 16];
+    held[0] = 0;
+    let mut latest: [u16; 16] = [0; 16];
+    let mut low: [u16; 16] = [0; 16];
+    let mut base: [u16; 16] = [0; 16];
+    let mut steals: u16 = 0;
+    let mut loads: [u64; 16] = [0; 16];
+    loads[0] = sums[n];
+    let mut logs = 0;
+    let mut k = 0;
+    while k < events.len() / EVENT {
+        let at = k;
+        k += 1;
+        let first = events[EVENT * at];
+        let second = events[EVENT * at + 1];
+        let moved = run_event::event_on(
+            tree,
+            ends,
+            openers,
+            &mut place,
+            &mut held,
+            &mut latest,
+            &mut low,
+            &mut base,
+            steals,
+            policy,
+            first,
+            second,
+        );
+        let before = wide(steals);
+        let outcome = moved.outcome;
+        steals = moved.steals;
+        match outcome {
+            Outcome::Ran { phase, step } => {
+                output::log_run(log, logs, phase, step);
+                logs += 1;
+            }
+            Outcome::Stole(number) => {
+                let step = wide(held[first as usize]);
+                output::trace_steal(
+                    ends,
+                    sums,
+                    trace,
+                    &mut loads,
+                    before,
+                    first,
+                    second,
+                    step,
+                    number,
+                );
+            }
+            Outcome::Refused(number) => {
+                return Ended {
+                    number,
+                    position: at,
+                    logs: 0,
+                    steals: 0,
+                    loads: [0; 16],
+                };
+            }
+        }
+    }
+    Ended {
+        number: 0,
+        position: 0,
+        logs,
+        steals: wide(steals),
+        loads,
+    }
+}
+
+// The same, with tables of its own.
+pub fn walk_events(
+    tree: &[u8],
+    policy: u8,
+    events: &[u8],
+    log: &mut [u8],
+    trace: &mut [u8],
+) -> Ended
+    requires { ⌜ startVerdict policy (now tree) .number ≡ 0 ⌝ }
+    requires { ⌜ (length (now log) ≡ 16380) × (length (now trace) ≡ 8188) ⌝ }
+    ensures { λ r. ⌜ Walks policy (now (tree .entry)) (now (events .entry)) r (now (log .exit)) (now (trace .exit)) ⌝ }
+{
+    let n = tree::steps(tree);
+    let mut ends: [u16; 4095] = [0; 4095];
+    let mut openers: [u16; 4095] = [0; 4095];
+    let mut sums: [u64; 4096] = [0; 4096];
+    tree_tables::fill(tree, &mut ends, &mut openers);
+    tree_tables::sums::add_up(tree, &mut sums);
+    walk(
+        tree,
+        &ends[..n],
+        &openers[..n],
+        &sums,
+        policy,
+        events,
+        log,
+        trace,
+    )
+}

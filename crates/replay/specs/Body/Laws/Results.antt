@@ -1,0 +1,106 @@
+-- Each return of the code: from what the walk over the trace's records comes to, what the call does.
+use Prim.Native.Nat.{ℕ, zero, suc, _≤_}
+use mathlib.Core.Path.{_≡_, refl, sym, ap, _∙_}
+use mathlib.Core.List.{List, _∷_, _++_}
+use native.Mathlib.Omega.{arith}
+use lib.ListN.{length, take, replicate, length-append}
+use lib.Seq.{take-at}
+use Rattle.rules.specs.Bytes.{records}
+use Rattle.rules.specs.Tree.{kinds}
+use Rattle.rules.specs.Scheduling.{Phase}
+use Rattle.rules.specs.Traces.{entryBytes, replayWalk, runList}
+use Rattle.rules.specs.Calls.{written}
+use Rattle.tree_scan.specs.Laws.Starts.{admitted-policy}
+use Rattle.tree_scan.specs.Laws.Frames.{Frame}
+use Rattle.tree_tables.specs.Laws.Fronts.{start-frame}
+use Rattle.replay_invariant.specs.Invariant.{Split}
+use Rattle.replay_invariant.specs.Laws.Always.{always-split}
+use Rattle.replay_list.specs.Answers.{listed, Listable}
+use Rattle.replay_list.specs.Laws.Orders.{listed-is}
+use Rattle.replay_walk.specs.declared.Ended.{Ended}
+use Rattle.replay_walk.specs.Answers.{Retraced}
+use Rattle.replay.specs.Body.Answers.{Admitted, Outcome}
+
+-- ---- arrays whose front is lent
+
+-- The front of an array of labels that are all free.
+pub take-replicate : (n m x : ℕ) → n ≤ m → take n (replicate m x) ≡ replicate n x
+take-replicate zero m x h = refl
+take-replicate (suc n) zero x h = absurd (omega arith)
+take-replicate (suc n) (suc m) x h = ap (λ (l : List ℕ). x ∷ l) (take-replicate n m x (omega arith))
+
+-- An array whose front was lent and filled: the front lent again.
+module _ (n : ℕ) (front rest : List ℕ) (many : length front ≡ n) where
+  pub front-room : n ≤ length (front ++ rest)
+  front-room = omega (arith, length-append front rest)
+
+  pub front-length : n ≡ length (take n (front ++ rest))
+  front-length = rw (take-at front rest n many) (sym many)
+
+-- ---- the returns
+
+module _ {p : ℕ} {tree trace list : List ℕ} {n : ℕ} {w : Ended} {labels firsts : List ℕ}
+    (ready : Admitted p tree trace n list) (so : Retraced p tree trace w labels firsts) where
+  -- A record is refused: the list is as it was.
+  pub lost-outcome : (w .number ≡ 0 → ⊥) → Outcome p tree trace list w list
+  lost-outcome n =
+      record {
+        number = so .number;
+        position = so .position;
+        same = λ z. refl;
+        phases = λ z. absurd (n z);
+        loaded = λ z. absurd (n z);
+        listed = λ z. absurd (n z);
+      }
+
+  -- Every record is accepted.
+  module _ (none : w .number ≡ 0) where
+    frame : Frame tree
+    frame = start-frame p tree (ready .started)
+
+    abbrev phs : List Phase
+    phs = replayWalk 16 p (kinds tree) (records 4 trace) .state
+
+    split : Split p (kinds tree) phs
+    split =
+        let either = admitted-policy p tree (ready .started) in
+        always-split p either (kinds tree) (frame .some) (frame .shape) 16 (records 4 trace)
+
+    -- The run list can be written,
+    listable : Listable p (kinds tree) labels firsts (w .phases) (length list)
+    listable =
+        let many = so .phases none in
+        record {
+          phs = phs;
+          split = split;
+          shown = so .shown none;
+          many = many;
+          few = so .few none;
+          begins = λ k h. so .begins none k (omega arith);
+          fits = ready .fits;
+        }
+
+    -- by the labels lent again,
+    pub done-asked : (lent : List ℕ) → lent ≡ labels
+        → ((length lent ≡ length (kinds tree)) × (length firsts ≡ 2048))
+        × Listable p (kinds tree) lent firsts (w .phases) (length list)
+    done-asked lent same = rw same (so .sizes, listable)
+
+    -- and is the rules'.
+    done-list : listed p (kinds tree) labels firsts (w .phases) ≡ runList p (kinds tree) phs
+    done-list =
+        let shown = so .shown none in
+        rw (so .phases none)
+        (listed-is p (kinds tree) (frame .some) (frame .shape) phs split labels shown firsts (so .begins none))
+
+    pub done-outcome : (lent : List ℕ) → lent ≡ labels → (out : List ℕ)
+        → out ≡ written (entryBytes (listed p (kinds tree) lent firsts (w .phases))) list → Outcome p tree trace list w out
+    done-outcome lent same out g =
+        record {
+          number = so .number;
+          position = so .position;
+          same = λ n. absurd (n none);
+          phases = so .phases;
+          loaded = so .loaded;
+          listed = λ z. g ∙ rw (same, done-list) refl;
+        }

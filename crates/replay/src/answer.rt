@@ -1,0 +1,43 @@
+// What a replay call answers, by value (document 01, "Trace, log, run list" and "Refusals").
+
+ghost use mathlib.Core.Path.{_≡_};
+ghost use Rattle.replay.specs.Answer.Answers.{refusal, answered};
+
+// Its refusal and position, or the count of phases, each worker's load and the heaviest worker.
+pub struct Replayed {
+    pub number: u8,
+    pub position: usize,
+    pub phases: usize,
+    pub loads: [u64; 16],
+    pub heaviest: usize,
+}
+
+// A refusal: all other answers are 0.
+pub fn refused(number: u8, position: usize) -> Replayed
+    ensures { λ r. ⌜ r ≡ refusal number position ⌝ }
+{
+    Replayed {
+        number,
+        position,
+        phases: 0,
+        loads: [0; 16],
+        heaviest: 0,
+    }
+}
+
+// The answer on a trace whose walk is refused, or has come to so many phases with these loads.
+pub fn answer(number: u8, position: usize, phases: usize, loads: [u64; 16]) -> Replayed
+    ensures { λ r. ⌜ r ≡ answered number position phases loads ⌝ }
+{
+    if number != 0 {
+        return refused(number, position);
+    }
+    let heaviest = loads::heaviest(&loads);
+    Replayed {
+        number: 0,
+        position: 0,
+        phases,
+        loads,
+        heaviest,
+    }
+}

@@ -1,0 +1,53 @@
+-- `labels::take` meets its contract: a law for each way that it returns. Assumes nothing.
+use Prim.Native.Nat.{_<_}
+use native.Mathlib.Omega.{arith}
+use lib.ListN.{length}
+use borrow.Author.Needs.{needs}
+use Rattle.replay_labels.specs.Laws.Claims.{free-past, take-labelled, take-claimed}
+use Rattle.replay_labels.proofs.take.Statement.{statement}
+use Rattle.replay_labels.proofs.take.Tie as tie
+
+-- The step has a label.
+inside : (c : tie.Start) → c .args .step < length (c .args .labels .now)
+inside c = omega (arith, c .pre .0)
+
+mul-if1 : tie.Need-mul-if1
+mul-if1 c = search needs
+
+slice-read-if1 : tie.Need-slice-read-if1
+slice-read-if1 c = search needs
+
+returns : tie.Need-returns
+returns c =
+    let start = c .before .before .before .before in
+    let a = start .args in
+    take-labelled (a .openers .now) (a .labels .now) (a .step) (a .phase) (inside start) (c .if1 .taken) (a .labels .now)
+
+claim-requires : tie.Need-claim-requires
+claim-requires c κs =
+    let start = c .before .before .before .before .before in
+    let a = start .args in
+    let pre = start .pre .0 in (
+      (
+        free-past (a .labels .now) (a .step) (start .pre .1) (inside start) (c .before .if1 .left),
+        pre .0,
+        pre .1,
+        pre .2,
+      ),
+      start .pre .1,
+    )
+
+same-length : tie.Need-same-length
+same-length c = search needs
+
+returns-2 : tie.Need-returns-2
+returns-2 c =
+    let start = c .before .before .before .before .before .before .before .before in
+    let a = start .args in
+    let claim = c .before .before .claim in
+    take-claimed (a .openers .now) (a .labels .now) (a .step) (a .phase) (inside start)
+    (c .before .before .before .before .if1 .left) (claim .last .1 .0) (claim .result) (claim .ensures)
+
+pub take-spec : {M : Type 1} → statement M
+take-spec =
+    tie.close (tie.spec mul-if1 slice-read-if1 returns claim-requires same-length returns-2)

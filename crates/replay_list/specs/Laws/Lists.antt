@@ -1,0 +1,120 @@
+-- What the loop over the phases holds: the records of the phases so far stand at the front of the list. One law for the start,
+-- for a turn, and for the end.
+use Prim.Native.Nat.{ℕ, _+_, _*_, _≤_, _<_}
+use mathlib.Core.Path.{_≡_, refl, sym, _∙_}
+use mathlib.Core.List.{List, [], _∷_, _++_, map, flatten, append-assoc, append-nil}
+use native.Mathlib.Numerals.{add-one}
+use native.Mathlib.Nat.{zero-add}
+use native.Mathlib.Omega.{arith}
+use lib.ListN.{length, getD}
+use Rattle.rules.specs.Bytes.{count}
+use Rattle.rules.specs.Tree.{kinds, treeVerdict}
+use Rattle.rules.specs.Scheduling.{phaseAt, Entry}
+use Rattle.rules.specs.Traces.{runningOrder, entryBytes}
+use Rattle.rules.specs.Calls.{written}
+use Rattle.tree.specs.Laws.Counts.{count-snoc}
+use Rattle.tree_scan.specs.Laws.Frames.{Frame, accepted-frame}
+use Rattle.buffers.specs.Laws.Records.{length-entries}
+use Rattle.buffers.specs.Laws.Fronts.{partOf, withPart, Front, front-none, front-within, front-room, front-next}
+use Rattle.replay_list.specs.Phase.Answers.{phaseOrder, inPhase, Writable}
+use Rattle.replay_list.specs.Phase.Laws.Orders.{length-in-phase, order-labelled}
+use Rattle.replay_list.specs.Answers.{listed, Listable}
+use Rattle.replay_list.specs.Laws.Orders.{orders-fit}
+
+pub record Listing (p : ℕ) (ks labels firsts : List ℕ) (phases : ℕ) (before list stack : List ℕ) (k at : ℕ) : Type 0 where
+  pub upto : k ≤ phases
+  pub room : length stack ≡ 2047
+  pub front : Front before (entryBytes (listed p ks labels firsts k)) list at
+
+-- ---- lists
+
+flat-append : {A B : Type 0} (f : A → List B) (xs ys : List A)
+    → flatten (map f (xs ++ ys)) ≡ flatten (map f xs) ++ flatten (map f ys)
+unfolding flatten
+flat-append f [] ys = refl
+flat-append f (x ∷ xs) ys = rw (flat-append f xs ys) (sym (append-assoc (f x) (flatten (map f xs)) (flatten (map f ys))))
+
+entries-append : (xs ys : List Entry) → entryBytes (xs ++ ys) ≡ entryBytes xs ++ entryBytes ys
+unfolding entryBytes
+entries-append xs ys = flat-append _ xs ys
+
+module _ (p : ℕ) (ks labels firsts : List ℕ) where
+  -- One phase more.
+  listed-one : (k : ℕ)
+      → listed p ks labels firsts (k + 1) ≡ listed p ks labels firsts k ++ inPhase k (phaseOrder p ks labels k (getD firsts k 0))
+  unfolding listed flatten
+  listed-one k =
+      rw (add-one, count-snoc k 0, zero-add)
+      (flat-append (λ j. inPhase j (phaseOrder p ks labels j (getD firsts j 0))) (count 0 k) (k ∷ [])
+      ∙ rw append-nil refl)
+
+-- ---- the loop
+
+module _ (p : ℕ) (tree labels firsts : List ℕ) (accepts : treeVerdict tree .number ≡ 0) (phases : ℕ) (before : List ℕ)
+    (given : Listable p (kinds tree) labels firsts phases (length before)) where
+  frame : Frame tree
+  frame = accepted-frame tree accepts
+
+  pub listing-start : (stack : List ℕ) → length stack ≡ 2047
+      → Listing p (kinds tree) labels firsts phases before before stack 0 0
+  unfolding listed entryBytes written flatten count
+  listing-start stack room =
+      record { upto = omega arith; room = room; front = front-none before }
+
+  module _ (list stack : List ℕ) (k at : ℕ) (so : Listing p (kinds tree) labels firsts phases before list stack k at) where
+    -- All phases are written.
+    pub listing-done : (k < phases → ⊥) → list ≡ written (entryBytes (listed p (kinds tree) labels firsts phases)) before
+    listing-done past =
+        let all : k ≡ phases = omega (arith, so .upto) in
+        rw all at (so .front .same)
+
+    module _ (more : k < phases) (first : ℕ) (begins : first ≡ getD firsts k 0) where
+      begun : k < length (given .phs)
+      begun = rw (given .many) at more
+
+      abbrev order : List ℕ
+      order = phaseOrder p (kinds tree) labels k first
+
+      -- The phase's order is the rules', and the records have room.
+      order-is : order ≡ runningOrder p (kinds tree) (phaseAt (given .phs) k)
+      order-is =
+          rw (begins, given .begins k more)
+          (order-labelled p (kinds tree) (frame .some) (frame .shape) (given .phs) (given .split) labels (given .shown) k begun)
+
+      fits : at + 4 * length order ≤ length before
+      fits =
+          let all =
+          orders-fit p (kinds tree) (frame .some) (frame .shape) (given .phs) (given .split) labels (given .shown) firsts
+          (λ j l. given .begins j (rw (← given .many) at l)) k begun in
+          rw order-is (omega (arith, all, so .front .many, length-entries (listed p (kinds tree) labels firsts k), given .fits))
+
+      pub list-fits : (at ≤ length list) × (k < 2048)
+      list-fits = (front-within (so .front), omega (arith, given .few))
+
+      pub phase-writable : Writable p (kinds tree) labels k first (length (partOf list at))
+      phase-writable =
+          record {
+            phs = given .phs;
+            split = given .split;
+            shown = given .shown;
+            begun = begun;
+            from = sym (given .begins k more) ∙ sym begins;
+            fits = rw (← order-is) (front-room (so .front) (4 * length order) fits);
+          }
+
+      module _ (count : ℕ) (counts : count ≡ length order) where
+        pub count-fits : at + 4 * count ≤ length before
+        count-fits = rw counts fits
+
+        pub phase-listed : (part : List ℕ) → part ≡ written (entryBytes (inPhase k order)) (partOf list at)
+            → (next : List ℕ) → length next ≡ 2047
+            → Listing p (kinds tree) labels firsts phases before (withPart list at part) next (k + 1) (at + 4 * count)
+        phase-listed part put next room =
+            let size : 4 * count ≡ length (entryBytes (inPhase k order)) =
+            omega (arith, counts, length-entries (inPhase k order), length-in-phase k order) in
+            record {
+              upto = omega arith;
+              room = room;
+              front = rw (listed-one, entries-append, ← begins)
+                  (front-next (so .front) (entryBytes (inPhase k order)) part (4 * count) (omega (arith, count-fits)) (size, put));
+            }

@@ -1,0 +1,49 @@
+// The run list (document 01, "Trace, log, run list"): phase 0 first, each phase's records in running order, in their own part
+// of the lent list.
+pub mod phase;
+
+ghost use mathlib.Core.Path.{_≡_};
+ghost use lib.ListN.{length};
+ghost use Rattle.rules.specs.Tree.{kinds, treeVerdict};
+ghost use Rattle.rules.specs.Traces.{entryBytes};
+ghost use Rattle.rules.specs.Calls.{written};
+ghost use Rattle.tree_tables.specs.Answers.{Ends};
+ghost use Rattle.replay_list.specs.Answers.{listed, Listable};
+use phase::write_phase;
+use tree_tables::wide;
+
+// Writes the run list, each phase behind the one before.
+pub fn write_list(
+    tree: &[u8],
+    ends: &[u16],
+    labels: &[u16],
+    firsts: &[u16],
+    policy: u8,
+    phases: usize,
+    list: &mut [u8],
+)
+    requires { ⌜ (treeVerdict (now tree) .number ≡ 0) × Ends (kinds (now tree)) (now ends) (length (now ends)) ⌝ }
+    requires { ⌜ (length (now labels) ≡ length (kinds (now tree))) × (length (now firsts) ≡ 2048) ⌝ }
+    requires { ⌜ Listable policy (kinds (now tree)) (now labels) (now firsts) phases (length (now list)) ⌝ }
+    ensures { λ r. ⌜ now (list .exit) ≡ written (entryBytes (listed policy (kinds (now (tree .entry))) (now (labels .entry)) (now (firsts .entry)) phases)) (now (list .entry)) ⌝ }
+{
+    let mut stack: [u16; 2047] = [0; 2047];
+    let mut k = 0;
+    let mut at = 0;
+    while k < phases {
+        let phase = k;
+        k += 1;
+        let first = wide(firsts[phase]);
+        let count = write_phase(
+            tree,
+            ends,
+            labels,
+            policy,
+            phase,
+            first,
+            &mut stack,
+            &mut list[at..],
+        );
+        at += buffers::RECORD * count;
+    }
+}

@@ -1,0 +1,57 @@
+// A trace record (document 01, "Trace, log, run list"): a steal's thief, victim and number, and the refusals that its workers
+// decide.
+
+ghost use mathlib.Core.Path.{_≡_};
+ghost use Prim.Native.Nat.{_+_, _*_, _/_, _<_};
+ghost use lib.ListN.{length};
+ghost use Rattle.replay_steal.specs.Entry.Answers.{judgedWorkers, Entry};
+
+// The latest phase of a worker that has had none.
+pub const NO_PHASE: u16 = 65535;
+
+// What a trace record says.
+pub struct TraceRecord {
+    pub thief: u8,
+    pub victim: u8,
+    pub number: u16,
+}
+
+// A number of two bytes.
+fn two_bytes(low: u8, high: u8) -> u16
+    ensures { λ r. ⌜ r ≡ low + 256 * high ⌝ }
+{
+    low as u16 + 256 * (high as u16)
+}
+
+// Reads record k.
+pub fn record_at(trace: &[u8], k: usize) -> TraceRecord
+    requires { ⌜ k < length (now trace) / 4 ⌝ }
+    ensures { λ r. ⌜ Entry (now (trace .entry)) k (r .thief) (r .victim) (r .number) ⌝ }
+{
+    let at = buffers::RECORD * k;
+    TraceRecord {
+        thief: trace[at],
+        victim: trace[at + 1],
+        number: two_bytes(trace[at + 2], trace[at + 3]),
+    }
+}
+
+// Refusals 8, 13 and 14 of a record, 0 for none.
+pub fn judge(latest: &[u16; 16], thief: u8, victim: u8) -> u8
+    requires { ⌜ length (now latest) ≡ 16 ⌝ }
+    ensures { λ r. ⌜ r ≡ judgedWorkers (now (latest .entry)) thief victim ⌝ }
+{
+    if 15 < thief {
+        return 8;
+    }
+    if 15 < victim {
+        return 8;
+    }
+    if thief == victim {
+        return 13;
+    }
+    if latest[victim as usize] == NO_PHASE {
+        return 14;
+    }
+    0
+}

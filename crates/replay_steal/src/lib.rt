@@ -1,0 +1,50 @@
+// How replay reads a steal (document 01, "Trace, log, run list"): the step that a trace number names against the victim's phase,
+// if all from it to the end of its task is still in the phase.
+pub mod entry;
+pub mod number;
+pub mod phase;
+
+ghost use mathlib.Core.Path.{_≡_};
+ghost use Prim.Native.Nat.{_<_};
+ghost use lib.ListN.{length, getD};
+ghost use Rattle.rules.specs.Tree.{kinds, treeVerdict};
+ghost use Rattle.tree_tables.specs.Answers.{Ends, Openers};
+ghost use Rattle.replay_invariant.specs.Laws.Labels.{labelOf};
+ghost use Rattle.replay_steal.specs.Number.Answers.{named};
+ghost use Rattle.replay_steal.specs.Answers.{Reading};
+use number::Named;
+use tree_tables::wide;
+
+// Reads a number against a phase: gives the step that it names, if that step can be stolen from the phase. The steps above it
+// are labelled then. The tables have for each phase a step of its frontier task, and that step's ordinal.
+pub fn read(
+    tree: &[u8],
+    ends: &[u16],
+    openers: &[u16],
+    labels: &mut [u16],
+    policy: u8,
+    bases: &[u16; 2048],
+    ordinals: &[u16; 2048],
+    phase: u16,
+    number: u16,
+) -> Named
+    requires { ⌜ (treeVerdict (now tree) .number ≡ 0) × (phase < 2048) × (getD (now bases) phase 0 < length (kinds (now tree))) ⌝ }
+    requires { ⌜ Ends (kinds (now tree)) (now ends) (length (now ends)) ⌝ }
+    requires { ⌜ (length (now openers) ≡ length (kinds (now tree))) × Openers (kinds (now tree)) (now openers) (length (now openers)) ⌝ }
+    requires { ⌜ (length (now labels) ≡ length (kinds (now tree))) × (labelOf (now labels) 0 ≡ 65535 → ⊥) ⌝ }
+    requires { ⌜ (length (now bases) ≡ 2048) × (length (now ordinals) ≡ 2048) ⌝ }
+    ensures { λ r. ⌜ Reading (now (openers .entry)) (now (labels .entry)) phase (named policy (kinds (now (tree .entry))) (getD (now (bases .entry)) phase 0) (getD (now (ordinals .entry)) phase 0) number) r (now (labels .exit)) ⌝ }
+{
+    let at = wide(phase);
+    let base = wide(bases[at]);
+    let ordinal = wide(ordinals[at]);
+    match number::name(tree, ends, openers, policy, base, ordinal, wide(number)) {
+        Named::At(step) => {
+            if !replay_labels::take(openers, labels, step.0, phase) {
+                return Named::Nothing;
+            }
+            Named::At(step)
+        }
+        Named::Nothing => Named::Nothing,
+    }
+}

@@ -1,0 +1,234 @@
+-- A turn of the loop over the records, where the record's workers are not refused: its number is read against the victim's
+-- latest phase. Either it breaks the rule, or a phase begins and the tables show that.
+use Prim.Native.Nat.{ℕ, _+_, _≤_, _<_}
+use mathlib.Core.Path.{_≡_, refl, sym, ap, _∙_}
+use mathlib.Core.Bool.{Bool, true, false, cond}
+use mathlib.Core.List.{List, []}
+use mathlib.Core.Option.{some}
+use native.Mathlib.Numerals.{add-one}
+use native.Mathlib.Omega.{arith}
+use lib.ListN.{length, drop, getD, set, replicate, length-set}
+use Rattle.rules.specs.Bytes.{records, walk}
+use Rattle.rules.specs.Tree.{kinds, weights}
+use Rattle.rules.specs.Scheduling.{mostWorkers, pushes, Phase, phaseAt, begin}
+use Rattle.rules.specs.Traces.{latestPhase, numberAllowed, stolenStep, judgeTraceRecord, nextPhases, replayWalk, loads}
+use Rattle.tree.specs.declared.Step.{Step}
+use Rattle.tree.specs.Laws.Records.{length-records}
+use Rattle.tree.specs.Laws.Walks.{walk-on}
+use Rattle.tree_scan.specs.Laws.Shape.{Shape}
+use Rattle.tree_scan.specs.Laws.Frames.{endAt, sizeAt}
+use Rattle.run_invariant.specs.Invariant.{Pushed}
+use Rattle.run_invariant.specs.Laws.Moves.{begin-length}
+use Rattle.run_invariant.specs.Laws.Weights.{pushed-within}
+use Rattle.replay_invariant.specs.Invariant.{Taken}
+use Rattle.replay_invariant.specs.Laws.Parts.{PartOf, part-inside, pushes-part}
+use Rattle.replay_invariant.specs.Laws.Reads.{allowed-taken}
+use Rattle.replay_invariant.specs.Laws.Labels.{free, labelOf, Climb, labelled, root-labelled, begin-labels}
+use Rattle.replay_invariant.specs.Laws.Always.{Read, latest-own, read-next, begin-split}
+use Rattle.replay_steal.specs.declared.number.Named.{Named}
+use Rattle.replay_steal.specs.declared.number.Named.the-variants.{At, Nothing}
+use Rattle.replay_steal.specs.Number.Answers.{named}
+use Rattle.replay_steal.specs.Answers.{Reading}
+use Rattle.replay_steal.specs.Laws.Reading.{opener-parts, read-allowed, read-broken}
+use Rattle.loads.specs.Answers.{loadMoved}
+use Rattle.loads.specs.Answers.{weightBetween, Movable}
+use Rattle.loads.specs.Laws.Loads.{Takes, part-between, begin-loads, begin-whole, begin-movable}
+use Rattle.replay_steal.specs.Entry.Answers.{judgedWorkers, Entry}
+use Rattle.replay_steal.specs.Entry.Laws.Workers.{fine-workers, latest-some, latest-next, judged-on}
+use Rattle.replay_walk.specs.declared.Ended.{Ended}
+use Rattle.replay_walk.specs.Answers.{Retraced}
+use Rattle.replay_walk.specs.Laws.Begins.{firsts-next, bases-within, bases-next}
+use Rattle.replay_walk.specs.Laws.Retracing.{Retracing, Tables, retrace-stopped}
+
+-- What was pushed is not step 0.
+pushed-past : (ks : List ℕ) → Shape (length ks) (endAt ks) (sizeAt ks) → (p s : ℕ) → Pushed p ks s → 0 < s
+pushed-past ks sh p s by =
+    omega (arith, by .3, part-inside ks sh (by .0) (pushes p ks (by .0)) (pushes-part ks sh p (by .0) (by .1) (by .2)))
+
+module _ {p : ℕ} {tree trace : List ℕ} {k : ℕ} {labels firsts bases ordinals latest ls : List ℕ}
+    (so : Retracing p tree trace k labels firsts bases ordinals latest ls) {thief victim number : ℕ}
+    (entry : Entry trace k thief victim number) (fine : judgedWorkers latest thief victim ≡ 0) where
+  abbrev ks : List ℕ
+  ks = kinds tree
+
+  abbrev sh : Shape (length ks) (endAt ks) (sizeAt ks)
+  sh = so .frame .shape
+
+  -- The victim's latest phase.
+  abbrev from : ℕ
+  from = getD latest victim 0
+
+  abbrev phase : Phase
+  phase = phaseAt (so .phs) from
+
+  pub two-workers : (thief < mostWorkers) × (victim < mostWorkers) × (thief ≡ victim → ⊥) × (from ≡ free → ⊥)
+  two-workers = fine-workers latest thief victim fine
+
+  victims : latestPhase victim 0 (so .phs) ≡ some from
+  victims = latest-some (so .phs) latest (so .latests) victim (two-workers .1) (two-workers .3)
+
+  own : (from < length (so .phs)) × (phase .worker ≡ victim)
+  own = latest-own victim (so .phs) from victims
+
+  -- What reading asks.
+  pub read-ready : (k + 1 < 2048) × (from < k + 1) × (getD bases from 0 < length ks) × (labelOf labels 0 ≡ free → ⊥)
+  read-ready = (
+    omega (arith, so .short, entry .more),
+    omega (arith, so .many, own .0),
+    so .within from (own .0),
+    root-labelled p ks (so .frame .some) sh (so .phs) (so .split) labels (so .shown),
+  )
+
+  judged : judgeTraceRecord mostWorkers p ks (so .phs) (getD (records 4 trace) k []) ≡ cond (numberAllowed p ks phase number) 0 15
+  judged =
+      let on = judged-on (so .phs) latest (so .latests) p ks (getD (records 4 trace) k []) in
+      (rw (entry .first, entry .second, entry .rest) at on) fine
+
+  -- The number has been read: r is the answer, `after` are the labels.
+  module _ {ends openers sums : List ℕ} (tables : Tables tree ends openers sums) (r : Named) (after : List ℕ)
+      (reading : Reading openers labels from (named p ks (getD bases from 0) (getD ordinals from 0) number) r after)
+      (kept : length after ≡ length labels) where
+    if-allowed : numberAllowed p ks phase number ≡ true
+        → (r ≡ At (record { 0 = stolenStep p ks phase number }))
+        × ((path : List ℕ) × (top : ℕ) × Climb openers labels (stolenStep p ks phase number) path top
+        × (after ≡ labelled labels path from))
+    if-allowed =
+        read-allowed p (so .either) ks (so .frame .some) sh (so .phs) (so .split) labels (so .shown) openers (tables .opened) from
+        (getD bases from 0) (getD ordinals from 0) number (own .0) (λ w. so .based w from (own .0)) r after reading
+
+    if-broken : numberAllowed p ks phase number ≡ false → r ≡ Nothing
+    if-broken =
+        read-broken p (so .either) ks (so .frame .some) sh (so .phs) (so .split) labels (so .shown) openers (tables .opened) from
+        (getD bases from 0) (getD ordinals from 0) number (own .0) (λ w. so .based w from (own .0)) r after reading
+
+    -- It breaks the rule.
+    pub retrace-broken : r ≡ Nothing → (e : Ended) → e ≡ record { number = 15; position = k; phases = 0; loads = replicate 16 0 }
+        → Retraced p tree trace e after firsts
+    retrace-broken lost e is = by (numberAllowed p ks phase number) refl
+      where
+        by : (b : Bool) → numberAllowed p ks phase number ≡ b → Retraced p tree trace e after firsts
+        by true a = let z : _≡_ {A = ℕ} 0 1 = cc (if-allowed a .0) in absurd (omega arith)
+        by false a = retrace-stopped so entry 15 (judged ∙ rw a refl) (λ z. omega arith) e is after (kept ∙ so .labelRoom)
+
+    -- It names step s, which can be stolen: a phase begins with it.
+    module _ {s : ℕ} (gives : r ≡ At (record { 0 = s })) where
+      allowed : numberAllowed p ks phase number ≡ true
+      allowed = by (numberAllowed p ks phase number) refl
+        where
+          by : (b : Bool) → numberAllowed p ks phase number ≡ b → numberAllowed p ks phase number ≡ true
+          by true a = a
+          by false a = let z : _≡_ {A = ℕ} 0 1 = cc (if-broken a) in absurd (omega arith)
+
+      step-is : s ≡ stolenStep p ks phase number
+      step-is =
+          let same = if-allowed allowed .0 in
+          let both : _≡_ {A = Step} (record { 0 = s }) (record { 0 = stolenStep p ks phase number }) = cc in
+          ap (λ (x : Step). x .0) both
+
+      climbed : (path : List ℕ) × (top : ℕ) × Climb openers labels s path top × (after ≡ labelled labels path from)
+      climbed = rw step-is (if-allowed allowed .1)
+
+      taken : Taken p ks phase s
+      taken = rw step-is (allowed-taken ks sh p (so .either) phase (so .split .cuts from (own .0)) number allowed)
+
+      within : s < length ks
+      within = pushed-within ks sh p s (taken .pushed)
+
+      opener : PartOf ks (getD openers s 0) s
+      opener = opener-parts ks openers (tables .opened) s (pushed-past ks sh p s (taken .pushed)) within
+
+      -- What the tables ask,
+      pub begin-ready : (s < length ks) × (getD openers s 0 < s) × (length ks ≤ 4095)
+      begin-ready = (within, part-inside ks sh (getD openers s 0) s opener .0, so .frame .most)
+
+      takes : Takes ks (so .phs) thief from victim s
+      takes =
+          record {
+            begun = own .0;
+            own = own .1;
+            other = two-workers .2;
+            thief = two-workers .0;
+            victim = two-workers .1;
+            within = within;
+            apart = taken .apart;
+          }
+
+      -- and the loads.
+      pub part-movable : Movable ends sums ls thief victim s
+      part-movable =
+          rw (so .loaded)
+          (begin-movable ks (weights tree) sh takes ends sums (tables .long) (tables .right) (tables .longer) (tables .added)
+          (rw (so .loaded) at (so .whole)) (tables .light))
+
+      next-phases : nextPhases p ks (so .phs) (getD (records 4 trace) k []) ≡ begin (so .phs) thief from s
+      next-phases =
+          let reads : Read mostWorkers p ks (so .phs) (getD (records 4 trace) k []) =
+          record {
+            thief = rw (entry .first) (two-workers .0);
+            victim = rw (entry .second) (two-workers .1);
+            other = rw (entry .first, entry .second) (two-workers .2);
+            from = from;
+            latest = rw (entry .second) victims;
+            allowed = rw (entry .rest) allowed;
+          }
+          in
+          read-next mostWorkers p ks (so .phs) (getD (records 4 trace) k []) reads ∙ rw (entry .first, entry .rest, step-is) refl
+
+      next-walked : replayWalk mostWorkers p ks (records 4 trace)
+          ≡ walk (judgeTraceRecord mostWorkers p ks) (nextPhases p ks) (k + 1) (begin (so .phs) thief from s)
+          (drop (k + 1) (records 4 trace))
+      next-walked =
+          so .walked
+          ∙ walk-on (judgeTraceRecord mostWorkers p ks) (nextPhases p ks) (records 4 trace) [] k (so .phs)
+          (rw (length-records 4 trace) (entry .more)) (judged ∙ rw allowed refl)
+          ∙ rw (next-phases, add-one k) refl
+
+      next-loads : loadMoved ls thief victim (weightBetween ends sums s)
+          ≡ loads mostWorkers ks (weights tree) (begin (so .phs) thief from s)
+      next-loads =
+          rw (part-between ks (weights tree) sh ends sums (tables .right) (tables .added) s within, so .loaded)
+          (sym (begin-loads ks (weights tree) sh takes))
+
+      -- The tables then.
+      module _ (labels' firsts' bases' ordinals' latest' ls' : List ℕ)
+          (label : labels' ≡ set after s (k + 1)) (first : firsts' ≡ set firsts (k + 1) s)
+          (base : bases' ≡ set (set bases from (getD openers s 0 + 1)) (k + 1) s)
+          (ordinal : ordinals' ≡ set (set ordinals from 0) (k + 1) number)
+          (last : latest' ≡ set latest thief (k + 1)) (load : ls' ≡ loadMoved ls thief victim (weightBetween ends sums s)) where
+        pub retrace-begun : Retracing p tree trace (k + 1) labels' firsts' bases' ordinals' latest' ls'
+        retrace-begun =
+            let room = read-ready .0 in
+            let baseFits : k + 1 < length bases = omega (arith, so .baseRoom) in
+            let begun = own .0 in
+            let q = getD openers s 0 in
+            let loaded = load ∙ next-loads in
+            record {
+              either = so .either;
+              frame = so .frame;
+              short = so .short;
+              reached = omega (arith, entry .more);
+              phs = begin (so .phs) thief from s;
+              walked = next-walked;
+              split = begin-split p (so .either) ks (so .frame .some) sh (so .phs) (so .split) thief from s begun taken;
+              shown = rw (label, so .many, climbed .3)
+                  (begin-labels p ks (so .frame .some) sh (so .phs) (so .split) labels (so .shown) openers
+                  (opener-parts ks openers (tables .opened)) thief from s begun (omega (arith, so .many)) taken (climbed .0)
+                  (climbed .1) (climbed .2));
+              many = omega (arith, so .many, begin-length (so .phs) thief from s);
+              labelRoom = rw label (length-set after s (k + 1) ∙ kept ∙ so .labelRoom);
+              firstRoom = rw first (length-set firsts (k + 1) s ∙ so .firstRoom);
+              baseRoom = rw base (simp length-set (so .baseRoom));
+              ordinalRoom = rw ordinal (simp length-set (so .ordinalRoom));
+              latestRoom = rw last (length-set latest thief (k + 1) ∙ so .latestRoom);
+              begins = rw first
+                  (firsts-next (so .phs) thief from s (k + 1) begun (so .many) firsts (omega (arith, so .firstRoom)) (so .begins));
+              within = rw base
+                  (bases-within (so .phs) thief from s (k + 1) begun (so .many) ks sh q opener bases baseFits (so .within));
+              based = rw (base, ordinal)
+                  (bases-next (so .phs) thief from s (k + 1) begun (so .many) ks sh q opener bases baseFits ordinals
+                  (omega (arith, so .ordinalRoom)) p number (so .based) allowed step-is taken);
+              latests = rw (last, so .many)
+                  (latest-next (so .phs) latest (so .latests) thief from s (omega (arith, so .latestRoom, two-workers .0)) begun);
+              loaded = loaded;
+              whole = rw loaded (begin-whole ks (weights tree) sh takes ∙ (rw (so .loaded) at (so .whole)));
+            }

@@ -1,0 +1,113 @@
+// The walk over a trace's records (document 01, "Trace, log, run list"): each is read against the victim's latest phase and
+// begins a phase. What it comes to is a refusal with its position, or the first steps of the phases, the labels of the steps
+// and the loads.
+
+ghost use mathlib.Core.Path.{_≡_};
+ghost use mathlib.Core.Bool.{true};
+ghost use Prim.Native.Nat.{_<_};
+ghost use lib.ListN.{length, replicate};
+ghost use Rattle.rules.specs.Tree.{kinds, weights};
+ghost use Rattle.rules.specs.Bytes.{wholeRecords};
+ghost use Rattle.rules.specs.Calls.{startVerdict};
+ghost use Rattle.tree_tables.specs.Answers.{Ends, Openers, Sums};
+ghost use Rattle.replay_walk.specs.Answers.{Retraced};
+use replay_steal::entry::NO_PHASE;
+use replay_steal::number::Named;
+
+// What the walk over the records comes to.
+pub struct Ended {
+    pub number: u8,
+    pub position: usize,
+    pub phases: usize,
+    pub loads: [u64; 16],
+}
+
+// A refusal at a position.
+fn refused(number: u8, position: usize) -> Ended
+    ensures { λ r. ⌜ r ≡ record { number = number; position = position; phases = 0; loads = replicate 16 0 } ⌝ }
+{
+    Ended {
+        number,
+        position,
+        phases: 0,
+        loads: [0; 16],
+    }
+}
+
+// Reads the records from the first on, up to the first that is refused, with the tree's tables. The labels are all free at
+// first.
+pub fn walk(
+    tree: &[u8],
+    ends: &[u16],
+    openers: &[u16],
+    sums: &[u64],
+    policy: u8,
+    trace: &[u8],
+    labels: &mut [u16],
+    firsts: &mut [u16; 2048],
+) -> Ended
+    requires { ⌜ (startVerdict policy (now tree) .number ≡ 0) × (wholeRecords 4 2047 (now trace) ≡ true) ⌝ }
+    requires { ⌜ (length (now ends) ≡ length (kinds (now tree))) × Ends (kinds (now tree)) (now ends) (length (now ends)) ⌝ }
+    requires { ⌜ (length (now openers) ≡ length (kinds (now tree))) × Openers (kinds (now tree)) (now openers) (length (now openers)) ⌝ }
+    requires { ⌜ (length (kinds (now tree)) < length (now sums)) × Sums (weights (now tree)) (now sums) (length (kinds (now tree))) ⌝ }
+    requires { ⌜ (now labels ≡ replicate (length (kinds (now tree))) 65535) × (length (now firsts) ≡ 2048) ⌝ }
+    ensures { λ r. ⌜ Retraced policy (now (tree .entry)) (now (trace .entry)) r (now (labels .exit)) (now (firsts .exit)) ⌝ }
+{
+    let mut bases: [u16; 2048] = [0; 2048];
+    let mut ordinals: [u16; 2048] = [0; 2048];
+    let mut latest: [u16; 16] = [NO_PHASE; 16];
+    let mut loads: [u64; 16] = [0; 16];
+    let weight = sums[tree::steps(tree)];
+    replay_steal::phase::begin_first(labels, firsts, &mut latest, &mut loads, weight);
+    let mut k = 0;
+    while k < trace.len() / buffers::RECORD {
+        let at = k;
+        k += 1;
+        let steal = replay_steal::entry::record_at(trace, at);
+        let refusal = replay_steal::entry::judge(&latest, steal.thief, steal.victim);
+        if refusal != 0 {
+            return refused(refusal, at);
+        }
+        let thief = steal.thief as usize;
+        let victim = steal.victim as usize;
+        // The victim's latest phase. The record begins phase k.
+        let phase = latest[victim];
+        match replay_steal::read(
+            tree,
+            ends,
+            openers,
+            labels,
+            policy,
+            &bases,
+            &ordinals,
+            phase,
+            steal.number,
+        ) {
+            Named::At(step) => {
+                replay_steal::phase::begin(
+                    openers,
+                    labels,
+                    firsts,
+                    &mut bases,
+                    &mut ordinals,
+                    &mut latest,
+                    k,
+                    phase,
+                    thief,
+                    step.0,
+                    steal.number,
+                );
+                loads::move_part(ends, sums, &mut loads, thief, victim, step.0);
+            }
+            Named::Nothing => {
+                return refused(15, at);
+            }
+        }
+    }
+    Ended {
+        number: 0,
+        position: 0,
+        phases: k + 1,
+        loads,
+    }
+}

@@ -1,0 +1,118 @@
+// The deques of all workers, kept in one byte for each step (document 01, "Scheduling"): `place[j]` is NOT_RUN, or RUN, or the
+// number of the worker in whose deque the step is that step j pushed when it ran. A deque is in the order of its pushers, so its
+// newest step is that of its highest pusher, its oldest that of its lowest. No links are kept: any bytes are safe to scan. Where
+// a table of openers is lent, the newest step is found by it instead.
+
+ghost use mathlib.Core.Path.{_≡_};
+ghost use Prim.Native.Nat.{_≤_, _<_};
+ghost use lib.ListN.{length};
+ghost use Rattle.run_spec.specs.Deques.{Climbs, newestMark, oldestMark, pusherOf, popped, robbed};
+use run_spec::Pusher;
+use tree::Step;
+use tree_tables::wide;
+
+// Workers of a run.
+pub const MOST_WORKERS: usize = 16;
+
+// A step that has run, where the step that it pushed, if any, is in no deque any more.
+pub const RUN: u8 = 16;
+
+// A step that has not run.
+pub const NOT_RUN: u8 = 17;
+
+// The highest step marked with the worker among those from `low` to before `end`, by a scan.
+fn scan(place: &[u8; 4095], worker: u8, low: usize, end: usize) -> Pusher
+    requires { ⌜ end ≤ 4095 ⌝ }
+    ensures { λ r. ⌜ r ≡ pusherOf (newestMark (now (place .entry)) worker low end) ⌝ }
+{
+    let mut j = end;
+    while low < j {
+        j -= 1;
+        if place[j] == worker {
+            return Pusher::At(Step(j));
+        }
+    }
+    Pusher::Nothing
+}
+
+// The same from step `end` up, from opener to opener: no other step is marked with a worker that holds `end`.
+fn climb(openers: &[u16], place: &[u8; 4095], worker: u8, low: usize, end: usize) -> Pusher
+    requires { ⌜ (end < 4095) × (end < length (now openers)) × Climbs (now openers) (now place) worker low end ⌝ }
+    ensures { λ r. ⌜ r ≡ pusherOf (newestMark (now (place .entry)) worker low end) ⌝ }
+{
+    let mut j = end;
+    while low < j {
+        j = wide(openers[j]);
+        if j < low {
+            return Pusher::Nothing;
+        }
+        if place[j] == worker {
+            return Pusher::At(Step(j));
+        }
+    }
+    Pusher::Nothing
+}
+
+// The same, by the openers where their table has step `end`.
+pub fn newest(openers: &[u16], place: &[u8; 4095], worker: u8, low: usize, end: usize) -> Pusher
+    requires { ⌜ (end < 4095) × (end < length (now openers) → Climbs (now openers) (now place) worker low end) ⌝ }
+    ensures { λ r. ⌜ r ≡ pusherOf (newestMark (now (place .entry)) worker low end) ⌝ }
+{
+    if end < openers.len() {
+        return climb(openers, place, worker, low, end);
+    }
+    scan(place, worker, low, end)
+}
+
+// The lowest.
+pub fn oldest(place: &[u8; 4095], worker: u8, low: usize, end: usize) -> Pusher
+    requires { ⌜ end ≤ 4095 ⌝ }
+    ensures { λ r. ⌜ r ≡ pusherOf (oldestMark (now (place .entry)) worker low end) ⌝ }
+{
+    let mut j = low;
+    while j < end {
+        if place[j] == worker {
+            return Pusher::At(Step(j));
+        }
+        j += 1;
+    }
+    Pusher::Nothing
+}
+
+// A worker runs an end: the step has run, and the newest step of the worker's deque leaves it. Gives that step's pusher.
+pub fn pop(openers: &[u16], place: &mut [u8; 4095], worker: u8, low: usize, step: Step) -> Pusher
+    requires { ⌜ (step .0 < 4095) × (step .0 < length (now openers) → Climbs (now openers) (now place) worker low (step .0)) ⌝ }
+    ensures gives { λ r. ⌜ r ≡ pusherOf (newestMark (now (place .entry)) worker low (step .0)) ⌝ }
+    ensures marks { λ r. ⌜ now (place .exit) ≡ popped (now (place .entry)) worker low (step .0) ⌝ }
+{
+    let i = step.0;
+    match newest(openers, place, worker, low, i) {
+        Pusher::At(q) => {
+            let p = q.0;
+            place[i] = RUN;
+            place[p] = RUN;
+            Pusher::At(q)
+        }
+        Pusher::Nothing => {
+            place[i] = RUN;
+            Pusher::Nothing
+        }
+    }
+}
+
+// A thief takes the oldest step of the victim's deque, among the steps pushed by those from `low` to before `end`. Gives that
+// step's pusher.
+pub fn take(place: &mut [u8; 4095], victim: u8, low: usize, end: usize) -> Pusher
+    requires { ⌜ end ≤ 4095 ⌝ }
+    ensures gives { λ r. ⌜ r ≡ pusherOf (oldestMark (now (place .entry)) victim low end) ⌝ }
+    ensures marks { λ r. ⌜ now (place .exit) ≡ robbed (now (place .entry)) victim low end ⌝ }
+{
+    match oldest(place, victim, low, end) {
+        Pusher::At(q) => {
+            let p = q.0;
+            place[p] = RUN;
+            Pusher::At(q)
+        }
+        Pusher::Nothing => Pusher::Nothing,
+    }
+}

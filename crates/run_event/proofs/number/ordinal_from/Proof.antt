@@ -1,0 +1,40 @@
+-- `numbers::ordinal_from` meets its contract: it counts the children between, work-first only. Assumes nothing.
+use mathlib.Core.Path.{ap, _∙_}
+use Prim.Native.Nat.{ℕ, _+_, _%_}
+use native.Mathlib.Omega.{arith}
+use Rattle.rules.specs.Tree.{kinds}
+use Rattle.run_spec.specs.Laws.Numbers.{ordinal-counted, ordinal-uncounted}
+use borrow.Author.Needs.{needs}
+use Rattle.run_event.proofs.number.ordinal_from.Statement.{statement}
+use Rattle.run_event.proofs.number.ordinal_from.Tie as tie
+
+wide-requires : tie.Need-wide-requires
+wide-requires c κs = search needs
+
+children-between-requires : tie.Need-children-between-requires
+children-between-requires c κs =
+    omega arith
+
+add-t10 : tie.Need-add-t10
+add-t10 c = search needs
+
+add-t11 : tie.Need-add-t11
+add-t11 c = search needs
+
+returns : tie.Need-returns
+returns c =
+    let a = c .before .before .before .before .args in
+    let children = c .children-between in (
+      ap (λ (x : ℕ). x % 4096 + children .result + 1) (c .before .wide .ensures)
+          ∙ ordinal-counted (a .policy) (kinds (a .tree .now)) (a .base) (a .from) (a .pusher) (c .before .before .if1 .taken) (children .result) (children .ensures .0),
+      omega (arith, children .ensures .1),
+    )
+
+returns-2 : tie.Need-returns-2
+returns-2 c =
+    let a = c .before .before .args in
+    (ordinal-uncounted (a .policy) (kinds (a .tree .now)) (a .base) (a .from) (a .pusher) (c .if1 .left), omega arith)
+
+pub ordinal-from-spec : {M : Type 1} → statement M
+ordinal-from-spec =
+    tie.close (tie.spec wide-requires children-between-requires add-t10 add-t11 returns returns-2)

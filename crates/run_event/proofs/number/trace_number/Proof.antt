@@ -1,0 +1,17 @@
+-- `numbers::trace_number` meets its contract: an ordinal under work-first, else the serial number. Assumes nothing.
+use Rattle.run_spec.specs.Laws.Numbers.{number-ordinal, number-serial}
+use Rattle.run_event.proofs.number.trace_number.Statement.{statement}
+use Rattle.run_event.proofs.number.trace_number.Tie as tie
+
+returns : tie.Need-returns
+returns c =
+    let a = c .before .args in
+    number-ordinal (a .policy) (a .ordinal) (a .step .0) (c .if1 .taken)
+
+returns-2 : tie.Need-returns-2
+returns-2 c =
+    let a = c .before .args in
+    number-serial (a .policy) (a .ordinal .0) (a .step) (c .if1 .left)
+
+pub trace-number-spec : {M : Type 1} → statement M
+trace-number-spec = tie.close (tie.spec returns returns-2)

@@ -1,0 +1,54 @@
+-- `running::all_run` meets its contract: the loop counts the steps that have not run, and a law says what a turn does to the count.
+-- Assumes nothing.
+use Prim.Native.Nat.{_-_}
+use native.Mathlib.Omega.{arith}
+use Rattle.run_spec.specs.Laws.Waiting.{Counted, counted-start, counted-unrun, counted-run, counted-done}
+use Rattle.run_event.proofs.run.all_run.Statement.{statement}
+use Rattle.run_event.proofs.run.all_run.Tie as tie
+
+abbrev Inv-loop : tie.InvT-loop
+Inv-loop place first end j₀ unrun₀ j unrun = Counted place first end j unrun
+
+abbrev μ-loop : tie.MeasureT-loop
+μ-loop place first end j₀ unrun₀ j unrun = end - j
+
+loop-holds : tie.Need-loop-holds Inv-loop μ-loop
+loop-holds c = counted-start (c .args .place .now) (c .args .first) (c .args .end)
+
+add-j : tie.Need-add-j Inv-loop μ-loop
+add-j c = omega arith
+
+element-copy-out-if1 : tie.Need-element-copy-out-if1 Inv-loop μ-loop
+element-copy-out-if1 c = omega arith
+
+add-unrun : tie.Need-add-unrun Inv-loop μ-loop
+add-unrun c = omega (arith, c .before .before .before .loop .inv .few)
+
+loop-less : tie.Need-loop-less Inv-loop μ-loop
+loop-less c = omega arith
+
+loop-again : tie.Need-loop-again Inv-loop μ-loop
+loop-again c =
+    let a = c .before .before .before .before .args in
+    let loop = c .before .before .before .loop in
+    counted-unrun (a .place .now) (a .first) (a .end) (loop .j) (loop .unrun) (omega arith) (loop .inv) (c .if1 .taken)
+
+loop-less-2 : tie.Need-loop-less-2 Inv-loop μ-loop
+loop-less-2 c = omega arith
+
+loop-again-2 : tie.Need-loop-again-2 Inv-loop μ-loop
+loop-again-2 c =
+    let a = c .before .before .before .before .args in
+    let loop = c .before .before .before .loop in
+    counted-run (a .place .now) (a .first) (a .end) (loop .j) (loop .unrun) (omega arith) (loop .inv) (c .if1 .left)
+
+returns : tie.Need-returns Inv-loop μ-loop
+returns c =
+    let a = c .before .before .args in
+    let loop = c .before .loop in
+    counted-done (a .place .now) (a .first) (a .end) (loop .j) (loop .unrun) (omega arith) (loop .inv)
+
+pub all-run-spec : {M : Type 1} → statement M
+all-run-spec =
+    tie.close
+    (tie.spec Inv-loop μ-loop loop-holds add-j element-copy-out-if1 add-unrun loop-less loop-again loop-less-2 loop-again-2 returns)

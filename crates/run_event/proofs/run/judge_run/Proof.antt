@@ -1,0 +1,129 @@
+-- `running::judge_run` meets its contract: each return is a law of the refusals. Assumes nothing.
+use Prim.Native.Nat.{ℕ, _≤_, _<_}
+use mathlib.Core.Path.{_≡_, sym, subst, _∙_}
+use mathlib.Core.Bool.{false}
+use lib.ListN.{length}
+use Rattle.rules.specs.Tree.{kinds}
+use Rattle.run_spec.specs.Running.{waitsFor, runNumber}
+use Rattle.run_spec.specs.Laws.Waiting.{waits-at-low}
+use Rattle.run_spec.specs.Laws.Running.{judged-worker, judged-long, judged-idle, judged-waits, judged-runs}
+use borrow.Author.Needs.{needs}
+use borrow.Author.Tests.{not-true}
+use Rattle.run_event.proofs.run.judge_run.Statement.{statement}
+use Rattle.run_event.proofs.run.judge_run.Tie as tie
+
+-- ---- a step that the worker holds
+
+abbrev start : tie.Else2 → tie.Start
+start c = c .before .before .before .before .before
+
+-- The tree is not too long, and has the step.
+most : (c : tie.Else2) → length (kinds (start c .args .tree .now)) ≤ 4095
+most c = subst (λ (n : ℕ). n ≤ 4095) (c .before .steps .ensures) (c .if2 .left)
+
+abbrev short : tie.Else3 → tie.Else2
+short c = c .before .before .before
+
+within : (c : tie.Else3) → c .before .wide .result < length (kinds (start (short c) .args .tree .now))
+within c = subst (λ (n : ℕ). c .before .wide .result < n) (short c .before .steps .ensures) (c .if3 .left)
+
+-- It does not wait.
+runs : (c : tie.Else3)
+    → let a = start (short c) .args in
+    waitsFor (kinds (a .tree .now)) (a .place .now) (c .before .wide .result) ≡ false
+    → 0 ≡ runNumber (kinds (a .tree .now)) (a .place .now) (a .held .now) (a .worker)
+runs c free =
+    let a = start (short c) .args in
+    let i = c .before .wide in
+    judged-runs (kinds (a .tree .now)) (a .place .now) (a .held .now) (a .worker) (short c .before .before .if1 .left) (most (short c))
+    (i .result) (i .ensures) (within c) free
+
+-- ---- the needs
+
+returns : tie.Need-returns
+returns c =
+    let a = c .before .before .before .args in
+    judged-worker (kinds (a .tree .now)) (a .place .now) (a .held .now) (a .worker) (c .if1 .taken)
+
+steps-requires : tie.Need-steps-requires
+steps-requires c κs = search needs
+
+returns-2 : tie.Need-returns-2
+returns-2 c =
+    let a = c .before .before .before .before .before .args in
+    judged-long (kinds (a .tree .now)) (a .place .now) (a .held .now) (a .worker) (c .before .before .if1 .left)
+    (subst (λ (n : ℕ). 4095 < n) (c .before .steps .ensures) (c .if2 .taken))
+
+mul-wide : tie.Need-mul-wide
+mul-wide c = search needs
+
+element-copy-out-wide : tie.Need-element-copy-out-wide
+element-copy-out-wide c = search needs
+
+wide-requires : tie.Need-wide-requires
+wide-requires c κs = search needs
+
+returns-3 : tie.Need-returns-3
+returns-3 c =
+    let e = c .before .before .before in
+    let a = start e .args in
+    let i = c .before .wide in
+    judged-idle (kinds (a .tree .now)) (a .place .now) (a .held .now) (a .worker) (e .before .before .if1 .left) (most e) (i .result) (i .ensures)
+    (subst (λ (n : ℕ). n ≤ i .result) (e .before .steps .ensures) (c .if3 .taken))
+
+mul-wide-2 : tie.Need-mul-wide-2
+mul-wide-2 c = search needs
+
+element-copy-out-wide-2 : tie.Need-element-copy-out-wide-2
+element-copy-out-wide-2 c = search needs
+
+wide-requires-2 : tie.Need-wide-requires-2
+wide-requires-2 c κs = search needs
+
+may-wait-requires : tie.Need-may-wait-requires
+may-wait-requires c κs = search needs
+
+returns-4 : tie.Need-returns-4
+returns-4 c =
+    let low = c .before .before in
+    let e = low .before .before in
+    let at = start (short e) in
+    let a = at .args in
+    runs e
+    (waits-at-low (kinds (a .tree .now)) (a .openers .now) (a .place .now) (a .held .now) (a .low .now) (a .worker)
+    (at .pre .1 (short e .before .before .if1 .left)) (e .before .wide .result) (e .before .wide .ensures)
+    (low .wide2 .result) (low .wide2 .ensures) (sym (c .before .may-wait .ensures) ∙ not-true _ (c .if4 .taken)))
+
+waits-requires : tie.Need-waits-requires
+waits-requires c κs = search needs
+
+returns-5 : tie.Need-returns-5
+returns-5 c =
+    let e = c .before .before .before .before .before .before in
+    let a = start (short e) .args in
+    let i = e .before .wide in
+    judged-waits (kinds (a .tree .now)) (a .place .now) (a .held .now) (a .worker) (short e .before .before .if1 .left) (most (short e))
+    (i .result) (i .ensures) (within e) (sym (c .before .waits .ensures) ∙ c .if5 .taken)
+
+returns-6 : tie.Need-returns-6
+returns-6 c = runs (c .before .before .before .before .before .before) (sym (c .before .waits .ensures) ∙ c .if5 .left)
+
+pub judge-run-spec : {M : Type 1} → statement M
+judge-run-spec =
+    tie.close
+    (tie.spec
+    returns
+    steps-requires
+    returns-2
+    mul-wide
+    element-copy-out-wide
+    wide-requires
+    returns-3
+    mul-wide-2
+    element-copy-out-wide-2
+    wide-requires-2
+    may-wait-requires
+    returns-4
+    waits-requires
+    returns-5
+    returns-6)

@@ -1,0 +1,143 @@
+-- `moves::steal_on` meets its contract: each return is a law of its answers. Assumes nothing.
+use Prim.Native.Nat.{_≤_, _<_}
+use mathlib.Core.Path.{refl, sym, ap, _∙_}
+use lib.ListN.{length, getD}
+use Rattle.rules.specs.Tree.{kinds}
+use Rattle.run_spec.specs.declared.Taken.the-variants.{Of}
+use Rattle.run_spec.specs.Stealing.{Small}
+use Rattle.run_spec.specs.Laws.Stealing.{steal-allowed}
+use Rattle.run_spec.specs.Moves.{Fields, fieldsOf, moveOf}
+use Rattle.run_spec.specs.Laws.Moves.{steal-refused, steal-empty, steal-takes}
+use Rattle.run_event.specs.declared.Moved.{Moved}
+use borrow.Author.Needs.{needs}
+use Rattle.run_event.proofs.steal_on.Statement.{statement}
+use Rattle.run_event.proofs.steal_on.Tie as tie
+
+-- The fields that are lent.
+abbrev lent : tie.Start → Fields
+lent c =
+    let a = c .args in
+    fieldsOf (a .place .now) (a .held .now) (a .phase .now) (a .low .now) (a .base .now) (a .steals) (a .policy)
+
+judge-steal-requires : tie.Need-judge-steal-requires
+judge-steal-requires c κs = search needs
+
+refused-requires : tie.Need-refused-requires
+refused-requires c κs = search needs
+
+returns : tie.Need-returns
+returns c =
+    let judged = c .before .before in
+    let at = judged .before .before .before .before in
+    ap (λ (m : Moved). moveOf (m .outcome) (fieldsOf (at .args .place .now) (at .args .held .now) (at .args .phase .now) (at .args .low .now) (at .args .base .now) (m .steals) (at .args .policy))) (c .refused .ensures)
+    ∙ steal-refused (lent at) (at .args .tree .now) (at .args .thief) (at .args .victim) _ (judged .judge-steal .ensures) (c .before .if1 .taken)
+
+-- ---- a steal that is not refused before the deque is looked at
+
+abbrev start : tie.Else1 → tie.Start
+start c = c .before .before .before .before .before
+
+-- It is between two of the workers, in a tree that is not too long.
+allowed : (c : tie.Else1) → let a = start c .args in
+    (a .thief < 16) × (a .victim < 16) × (length (kinds (a .tree .now)) ≤ 4095)
+allowed c =
+    let a = start c .args in
+    steal-allowed (kinds (a .tree .now)) (a .held .now) (a .thief) (a .victim) (sym (c .if1 .left) ∙ c .before .judge-steal .ensures)
+
+mul-wide : tie.Need-mul-wide
+mul-wide c = search needs
+
+element-copy-out-wide : tie.Need-element-copy-out-wide
+element-copy-out-wide c = allowed c .1
+
+wide-requires : tie.Need-wide-requires
+wide-requires c κs = search needs
+
+mul-take-step : tie.Need-mul-take-step
+mul-take-step c = search needs
+
+element-copy-out-take-step : tie.Need-element-copy-out-take-step
+element-copy-out-take-step c = allowed (c .before .before .before) .1
+
+take-step-requires : tie.Need-take-step-requires
+take-step-requires c κs =
+    let e = c .before .before .before .before in
+    (allowed e .2, start e .pre)
+
+-- The deque has been looked at.
+abbrev looked : tie.After-take-step → tie.Else1
+looked c = c .before .before .before .before .before
+
+enum-known-pusher : tie.Need-enum-known-pusher
+enum-known-pusher c = c .match .keys1
+
+-- What is taken fits the tables.
+small : (c : tie.After-pusher) → let x = c .pusher .given .0 in Small (Of (x .0) (x .1 .0) (x .1 .1 .0))
+small c = rw (c .pusher .given .1) at (c .before .before .take-step .ensures .1 .1)
+
+add-begun : tie.Need-add-begun
+add-begun c = search needs
+
+settle-requires : tie.Need-settle-requires
+settle-requires c κs =
+    let at = c .before .before .before .before .before in
+    let fits = small at in
+    let few = allowed (looked (at .before .before)) in
+    (few .0, few .1, fits .0, fits .1, fits .2)
+
+trace-number-requires : tie.Need-trace-number-requires
+trace-number-requires c κs = search needs
+
+enum-told : tie.Need-enum-told
+enum-told c = c .match .keys2
+
+refused-requires-2 : tie.Need-refused-requires-2
+refused-requires-2 c κs = search needs
+
+returns-2 : tie.Need-returns-2
+returns-2 c =
+    let found = c .before .before .before .before .before .before .before in
+    let taken = found .before .before in
+    let e = looked taken in
+    let at = start e in
+    let from = taken .before .before .before .wide in
+    let x = found .pusher .given .0 in
+    let number = c .trace-number in
+    let settled = c .before .settle in
+    steal-takes (lent at) (at .args .tree .now) (at .args .thief) (at .args .victim) _ (e .before .judge-steal .ensures) (e .if1 .left)
+    (from .result) (from .ensures) (getD (at .args .base .now) (at .args .victim) 0) refl (taken .take-step .last .1 .1 .0) (taken .take-step .ensures .1 .0)
+    (taken .take-step .result) (taken .take-step .ensures .0) (x .0) (x .1 .0) (x .1 .1 .0) (found .pusher .given .1) (number .result) (number .ensures) _ refl
+    _ _ _ _ (settled .ensures .0) (settled .ensures .1 .0) (settled .ensures .1 .1 .0) (settled .ensures .1 .1 .1)
+
+returns-3 : tie.Need-returns-3
+returns-3 c =
+    let taken = c .before .before .before in
+    let e = looked taken in
+    let at = start e in
+    let from = taken .before .before .before .wide in
+    ap (λ (m : Moved). moveOf (m .outcome) (fieldsOf (taken .take-step .last .1 .1 .0) (at .args .held .now) (at .args .phase .now) (at .args .low .now) (at .args .base .now) (m .steals) (at .args .policy))) (c .refused2 .ensures)
+    ∙ steal-empty (lent at) (at .args .tree .now) (at .args .thief) (at .args .victim) _ (e .before .judge-steal .ensures) (e .if1 .left)
+    (from .result) (from .ensures) (getD (at .args .base .now) (at .args .victim) 0) refl (taken .take-step .last .1 .1 .0) (taken .take-step .ensures .1 .0)
+    (taken .take-step .result) (taken .take-step .ensures .0) (c .before .enum-told .given .1)
+
+pub steal-on-spec : {M : Type 1} → statement M
+steal-on-spec =
+    tie.close
+    (tie.spec
+    judge-steal-requires
+    refused-requires
+    returns
+    mul-wide
+    element-copy-out-wide
+    wide-requires
+    mul-take-step
+    element-copy-out-take-step
+    take-step-requires
+    enum-known-pusher
+    add-begun
+    settle-requires
+    trace-number-requires
+    enum-told
+    refused-requires-2
+    returns-2
+    returns-3)

@@ -1,0 +1,156 @@
+// A run, a steal and an event on the fields of a run's state, lent as arrays (document 01, "Scheduling"). Single events lend those of
+// a state by value, recording its own. Any fields and any bytes are safe: a step that the tree has not is no held step, and a tree with more
+// records than a tree may have is refused with 2.
+pub mod number;
+pub mod run;
+pub mod steal;
+
+ghost use mathlib.Core.Path.{_≡_};
+ghost use mathlib.Core.List.{List};
+ghost use Prim.Native.Nat.{ℕ};
+ghost use lib.ListN.{length};
+ghost use Rattle.rules.specs.Tree.{kinds};
+ghost use Rattle.tree_tables.specs.Answers.{Ends};
+ghost use Rattle.run_spec.specs.declared.Outcome.the-variants.{Refused};
+ghost use Rattle.run_spec.specs.Moves.{Hints, fieldsOf, moveOf, runMove, stealMove, eventMove};
+use run_spec::Outcome;
+use run_spec::Taken;
+use tree::Phase;
+use tree::Step;
+use tree_tables::wide;
+
+// Phases of a run: one for the start, and at most one for each spawned task.
+pub const MOST_PHASES: u16 = 2048;
+
+// An event's outcome with the count of steals after it.
+pub struct Moved {
+    pub outcome: Outcome,
+    pub steals: u16,
+}
+
+// A worker runs its step: refusals 8 to 10 leave the arrays as they are.
+pub fn run_on(
+    tree: &[u8],
+    ends: &[u16],
+    openers: &[u16],
+    place: &mut [u8; 4095],
+    held: &mut [u16; 16],
+    phase: &[u16; 16],
+    low: &[u16; 16],
+    policy: u8,
+    worker: u8,
+) -> Outcome
+    requires { ⌜ Hints (now tree) (now ends) (now openers) (now place) (now held) (now low) ⌝ }
+    ensures { λ r. ⌜ ((base : List ℕ) → (steals : ℕ) → moveOf r (fieldsOf (now (place .exit)) (now (held .exit)) (now (phase .entry)) (now (low .entry)) base steals policy) ≡ runMove (fieldsOf (now (place .entry)) (now (held .entry)) (now (phase .entry)) (now (low .entry)) base steals policy) (now (tree .entry)) worker) ⌝ }
+{
+    let refusal = run::judge_run(tree, openers, place, held, low, worker);
+    if refusal != 0 {
+        return Outcome::Refused(refusal);
+    }
+    let w = worker as usize;
+    let i = wide(held[w]);
+    let from = wide(low[w]);
+    held[w] = run::advance(tree, ends, openers, place, policy, worker, from, Step(i));
+    Outcome::Ran {
+        phase: Phase(wide(phase[w])),
+        step: Step(i),
+    }
+}
+
+// A refused steal.
+fn refused(number: u8, steals: u16) -> Moved
+    ensures { λ r. ⌜ r ≡ record { outcome = Refused number; steals = steals } ⌝ }
+{
+    Moved {
+        outcome: Outcome::Refused(number),
+        steals,
+    }
+}
+
+// The thief takes the oldest step of the victim's deque: refusals 8, 11 and 12 leave the arrays as they are.
+pub fn steal_on(
+    tree: &[u8],
+    ends: &[u16],
+    place: &mut [u8; 4095],
+    held: &mut [u16; 16],
+    phase: &mut [u16; 16],
+    low: &mut [u16; 16],
+    base: &mut [u16; 16],
+    steals: u16,
+    policy: u8,
+    thief: u8,
+    victim: u8,
+) -> Moved
+    requires { ⌜ Ends (kinds (now tree)) (now ends) (length (now ends)) ⌝ }
+    ensures { λ r. ⌜ moveOf (r .outcome) (fieldsOf (now (place .exit)) (now (held .exit)) (now (phase .exit)) (now (low .exit)) (now (base .exit)) (r .steals) policy) ≡ stealMove (fieldsOf (now (place .entry)) (now (held .entry)) (now (phase .entry)) (now (low .entry)) (now (base .entry)) steals policy) (now (tree .entry)) thief victim ⌝ }
+{
+    let refusal = steal::judge_steal(tree, held, thief, victim);
+    if refusal != 0 {
+        return refused(refusal, steals);
+    }
+    let v = victim as usize;
+    let from = wide(low[v]);
+    match steal::take_step(tree, ends, place, policy, victim, from, base[v]) {
+        Taken::Of {
+            pusher,
+            step,
+            ordinal,
+        } => {
+            let begun = steals % MOST_PHASES + 1;
+            steal::settle(
+                held,
+                phase,
+                low,
+                base,
+                thief,
+                victim,
+                pusher,
+                step,
+                ordinal,
+                begun,
+            );
+            Moved {
+                outcome: Outcome::Stole(number::trace_number(policy, ordinal, step)),
+                steals: begun,
+            }
+        }
+        Taken::Nothing => refused(12, steals),
+    }
+}
+
+// An event of two bytes: equal, that worker runs its step; different, the first steals from the second.
+pub fn event_on(
+    tree: &[u8],
+    ends: &[u16],
+    openers: &[u16],
+    place: &mut [u8; 4095],
+    held: &mut [u16; 16],
+    phase: &mut [u16; 16],
+    low: &mut [u16; 16],
+    base: &mut [u16; 16],
+    steals: u16,
+    policy: u8,
+    first: u8,
+    second: u8,
+) -> Moved
+    requires { ⌜ Hints (now tree) (now ends) (now openers) (now place) (now held) (now low) ⌝ }
+    ensures { λ r. ⌜ moveOf (r .outcome) (fieldsOf (now (place .exit)) (now (held .exit)) (now (phase .exit)) (now (low .exit)) (now (base .exit)) (r .steals) policy) ≡ eventMove (fieldsOf (now (place .entry)) (now (held .entry)) (now (phase .entry)) (now (low .entry)) (now (base .entry)) steals policy) (now (tree .entry)) first second ⌝ }
+{
+    if first == second {
+        let outcome = run_on(tree, ends, openers, place, held, phase, low, policy, first);
+        return Moved { outcome, steals };
+    }
+    steal_on(
+        tree,
+        ends,
+        place,
+        held,
+        phase,
+        low,
+        base,
+        steals,
+        policy,
+        first,
+        second,
+    )
+}

@@ -1,0 +1,126 @@
+// Running a step (document 01, "Scheduling"): whether a worker may run the step that it holds, and what it holds then.
+
+ghost use mathlib.Core.Path.{_≡_};
+ghost use Prim.Native.Nat.{_≤_, _<_};
+ghost use mathlib.Core.Bool.{_||_};
+ghost use lib.ListN.{length};
+ghost use lib.Dec.{eqb, leb};
+ghost use Rattle.rules.specs.Tree.{kinds};
+ghost use Rattle.tree_tables.specs.Answers.{Ends, Openers};
+ghost use Rattle.run_spec.specs.Deques.{Climbs};
+ghost use Rattle.run_spec.specs.Running.{allRun, waitsFor, WaitsAtLow, runNumber, heldNext, placeNext};
+use run_deques::MOST_WORKERS;
+use run_deques::NOT_RUN;
+use run_spec::Pusher;
+use tree::END;
+use tree::MOST_STEPS;
+use tree::Step;
+use tree_scan::FinishChild;
+use tree_tables::lookup::finish_by;
+use tree_tables::wide;
+
+// What a worker that holds no step has for one.
+pub const NO_STEP: u16 = 65535;
+
+// Whether all steps from `first` to before `end` have run. It counts those that have not, and looks at all of them: a loop
+// without a way out takes many bytes at a time.
+fn all_run(place: &[u8; 4095], first: usize, end: usize) -> bool
+    requires { ⌜ end ≤ 4095 ⌝ }
+    ensures { λ r. ⌜ r ≡ allRun (now (place .entry)) first end ⌝ }
+{
+    let mut j = first;
+    let mut unrun: u16 = 0;
+    while j < end {
+        let k = j;
+        j += 1;
+        if place[k] == NOT_RUN {
+            unrun += 1;
+        }
+    }
+    unrun == 0
+}
+
+// Whether a held step waits for a finish child.
+fn waits(tree: &[u8], openers: &[u16], place: &[u8; 4095], step: Step) -> bool
+    requires { ⌜ (step .0 ≤ 4095) × Openers (kinds (now tree)) (now openers) (length (now openers)) ⌝ }
+    ensures { λ r. ⌜ r ≡ waitsFor (kinds (now (tree .entry))) (now (place .entry)) (step .0) ⌝ }
+{
+    match finish_by(tree, openers, step) {
+        FinishChild::From(first) => !all_run(place, first.0, step.0),
+        FinishChild::Nothing => false,
+    }
+}
+
+// Whether a held step may wait: where a table of openers is lent, only one at its worker's `low`.
+fn may_wait(openers: &[u16], step: usize, low: usize) -> bool
+    ensures { λ r. ⌜ r ≡ leb (length (now (openers .entry))) step || eqb step low ⌝ }
+{
+    if openers.len() <= step {
+        return true;
+    }
+    step == low
+}
+
+// The refusal of a worker's run: 8, 9 or 10, or 2 for a tree that is too long; 0 for none.
+pub fn judge_run(
+    tree: &[u8],
+    openers: &[u16],
+    place: &[u8; 4095],
+    held: &[u16; 16],
+    low: &[u16; 16],
+    worker: u8,
+) -> u8
+    requires { ⌜ Openers (kinds (now tree)) (now openers) (length (now openers)) ⌝ }
+    requires { ⌜ (worker < 16 → WaitsAtLow (kinds (now tree)) (now openers) (now place) (now held) (now low) worker) ⌝ }
+    ensures { λ r. ⌜ r ≡ runNumber (kinds (now (tree .entry))) (now (place .entry)) (now (held .entry)) worker ⌝ }
+{
+    let w = worker as usize;
+    if MOST_WORKERS <= w {
+        return 8;
+    }
+    let n = tree::steps(tree);
+    if MOST_STEPS < n {
+        return 2;
+    }
+    let i = wide(held[w]);
+    if n <= i {
+        return 9;
+    }
+    if !may_wait(openers, i, wide(low[w])) {
+        return 0;
+    }
+    if waits(tree, openers, place, Step(i)) {
+        return 10;
+    }
+    0
+}
+
+// A worker has run a step: the places change, and the step that it holds next, or NO_STEP, is given.
+pub fn advance(
+    tree: &[u8],
+    ends: &[u16],
+    openers: &[u16],
+    place: &mut [u8; 4095],
+    policy: u8,
+    worker: u8,
+    low: usize,
+    step: Step,
+) -> u16
+    requires { ⌜ (step .0 < length (kinds (now tree))) × (length (kinds (now tree)) ≤ 4095) × Ends (kinds (now tree)) (now ends) (length (now ends)) × (step .0 < length (now openers) → Climbs (now openers) (now place) worker low (step .0)) ⌝ }
+    ensures gives { λ r. ⌜ r ≡ heldNext policy (kinds (now (tree .entry))) (now (place .entry)) worker low (step .0) ⌝ }
+    ensures leaves { λ r. ⌜ now (place .exit) ≡ placeNext (kinds (now (tree .entry))) (now (place .entry)) worker low (step .0) ⌝ }
+{
+    let i = step.0;
+    if tree::kind(tree, step) != END {
+        let held = policy::held_after(tree, ends, policy, step);
+        place[i] = worker;
+        return held.0 as u16;
+    }
+    match run_deques::pop(openers, place, worker, low, step) {
+        Pusher::At(q) => {
+            let held = policy::pushed_by(tree, ends, policy, q);
+            held.0 as u16
+        }
+        Pusher::Nothing => NO_STEP,
+    }
+}

@@ -1,0 +1,82 @@
+-- The refusals of a steal and what it takes, in the terms of the code: one law for each return.
+use Prim.Native.Nat.{ℕ, _≤_, _<_}
+use mathlib.Core.Path.{_≡_, refl}
+use mathlib.Core.Bool.{or-true}
+use mathlib.Core.List.{List}
+use mathlib.Core.Option.{Option, none, some}
+use native.Mathlib.Decide.{decLe, decLt}
+use native.Mathlib.Omega.{arith}
+use lib.ListN.{length, getD}
+use lib.Dec.{leb}
+use borrow.Author.Tests.{lt-ltb, le-ltb, le-leb, lt-leb}
+use Rattle.rules.specs.Scheduling.{pushes}
+use Rattle.tree.specs.declared.Step.{Step}
+use Rattle.tree.specs.declared.Ordinal.{Ordinal}
+use Rattle.run_spec.specs.Numbers.{ordinalFrom}
+use Rattle.run_spec.specs.declared.Taken.the-variants.{Of, Nothing}
+use Rattle.run_spec.specs.Stealing.{stealNumber, takenOf}
+
+-- ---- refusals
+
+module _ (ks held : List ℕ) (t v : ℕ) where
+  pub judged-thief : 16 ≤ t → 8 ≡ stealNumber ks held t v
+  unfolding stealNumber
+  judged-thief h = rw (le-leb 16 t h) refl
+
+  pub judged-victim : 16 ≤ v → 8 ≡ stealNumber ks held t v
+  unfolding stealNumber
+  judged-victim h = rw (le-leb 16 v h, or-true (leb 16 t)) refl
+
+  module _ (few : t < 16) (fewer : v < 16) where
+    pub judged-long : 4095 < length ks → 2 ≡ stealNumber ks held t v
+    unfolding stealNumber
+    judged-long h = rw (lt-leb 16 t few, lt-leb 16 v fewer, lt-ltb 4095 (length ks) h) refl
+
+    module _ (most : length ks ≤ 4095) (i : ℕ) (holding : i ≡ getD held t 0) where
+      pub judged-busy : i < length ks → 11 ≡ stealNumber ks held t v
+      unfolding stealNumber
+      judged-busy h =
+          rw (lt-leb 16 t few, lt-leb 16 v fewer, le-ltb 4095 (length ks) most, ← holding, lt-ltb i (length ks) h) refl
+
+      pub judged-idle : length ks ≤ i → 0 ≡ stealNumber ks held t v
+      unfolding stealNumber
+      judged-idle h =
+          rw (lt-leb 16 t few, lt-leb 16 v fewer, le-ltb 4095 (length ks) most, ← holding, le-ltb i (length ks) h) refl
+
+  -- A steal that is not refused is between two of the workers, in a tree that is not too long.
+  pub steal-allowed : 0 ≡ stealNumber ks held t v → (t < 16) × (v < 16) × (length ks ≤ 4095)
+  steal-allowed none-refused =
+      elim (decLt t 16) [
+        | no far ↦ let e = judged-thief (omega arith) in absurd (omega (arith, e))
+        | yes few ↦ elim (decLt v 16) [
+          | no far ↦ let e = judged-victim (omega arith) in absurd (omega (arith, e))
+          | yes fewer ↦ elim (decLe (length ks) 4095) [
+            | no long ↦ let e = judged-long few fewer (omega arith) in absurd (omega (arith, e))
+            | yes most ↦ (few, fewer, most)
+          ]
+        ]
+      ]
+
+-- ---- what is taken
+
+module _ (p : ℕ) (ks : List ℕ) (base from : ℕ) where
+  pub takes-nothing : (o : Option ℕ) → o ≡ none → Nothing ≡ takenOf p ks base from o
+  unfolding takenOf
+  takes-nothing o e = rw e refl
+
+  pub takes-step : (o : Option ℕ) (q : Step) → o ≡ some (q .0) → (step : Step) → step .0 ≡ pushes p ks (q .0)
+      → (ordinal : Ordinal) → ordinal .0 ≡ ordinalFrom p ks base from (q .0) → Of q step ordinal ≡ takenOf p ks base from o
+  unfolding takenOf
+  takes-step o q e step f ordinal g = rw (e, ← f, ← g) refl
+
+  -- And what was found, by what was taken.
+  pub took-nothing : (o : Option ℕ) → takenOf p ks base from o ≡ Nothing → o ≡ none
+  unfolding takenOf
+  took-nothing none e = refl
+  took-nothing (some q) e = let z : _≡_ {A = ℕ} 0 1 = cc in absurd (omega arith)
+
+  pub took-step : (o : Option ℕ) (q step : Step) (ordinal : Ordinal) → takenOf p ks base from o ≡ Of q step ordinal
+      → (o ≡ some (q .0)) × (step .0 ≡ pushes p ks (q .0)) × (ordinal .0 ≡ ordinalFrom p ks base from (q .0))
+  unfolding takenOf
+  took-step none q step ordinal e = let z : _≡_ {A = ℕ} 0 1 = cc in absurd (omega arith)
+  took-step (some x) q step ordinal e = (cc, cc, cc)

@@ -1,0 +1,106 @@
+-- Whether all steps of a finish child have run, as a loop finds it; and whether a step waits, by the finish child before it.
+use Prim.Native.Nat.{ℕ, suc, _+_, _-_, _≤_, _<_}
+use mathlib.Core.Path.{_≡_, refl, sym, ap, _∙_}
+use mathlib.Core.Bool.{Bool, true, false, true≢false, _&&_, _||_, not}
+use mathlib.Core.List.{List}
+use mathlib.Core.Option.{Option, none, some}
+use native.Mathlib.Decide.{ℕ-discrete}
+use native.Mathlib.Numerals.{add-one}
+use native.Mathlib.Omega.{arith}
+use lib.ListN.{length, getD}
+use lib.Dec.{eqb, leb}
+use borrow.Author.Tests.{eq-eqb, ne-eqb, leb-false}
+use Rattle.rules.specs.Bytes.{all}
+use Rattle.rules.specs.Tree.{finishBefore}
+use Rattle.tree.specs.declared.Step.{Step}
+use Rattle.tree_scan.specs.declared.FinishChild.{FinishChild}
+use Rattle.tree_scan.specs.declared.FinishChild.the-variants.{From, Nothing}
+use Rattle.tree_scan.specs.Answers.{childOf}
+use Rattle.run_spec.specs.Laws.Marks.{count-low, count-none}
+use Rattle.run_spec.specs.Running.{allRun, waitsFor, WaitsAtLow}
+
+run-turn : (place : List ℕ) (j end : ℕ) → j < end
+    → allRun place j end ≡ not (eqb (getD place j 0) 17) && allRun place (suc j) end
+unfolding allRun all
+run-turn place j end h = rw (count-low j end h) refl
+
+run-done : (place : List ℕ) (j end : ℕ) → end ≤ j → allRun place j end ≡ true
+unfolding allRun all
+run-done place j end h = rw (count-none j end h) refl
+
+-- As a loop has it that counts the steps that have not run and stands at step j.
+pub record Counted (place : List ℕ) (first end j unrun : ℕ) : Type 0 where
+  pub few : unrun ≤ j
+  pub none-yet : unrun ≡ 0 → allRun place j end ≡ allRun place first end
+  pub some-found : (unrun ≡ 0 → ⊥) → false ≡ allRun place first end
+
+module _ (place : List ℕ) (first end : ℕ) where
+  pub counted-start : Counted place first end first 0
+  counted-start = record { few = omega arith; none-yet = λ e. refl; some-found = λ n. absurd (n refl) }
+
+  module _ (j unrun : ℕ) (h : j < end) (so-far : Counted place first end j unrun) where
+    pub counted-unrun : getD place j 0 ≡ 17 → Counted place first end (j + 1) (unrun + 1)
+    counted-unrun e =
+        record {
+          few = omega (arith, so-far .few);
+          none-yet = λ z. absurd (omega arith);
+          some-found = λ n. elim (ℕ-discrete unrun 0) [
+            | yes z ↦ rw (← so-far .none-yet z, run-turn place j end h, eq-eqb (getD place j 0) 17 e) refl
+            | no m ↦ so-far .some-found m
+          ];
+        }
+
+    pub counted-run : (getD place j 0 ≡ 17 → ⊥) → Counted place first end (j + 1) unrun
+    counted-run n =
+        record {
+          few = omega (arith, so-far .few);
+          none-yet = λ z. rw add-one (sym (run-turn place j end h ∙ rw (ne-eqb (getD place j 0) 17 n) refl) ∙ so-far .none-yet z);
+          some-found = so-far .some-found;
+        }
+
+  pub counted-done : (j unrun : ℕ) → end ≤ j → Counted place first end j unrun → eqb unrun 0 ≡ allRun place first end
+  counted-done j unrun h counted =
+      elim (ℕ-discrete unrun 0) [
+        | yes z ↦ eq-eqb unrun 0 z ∙ sym (run-done place j end h) ∙ counted .none-yet z
+        | no n ↦ ne-eqb unrun 0 n ∙ counted .some-found n
+      ]
+
+-- ---- waiting
+
+-- A finish child that is found, and one that is not.
+found-by : FinishChild → Option ℕ
+found-by (From first) = some (first .0)
+found-by Nothing = none
+
+found-same : (o : Option ℕ) → found-by (childOf o) ≡ o
+unfolding childOf found-by
+found-same none = refl
+found-same (some first) = refl
+
+module _ (ks place : List ℕ) (i : ℕ) where
+  pub waits-found : (first : Step) → childOf (finishBefore ks i) ≡ From first → not (allRun place (first .0) i) ≡ waitsFor ks place i
+  unfolding found-by waitsFor
+  waits-found first e =
+      let found : finishBefore ks i ≡ some (first .0) = sym (found-same (finishBefore ks i)) ∙ ap found-by e in
+      rw (waitsFor, found) refl
+
+  pub waits-nothing : childOf (finishBefore ks i) ≡ Nothing → false ≡ waitsFor ks place i
+  unfolding found-by waitsFor
+  waits-nothing e =
+      let found : finishBefore ks i ≡ none = sym (found-same (finishBefore ks i)) ∙ ap found-by e in
+      rw (waitsFor, found) refl
+
+-- ---- only at `low`
+
+neither : (a b : Bool) → a || b ≡ false → (a ≡ false) × (b ≡ false)
+neither true b e = absurd (true≢false e)
+neither false b e = (refl, e)
+
+-- A held step that the table has and that is not at `low` does not wait.
+pub waits-at-low : (ks openers place held low : List ℕ) (w : ℕ) → WaitsAtLow ks openers place held low w
+    → (i : ℕ) → i ≡ getD held w 0 → (from : ℕ) → from ≡ getD low w 0 → leb (length openers) i || eqb i from ≡ false
+    → waitsFor ks place i ≡ false
+waits-at-low ks openers place held low w asked i holding from e no-wait =
+    let both = neither (leb (length openers) i) (eqb i from) no-wait in
+    let apart : i ≡ from → ⊥ = λ same. true≢false (sym (eq-eqb i from same) ∙ both .1) in
+    rw holding (asked (rw (← holding) (leb-false (length openers) i (both .0))) (rw (← holding, ← e) apart))

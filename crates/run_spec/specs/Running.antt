@@ -1,0 +1,49 @@
+-- What running a step asks and does: whether the worker may run it, the step that it holds next, and the array of places then.
+-- `place` is one byte for each step: 17 not run, 16 run, w run and its pushed step is in worker w's deque.
+use Prim.Native.Nat.{ℕ, _-_, _<_}
+use mathlib.Core.Path.{_≡_}
+use mathlib.Core.Bool.{Bool, false, cond, not}
+use mathlib.Core.List.{List}
+use mathlib.Core.Option.{none, some}
+use lib.ListN.{length, getD, set}
+use lib.Dec.{eqb, leb, ltb}
+use Rattle.rules.specs.Bytes.{count, all}
+use Rattle.rules.specs.Tree.{kindAt, isEnd, finishBefore, mostSteps}
+use Rattle.rules.specs.Scheduling.{mostWorkers, holds, pushes}
+use Rattle.run_spec.specs.Deques.{newestMark, popped}
+
+-- ---- waiting
+
+-- All steps from `first` to before `end` have run.
+unfoldable pub allRun : List ℕ → ℕ → ℕ → Bool
+allRun place first end = all (λ j. not (eqb (getD place j 0) 17)) (count first (end - first))
+
+-- A step after a finish child waits until all steps of the child have run, those of its descendants too: they stand between.
+unfoldable pub waitsFor : List ℕ → List ℕ → ℕ → Bool
+waitsFor ks place i = elim (finishBefore ks i) [ none ↦ false | some first ↦ not (allRun place first i) ]
+
+-- Where a table of openers is lent, only a step at its worker's `low` may wait: a stolen one, with which a phase begins. So it is in
+-- every run. An empty table is asked nothing.
+abbrev pub WaitsAtLow : List ℕ → List ℕ → List ℕ → List ℕ → List ℕ → ℕ → Type 0
+WaitsAtLow ks openers place held low w =
+    getD held w 0 < length openers → (getD held w 0 ≡ getD low w 0 → ⊥) → waitsFor ks place (getD held w 0) ≡ false
+
+-- ---- refusals
+
+-- The refusal of worker w's run, 0 for none: 8, 9 and 10 of document 01, and 2 for a tree that is too long to have been started.
+unfoldable pub runNumber : List ℕ → List ℕ → List ℕ → ℕ → ℕ
+runNumber ks place held w =
+    let i = getD held w 0 in
+    cond (leb mostWorkers w) 8
+    (cond (ltb mostSteps (length ks)) 2 (cond (leb (length ks) i) 9 (cond (waitsFor ks place i) 10 0)))
+
+-- ---- what a run leaves
+
+-- The step that worker w holds once it has run step i, and the places then.
+unfoldable pub heldNext : ℕ → List ℕ → List ℕ → ℕ → ℕ → ℕ → ℕ
+heldNext p ks place w low i =
+    let newest = newestMark place w low i in
+    cond (isEnd (kindAt ks i)) (elim newest [ none ↦ 65535 | some q ↦ pushes p ks q ]) (holds p ks i)
+
+unfoldable pub placeNext : List ℕ → List ℕ → ℕ → ℕ → ℕ → List ℕ
+placeNext ks place w low i = cond (isEnd (kindAt ks i)) (popped place w low i) (set place i w)

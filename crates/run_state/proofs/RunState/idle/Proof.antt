@@ -1,0 +1,14 @@
+-- `RunState::idle` meets its contract: count of ones and trailing zeros of the set are its count and its lowest. Assumes nothing.
+use Rattle.run_state.specs.Laws.Cases.{idle-answers}
+use borrow.Author.Needs.{needs}
+use Rattle.run_state.proofs.RunState.idle.Statement.{statement}
+use Rattle.run_state.proofs.RunState.idle.Tie as tie
+
+idle-set-requires : tie.Need-idle-set-requires
+idle-set-requires c κs = search needs
+
+returns : tie.Need-returns
+returns c = idle-answers (c .before .before .before .args .self) (c .idle-set .result) (c .idle-set .ensures)
+
+pub idle-spec : {M : Type 1} → statement M
+idle-spec = tie.close (tie.spec idle-set-requires returns)

@@ -1,0 +1,89 @@
+-- What each call answers, and every field of the state that it hands back: functions of the state, the tree's bytes and the event
+-- alone, for any of them. What an event does to the fields of a state is said in `Moves` of `events`.
+use Prim.Native.Nat.{ℕ}
+use mathlib.Core.Bool.{cond}
+use mathlib.Core.List.{List}
+use lib.ListN.{replicate}
+use lib.Dec.{eqb}
+use Rattle.rules.specs.Scheduling.{mostWorkers}
+use Rattle.rules.specs.Calls.{startVerdict}
+use Rattle.run_spec.specs.Moves.{Fields, Move, fresh, runMove, stealMove, eventMove}
+use Rattle.run_spec.specs.Idle.{idleBits, idleNumber, idleFirst}
+use Rattle.run_state.specs.declared.RunState.{RunState}
+use Rattle.run_state.specs.declared.Answer.{Answer}
+use Rattle.run_state.specs.declared.Started.{Started}
+use Rattle.run_state.specs.declared.Idle.{Idle}
+
+-- The fields of a state, a state of such fields, and an answer of a move.
+abbrev pub fields : RunState → Fields
+fields s =
+    record {
+      place = s .place;
+      held = s .held;
+      phase = s .phase;
+      low = s .low;
+      base = s .base;
+      steals = s .steals;
+      policy = s .policy;
+    }
+
+abbrev pub stateOf : Fields → RunState
+stateOf f =
+    record {
+      place = f .place;
+      held = f .held;
+      phase = f .phase;
+      low = f .low;
+      base = f .base;
+      steals = f .steals;
+      policy = f .policy;
+    }
+
+abbrev pub answerOf : Move → Answer
+answerOf m = record { outcome = m .outcome; state = stateOf (m .after) }
+
+-- ---- the start
+
+-- "All other results 0": the state beside a refusal.
+unfoldable pub zeros : RunState
+zeros =
+    record {
+      place = replicate 4095 0;
+      held = replicate 16 0;
+      phase = replicate 16 0;
+      low = replicate 16 0;
+      base = replicate 16 0;
+      steals = 0;
+      policy = 0;
+    }
+
+unfoldable pub startAnswer : ℕ → List ℕ → Started
+startAnswer p tree =
+    let refusal = startVerdict p tree in
+    record {
+      number = refusal .number;
+      position = refusal .position;
+      state = cond (eqb (refusal .number) 0) (stateOf (fresh p)) zeros;
+    }
+
+-- ---- events
+
+unfoldable pub runAnswer : RunState → List ℕ → ℕ → Answer
+runAnswer s tree w = answerOf (runMove (fields s) tree w)
+
+unfoldable pub stealAnswer : RunState → List ℕ → ℕ → ℕ → Answer
+stealAnswer s tree t v = answerOf (stealMove (fields s) tree t v)
+
+unfoldable pub eventAnswer : RunState → List ℕ → ℕ → ℕ → Answer
+eventAnswer s tree a b = answerOf (eventMove (fields s) tree a b)
+
+-- ---- the idle workers
+
+unfoldable pub idleAnswer : RunState → Idle
+idleAnswer s =
+    record {
+      set = idleBits (s .held) 0 mostWorkers;
+      count = idleNumber (s .held) 0 mostWorkers;
+      lowest = idleFirst (s .held) 0 mostWorkers;
+      state = s;
+    }

@@ -1,0 +1,139 @@
+// The state of a run by value (document 01, "Scheduling"): single events, the idle workers. A method takes the state and hands
+// back the next with its answer. Any state and any bytes are safe: a step that the tree has not is no held step, and a tree with
+// more records than a tree may have is refused with 2.
+pub mod idle_workers;
+pub mod start;
+
+ghost use mathlib.Core.Path.{_≡_};
+ghost use Rattle.run_state.specs.Answers.{runAnswer, stealAnswer, eventAnswer, idleAnswer};
+use run_spec::Outcome;
+
+// The state of a run.
+#[repr(C)]
+pub struct RunState {
+    // for each step NOT_RUN, RUN, or the worker in whose deque the step is that it pushed
+    pub place: [u8; 4095],
+    // for each worker the step that it holds, or NO_STEP
+    pub held: [u16; 16],
+    // its latest phase
+    pub phase: [u16; 16],
+    // a step below which no step is marked with it
+    pub low: [u16; 16],
+    // and, work-first, that step's ordinal
+    pub base: [u16; 16],
+    // how many steals there were
+    pub steals: u16,
+    pub policy: u8,
+}
+
+// An event's outcome with the next state.
+pub struct Answer {
+    pub outcome: Outcome,
+    pub state: RunState,
+}
+
+// A start's refusal and position with the first state.
+pub struct Started {
+    pub number: u8,
+    pub position: usize,
+    pub state: RunState,
+}
+
+// The idle workers as a set, how many they are and the lowest, with the state.
+pub struct Idle {
+    pub set: u16,
+    pub count: u32,
+    pub lowest: u32,
+    pub state: RunState,
+}
+
+// By value: each takes the state and hands back the next with its answer.
+impl RunState {
+    // A worker runs its step.
+    pub fn run(self, tree: &[u8], worker: u8) -> Answer
+        ensures { λ r. ⌜ r ≡ runAnswer self (now (tree .entry)) worker ⌝ }
+    {
+        let mut next = self;
+        let mut held = next.held;
+        let phase = next.phase;
+        let low = next.low;
+        let policy = next.policy;
+        let outcome = run_event::run_on(
+            tree,
+            &[],
+            &[],
+            &mut next.place,
+            &mut held,
+            &phase,
+            &low,
+            policy,
+            worker,
+        );
+        next.held = held;
+        Answer {
+            outcome,
+            state: next,
+        }
+    }
+
+    // The thief takes the oldest step of the victim's deque.
+    pub fn steal(self, tree: &[u8], thief: u8, victim: u8) -> Answer
+        ensures { λ r. ⌜ r ≡ stealAnswer self (now (tree .entry)) thief victim ⌝ }
+    {
+        let mut next = self;
+        let mut held = next.held;
+        let mut phase = next.phase;
+        let mut low = next.low;
+        let mut base = next.base;
+        let steals = next.steals;
+        let policy = next.policy;
+        let moved = run_event::steal_on(
+            tree,
+            &[],
+            &mut next.place,
+            &mut held,
+            &mut phase,
+            &mut low,
+            &mut base,
+            steals,
+            policy,
+            thief,
+            victim,
+        );
+        let outcome = moved.outcome;
+        let count = moved.steals;
+        next.held = held;
+        next.phase = phase;
+        next.low = low;
+        next.base = base;
+        next.steals = count;
+        Answer {
+            outcome,
+            state: next,
+        }
+    }
+
+    // An event of two bytes.
+    pub fn event(self, tree: &[u8], first: u8, second: u8) -> Answer
+        ensures { λ r. ⌜ r ≡ eventAnswer self (now (tree .entry)) first second ⌝ }
+    {
+        if first == second {
+            return self.run(tree, first);
+        }
+        self.steal(tree, first, second)
+    }
+
+    // The idle workers.
+    pub fn idle(self) -> Idle
+        ensures { λ r. ⌜ r ≡ idleAnswer self ⌝ }
+    {
+        let held = self.held;
+        let set = idle_workers::idle_set(&held);
+        Idle {
+            set,
+            count: u16::count_ones(set),
+            lowest: u16::trailing_zeros(set),
+            state: self,
+        }
+    }
+}

@@ -1,0 +1,60 @@
+// The start of a run (document 01, "Scheduling"): refusals 1 to 5, or the first state.
+
+ghost use mathlib.Core.Path.{_≡_};
+ghost use Rattle.run_spec.specs.Moves.{fresh};
+ghost use Rattle.run_state.specs.Answers.{stateOf, zeros, startAnswer};
+use super::RunState;
+use super::Started;
+use run_deques::NOT_RUN;
+use run_event::run::NO_STEP;
+
+// The state beside a refusal.
+fn no_state() -> RunState
+    ensures { λ r. ⌜ r ≡ zeros ⌝ }
+{
+    RunState {
+        place: [0; 4095],
+        held: [0; 16],
+        phase: [0; 16],
+        low: [0; 16],
+        base: [0; 16],
+        steals: 0,
+        policy: 0,
+    }
+}
+
+// Worker 0 holds step 0 and that begins phase 0; the others are idle.
+fn first_state(policy: u8) -> RunState
+    ensures { λ r. ⌜ r ≡ stateOf (fresh policy) ⌝ }
+{
+    let mut held = [NO_STEP; 16];
+    held[0] = 0;
+    RunState {
+        place: [NOT_RUN; 4095],
+        held,
+        phase: [0; 16],
+        low: [0; 16],
+        base: [0; 16],
+        steals: 0,
+        policy,
+    }
+}
+
+// Starts a run: refusals 1 to 5, or the first state.
+pub fn start(tree: &[u8], policy: u8) -> Started
+    ensures { λ r. ⌜ r ≡ startAnswer policy (now (tree .entry)) ⌝ }
+{
+    let admitted = arguments::admit(tree, policy);
+    if admitted.number != 0 {
+        return Started {
+            number: admitted.number,
+            position: admitted.position,
+            state: no_state(),
+        };
+    }
+    Started {
+        number: 0,
+        position: 0,
+        state: first_state(policy),
+    }
+}

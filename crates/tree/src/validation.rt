@@ -1,0 +1,110 @@
+// Whether a tree may be read (document 01, "Refusals"): its length, each of its records while some
+// tasks are open, and the whole of it.
+ghost use mathlib.Core.Path.{_≡_};
+ghost use mathlib.Core.List.{[]};
+ghost use Prim.Native.Nat.{_<_};
+ghost use lib.ListN.{length, getD};
+ghost use Rattle.tree.specs.Answers.{acceptance};
+ghost use Rattle.rules.specs.Tree.{kinds, treeRecords, wrongLength, wellFormed, judgeTreeRecord};
+use super::ASYNC;
+use super::Accepted;
+use super::END;
+use super::MOST_STEPS;
+use super::RECORD;
+
+// The most tasks open together, the root counted.
+const MOST_OPEN: usize = 64;
+
+// Whether the tree is empty, not whole records, or too long.
+pub fn wrong_length(tree: &[u8]) -> bool
+    ensures { λ r. ⌜ r ≡ wrongLength (now (tree .entry)) ⌝ }
+{
+    let n = tree.len() / RECORD;
+    if n == 0 {
+        return true;
+    }
+    if tree.len() % RECORD != 0 {
+        return true;
+    }
+    if MOST_STEPS < n {
+        return true;
+    }
+    false
+}
+
+// Whether a record's kind is one of the three and its bytes 1 to 3 are zero: these four bytes are a number from 1 to 3.
+fn well_formed(tree: &[u8], i: usize) -> bool
+    requires { ⌜ i < length (kinds (now tree)) ⌝ }
+    ensures { λ r. ⌜ r ≡ wellFormed (getD (treeRecords (now (tree .entry))) i []) ⌝ }
+{
+    let head = super::words::word(tree, RECORD * i);
+    if head < ASYNC as u32 {
+        return false;
+    }
+    head <= END as u32
+}
+
+// The refusal of a record while so many tasks are open, 0 for none.
+pub fn judge(tree: &[u8], i: usize, depth: usize) -> u8
+    requires { ⌜ i < length (kinds (now tree)) ⌝ }
+    ensures { λ r. ⌜ r ≡ judgeTreeRecord depth (getD (treeRecords (now (tree .entry))) i []) ⌝ }
+{
+    if !well_formed(tree, i) {
+        return 3;
+    }
+    if depth == MOST_OPEN {
+        if tree[RECORD * i] == END {
+            return 0;
+        }
+        return 4;
+    }
+    if depth == 0 {
+        return 5;
+    }
+    0
+}
+
+// Reads a tree whole: refusals 2 to 5, or how many steps it has.
+pub fn accept(tree: &[u8]) -> Accepted
+    ensures { λ r. ⌜ r ≡ acceptance (now (tree .entry)) ⌝ }
+{
+    if wrong_length(tree) {
+        return Accepted {
+            number: 2,
+            position: 0,
+            steps: 0,
+        };
+    }
+    let n = tree.len() / RECORD;
+    let mut i = 0;
+    let mut depth: usize = 1;
+    while i < n {
+        let number = judge(tree, i, depth);
+        if number != 0 {
+            return Accepted {
+                number,
+                position: i,
+                steps: 0,
+            };
+        }
+        let k = tree[RECORD * i];
+        i += 1;
+        if k == END {
+            depth -= 1;
+        } else {
+            depth += 1;
+        }
+    }
+    if depth != 0 {
+        return Accepted {
+            number: 5,
+            position: n,
+            steps: 0,
+        };
+    }
+    Accepted {
+        number: 0,
+        position: 0,
+        steps: n,
+    }
+}

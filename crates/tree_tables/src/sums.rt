@@ -1,0 +1,26 @@
+// The table of what all steps before each weigh (document 01, "The tree file").
+
+ghost use Prim.Native.Nat.{_≤_, _<_};
+ghost use lib.ListN.{length};
+ghost use Rattle.rules.specs.Tree.{kinds, weights};
+ghost use Rattle.tree_tables.specs.Answers.{Sums};
+use tree::RECORD;
+use tree::Step;
+use tree::weight;
+
+// Adds up the weights.
+pub fn add_up(tree: &[u8], sums: &mut [u64])
+    requires { ⌜ length (kinds (now tree)) ≤ 4095 ⌝ }
+    requires { ⌜ length (kinds (now tree)) < length (now sums) ⌝ }
+    ensures { λ r. ⌜ Sums (weights (now (tree .entry))) (now (sums .exit)) (length (kinds (now (tree .entry)))) ⌝ }
+{
+    let n = tree.len() / RECORD;
+    sums[0] = 0;
+    let mut j = 0;
+    let mut total: u64 = 0;
+    while j < n {
+        total += weight(tree, Step(j)) as u64;
+        j += 1;
+        sums[j] = total;
+    }
+}
