@@ -17,7 +17,7 @@ use Rattle.run_state.specs.declared.RunState.{RunState}
 use Rattle.run_spec.specs.declared.Outcome.{Outcome}
 use Rattle.run_spec.specs.declared.Outcome.the-variants.{Ran, Stole, Refused}
 use Rattle.run_state.specs.declared.Answer.{Answer}
-use Rattle.run_state.specs.Answers.{startAnswer, eventAnswer}
+use Rattle.run_state.specs.Contract.{startAnswer, eventAnswer}
 
 -- ---- the live run, by the calls of single events
 

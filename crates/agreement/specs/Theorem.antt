@@ -2,7 +2,7 @@
 use Prim.Native.Nat.{ℕ}
 use mathlib.Core.Path.{_≡_}
 use mathlib.Core.List.{List}
-use Rattle.run_state.specs.Answers.{startAnswer}
+use Rattle.run_state.specs.Contract.{startAnswer}
 use Rattle.agreement.specs.Agreement.{Event, Agreement}
 use Rattle.agreement.specs.Laws.Whole.{agrees}
 

@@ -1,5 +1,5 @@
 -- What a record or a replay call is given.
---     Answers   what is answered of it, by the rules
+--     Terms     what is answered of it, by the rules
 --     Laws      each answer
-pub mod Answers
+pub mod Terms
 pub mod Laws

@@ -4,7 +4,7 @@
 ghost use mathlib.Core.Path.{_≡_};
 ghost use Prim.Native.Nat.{_≤_};
 ghost use Rattle.tree.specs.declared.Accepted.{Accepted};
-ghost use Rattle.arguments.specs.Answers.{admission, judged, tooShort, recordAdmitted, replayAdmitted};
+ghost use Rattle.arguments.specs.Terms.{admission, judged, tooShort, recordAdmitted, replayAdmitted};
 use buffers::EVENT;
 use buffers::RECORD;
 use policy::HELP_FIRST;

@@ -6,7 +6,7 @@ ghost use Prim.Native.Nat.{_+_, _*_, _≤_};
 ghost use lib.ListN.{length, take};
 ghost use Rattle.rules.specs.Bytes.{wholeRecords};
 ghost use Rattle.rules.specs.Calls.{written};
-ghost use Rattle.buffers.specs.Answers.{recordPut};
+ghost use Rattle.buffers.specs.Terms.{recordPut};
 
 // Bytes of a record of a log, a trace or a run list.
 pub const RECORD: usize = 4;

@@ -1,2 +1,2 @@
 -- The answers as C's flat structs of numbers (to be believed).
-pub mod Answers
+pub mod Contract

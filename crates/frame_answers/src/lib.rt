@@ -2,7 +2,7 @@
 // fields of a struct. Most wrong answers to shut out are of a field, so this is apart from the calls, which are dear to prove.
 
 ghost use mathlib.Core.Path.{_≡_};
-ghost use Rattle.frame_answers.specs.Answers.{flatStart, flatOutcome, flatEvent, flatIdle, flatRecord, flatReplay};
+ghost use Rattle.frame_answers.specs.Contract.{flatStart, flatOutcome, flatEvent, flatIdle, flatRecord, flatReplay};
 use record::answer::Recorded;
 use replay::answer::Replayed;
 use run_spec::Outcome;

@@ -2,8 +2,8 @@
 // function takes any bytes and any numbers.
 
 ghost use mathlib.Core.Path.{_≡_};
-ghost use Rattle.run_state.specs.Answers.{startAnswer, eventAnswer, idleAnswer};
-ghost use Rattle.frame_answers.specs.Answers.{flatStart, flatOutcome, flatEvent, flatIdle};
+ghost use Rattle.run_state.specs.Contract.{startAnswer, eventAnswer, idleAnswer};
+ghost use Rattle.frame_answers.specs.Contract.{flatStart, flatOutcome, flatEvent, flatIdle};
 use frame_answers::FrameEvent;
 use frame_answers::FrameIdle;
 use frame_answers::FrameOutcome;

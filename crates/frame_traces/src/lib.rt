@@ -3,9 +3,9 @@
 
 ghost use mathlib.Core.Path.{_≡_};
 ghost use Rattle.rules.specs.Calls.{recordCall, replayCall};
-ghost use Rattle.record.specs.Answers.{answers};
-ghost use Rattle.replay.specs.Answers.{answers as replayAnswers};
-ghost use Rattle.frame_answers.specs.Answers.{flatRecord, flatReplay};
+ghost use Rattle.record.specs.Contract.{answers};
+ghost use Rattle.replay.specs.Contract.{answers as replayAnswers};
+ghost use Rattle.frame_answers.specs.Contract.{flatRecord, flatReplay};
 use frame_answers::FrameRecord;
 use frame_answers::FrameReplay;
 

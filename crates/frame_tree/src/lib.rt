@@ -4,10 +4,10 @@
 ghost use mathlib.Core.Path.{_≡_};
 ghost use lib.ListN.{getD};
 ghost use Rattle.rules.specs.Tree.{kinds, weights, kindAt, cont, finishBefore};
-ghost use Rattle.tree.specs.Answers.{acceptance};
-ghost use Rattle.policy.specs.Answers.{runningOf};
-ghost use Rattle.tree_scan.specs.Answers.{taskOf, childOf};
-ghost use Rattle.frame_tree.specs.Answers.{flatTree, flatTask, flatChild, flatRunning};
+ghost use Rattle.tree.specs.Contract.{acceptance};
+ghost use Rattle.policy.specs.Contract.{runningOf};
+ghost use Rattle.tree_scan.specs.Contract.{taskOf, childOf};
+ghost use Rattle.frame_tree.specs.Contract.{flatTree, flatTask, flatChild, flatRunning};
 use tree::Step;
 
 // A tree's refusal and position, or its count of steps.

@@ -4,7 +4,7 @@ ghost use mathlib.Core.Path.{_≡_};
 ghost use Prim.Native.Nat.{_+_, _≤_, _<_};
 ghost use lib.ListN.{length, getD};
 ghost use Rattle.rules.specs.Traces.{heaviest as heaviestOf};
-ghost use Rattle.loads.specs.Answers.{loadMoved, weightBetween, Movable};
+ghost use Rattle.loads.specs.Terms.{loadMoved, weightBetween, Movable};
 use tree_tables::wide;
 
 // Some weight leaves the victim's load for the thief's.

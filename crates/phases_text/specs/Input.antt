@@ -1,6 +1,6 @@
 -- What need not be believed: everything here is proved from the rules.
 -- The parts of an input.
---     Answers   what is taken of it
+--     Terms     what is taken of it
 --     Laws      that this is the rules' policy, tree and trace
-pub mod Answers
+pub mod Terms
 pub mod Laws

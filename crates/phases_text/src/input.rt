@@ -4,7 +4,7 @@
 ghost use mathlib.Core.Path.{_≡_};
 ghost use Prim.Native.Nat.{min};
 ghost use lib.ListN.{length, getD};
-ghost use Rattle.phases_text.specs.Input.Answers.{Parts};
+ghost use Rattle.phases_text.specs.Input.Terms.{Parts};
 
 // A byte of the input, 0 where there is none.
 fn byte(input: &[u8], i: usize) -> u8

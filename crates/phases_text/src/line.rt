@@ -4,7 +4,7 @@ ghost use mathlib.Core.Path.{_≡_};
 ghost use Prim.Native.Nat.{_+_, _*_, _≤_};
 ghost use lib.ListN.{length};
 ghost use Rattle.rules.specs.Calls.{written};
-ghost use Rattle.phases_text.specs.Line.Answers.{numberAt, workerBy, linesOf, Phased};
+ghost use Rattle.phases_text.specs.Line.Terms.{numberAt, workerBy, linesOf, Phased};
 use super::number::put_line;
 
 // The number of two bytes of a record.

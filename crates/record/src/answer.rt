@@ -1,7 +1,7 @@
 // What a record call answers, by value (document 01, "Trace, log, run list" and "Refusals").
 
 ghost use mathlib.Core.Path.{_≡_};
-ghost use Rattle.record.specs.Answer.Answers.{refusal, answered};
+ghost use Rattle.record.specs.Answer.Terms.{refusal, answered};
 
 // Its refusal and position, or the counts of log and trace records, whether every step has run, each worker's load and the
 // heaviest worker.

@@ -1,7 +1,7 @@
 // What an admitted recording comes to (document 01, "Trace, log, run list"): the events are walked, and log and trace, which are
 // written to arrays of the call's own, are copied out once every event is accepted.
 
-ghost use Rattle.record.specs.Body.Answers.{Admitted, Outcome};
+ghost use Rattle.record.specs.Body.Terms.{Admitted, Outcome};
 use buffers::RECORD;
 use record_walk::Ended;
 

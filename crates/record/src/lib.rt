@@ -5,7 +5,7 @@ pub mod body;
 
 ghost use mathlib.Core.Path.{_≡_};
 ghost use Rattle.rules.specs.Calls.{recordCall};
-ghost use Rattle.record.specs.Answers.{answers};
+ghost use Rattle.record.specs.Contract.{answers};
 use answer::Recorded;
 
 // Records a list of events: refusals 1 to 12, or the log and the trace at the front of the lent buffers.

@@ -7,7 +7,7 @@ ghost use Prim.Native.Nat.{_<_};
 ghost use lib.ListN.{length};
 ghost use Rattle.rules.specs.Tree.{kinds, weights};
 ghost use Rattle.rules.specs.Calls.{startVerdict};
-ghost use Rattle.tree_tables.specs.Answers.{Ends, Openers, Sums};
+ghost use Rattle.tree_tables.specs.Terms.{Ends, Openers, Sums};
 ghost use Rattle.record_walk.specs.Laws.Recording.{Walks};
 use buffers::EVENT;
 use run_deques::NOT_RUN;

@@ -4,9 +4,9 @@
 ghost use mathlib.Core.Path.{_≡_};
 ghost use Prim.Native.Nat.{_+_, _*_, _/_, _%_, _≤_, _<_};
 ghost use lib.ListN.{length};
-ghost use Rattle.buffers.specs.Answers.{recordPut};
-ghost use Rattle.loads.specs.Answers.{loadMoved};
-ghost use Rattle.loads.specs.Answers.{weightBetween, Movable};
+ghost use Rattle.buffers.specs.Terms.{recordPut};
+ghost use Rattle.loads.specs.Terms.{loadMoved};
+ghost use Rattle.loads.specs.Terms.{weightBetween, Movable};
 ghost use Rattle.run_spec.specs.Numbers.{numberValue};
 use run_spec::TraceNumber;
 use tree::Phase;

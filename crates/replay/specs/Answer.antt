@@ -1,3 +1,3 @@
 -- What a replay call answers.
---     Answers   a refusal, and the answer on what the walk over the trace comes to
-pub mod Answers
+--     Terms     a refusal, and the answer on what the walk over the trace comes to
+pub mod Terms

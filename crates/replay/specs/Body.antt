@@ -1,5 +1,5 @@
 -- What an admitted replay comes to.
---     Answers   what is asked of the call, and what it answers and leaves
+--     Terms     what is asked of the call, and what it answers and leaves
 --     Laws      each return
-pub mod Answers
+pub mod Terms
 pub mod Laws

@@ -1,7 +1,7 @@
 -- Replay: a trace to the run list.
---     Answers   what the call answers, by the rules (to be believed)
+--     Contract  what the call answers, by the rules (to be believed)
 --     Laws      each of its answers (proved)
-pub mod Answers
+pub mod Contract
 pub mod Laws
 pub mod Answer
 pub mod Body

@@ -1,7 +1,7 @@
 // What a replay call answers, by value (document 01, "Trace, log, run list" and "Refusals").
 
 ghost use mathlib.Core.Path.{_≡_};
-ghost use Rattle.replay.specs.Answer.Answers.{refusal, answered};
+ghost use Rattle.replay.specs.Answer.Terms.{refusal, answered};
 
 // Its refusal and position, or the count of phases, each worker's load and the heaviest worker.
 pub struct Replayed {

@@ -5,7 +5,7 @@ pub mod body;
 
 ghost use mathlib.Core.Path.{_≡_};
 ghost use Rattle.rules.specs.Calls.{replayCall};
-ghost use Rattle.replay.specs.Answers.{answers};
+ghost use Rattle.replay.specs.Contract.{answers};
 use answer::Replayed;
 
 // Replays a trace: refusals 1 to 8 and 13 to 15, or the run list at the front of the lent buffer.

@@ -7,7 +7,7 @@ ghost use mathlib.Core.Bool.{not};
 ghost use Prim.Native.Nat.{_≤_, _<_};
 ghost use lib.ListN.{length};
 ghost use Rattle.replay_invariant.specs.Laws.Labels.{labelOf};
-ghost use Rattle.replay_labels.specs.Answers.{Upward, Claimed, Taking, dropped};
+ghost use Rattle.replay_spec.specs.Labels.{Upward, Claimed, Taking, dropped};
 use tree_tables::wide;
 
 // The label of a step that has none.

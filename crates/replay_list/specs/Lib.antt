@@ -1,6 +1,5 @@
 -- The run list.
---     Answers   what the functions answer and write
+--     Terms     what the functions answer and write
 --     Laws      that it is the rules' run list
-pub mod Answers
+pub mod Terms
 pub mod Laws
-pub mod Phase

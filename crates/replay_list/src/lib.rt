@@ -7,8 +7,8 @@ ghost use lib.ListN.{length};
 ghost use Rattle.rules.specs.Tree.{kinds, treeVerdict};
 ghost use Rattle.rules.specs.Traces.{entryBytes};
 ghost use Rattle.rules.specs.Calls.{written};
-ghost use Rattle.tree_tables.specs.Answers.{Ends};
-ghost use Rattle.replay_list.specs.Answers.{listed, Listable};
+ghost use Rattle.tree_tables.specs.Terms.{Ends};
+ghost use Rattle.replay_list.specs.Terms.{listed, Listable};
 use phase::write_phase;
 use tree_tables::wide;
 

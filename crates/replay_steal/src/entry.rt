@@ -4,17 +4,11 @@
 ghost use mathlib.Core.Path.{_≡_};
 ghost use Prim.Native.Nat.{_+_, _*_, _/_, _<_};
 ghost use lib.ListN.{length};
-ghost use Rattle.replay_steal.specs.Entry.Answers.{judgedWorkers, Entry};
+ghost use Rattle.replay_spec.specs.Entries.{judgedWorkers, Entry};
+use replay_spec::TraceRecord;
 
 // The latest phase of a worker that has had none.
 pub const NO_PHASE: u16 = 65535;
-
-// What a trace record says.
-pub struct TraceRecord {
-    pub thief: u8,
-    pub victim: u8,
-    pub number: u16,
-}
 
 // A number of two bytes.
 fn two_bytes(low: u8, high: u8) -> u16

@@ -8,11 +8,11 @@ ghost use mathlib.Core.Path.{_≡_};
 ghost use Prim.Native.Nat.{_<_};
 ghost use lib.ListN.{length, getD};
 ghost use Rattle.rules.specs.Tree.{kinds, treeVerdict};
-ghost use Rattle.tree_tables.specs.Answers.{Ends, Openers};
+ghost use Rattle.tree_tables.specs.Terms.{Ends, Openers};
 ghost use Rattle.replay_invariant.specs.Laws.Labels.{labelOf};
-ghost use Rattle.replay_steal.specs.Number.Answers.{named};
-ghost use Rattle.replay_steal.specs.Answers.{Reading};
-use number::Named;
+ghost use Rattle.replay_spec.specs.Naming.{named};
+ghost use Rattle.replay_spec.specs.Reading.{Reading};
+use replay_spec::Named;
 use tree_tables::wide;
 
 // Reads a number against a phase: gives the step that it names, if that step can be stolen from the phase. The steps above it

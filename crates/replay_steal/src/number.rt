@@ -6,10 +6,11 @@ ghost use mathlib.Core.Bool.{_||_};
 ghost use lib.ListN.{length};
 ghost use Rattle.rules.specs.Tree.{kinds};
 ghost use Rattle.rules.specs.Traces.{startsAsync, followsFinish};
-ghost use Rattle.tree_tables.specs.Answers.{Ends, Openers};
+ghost use Rattle.tree_tables.specs.Terms.{Ends, Openers};
 ghost use Rattle.replay_invariant.specs.Laws.Tasks.{hopped};
-ghost use Rattle.replay_steal.specs.Number.Answers.{namedOf, named};
+ghost use Rattle.replay_spec.specs.Naming.{namedOf, named};
 use policy::WORK_FIRST;
+use replay_spec::Named;
 use tree::ASYNC;
 use tree::END;
 use tree::Step;
@@ -17,12 +18,6 @@ use tree::kind;
 use tree_scan::FinishChild;
 use tree_tables::lookup::cont_by;
 use tree_tables::lookup::finish_by;
-
-// The step that a trace number names, or none.
-pub enum Named {
-    At(Step),
-    Nothing,
-}
 
 // From a step over so many children of its task: each time on to the step after the end of the child that is opened. None where
 // a step on the way ends the task.

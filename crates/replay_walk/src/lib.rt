@@ -9,10 +9,10 @@ ghost use lib.ListN.{length, replicate};
 ghost use Rattle.rules.specs.Tree.{kinds, weights};
 ghost use Rattle.rules.specs.Bytes.{wholeRecords};
 ghost use Rattle.rules.specs.Calls.{startVerdict};
-ghost use Rattle.tree_tables.specs.Answers.{Ends, Openers, Sums};
-ghost use Rattle.replay_walk.specs.Answers.{Retraced};
+ghost use Rattle.tree_tables.specs.Terms.{Ends, Openers, Sums};
+ghost use Rattle.replay_walk.specs.Terms.{Retraced};
+use replay_spec::Named;
 use replay_steal::entry::NO_PHASE;
-use replay_steal::number::Named;
 
 // What the walk over the records comes to.
 pub struct Ended {

@@ -10,7 +10,7 @@ ghost use mathlib.Core.List.{List};
 ghost use Prim.Native.Nat.{ℕ};
 ghost use lib.ListN.{length};
 ghost use Rattle.rules.specs.Tree.{kinds};
-ghost use Rattle.tree_tables.specs.Answers.{Ends};
+ghost use Rattle.tree_tables.specs.Terms.{Ends};
 ghost use Rattle.run_spec.specs.declared.Outcome.the-variants.{Refused};
 ghost use Rattle.run_spec.specs.Moves.{Hints, fieldsOf, moveOf, runMove, stealMove, eventMove};
 use run_spec::Outcome;

@@ -6,7 +6,7 @@ ghost use mathlib.Core.Bool.{_||_};
 ghost use lib.ListN.{length};
 ghost use lib.Dec.{eqb, leb};
 ghost use Rattle.rules.specs.Tree.{kinds};
-ghost use Rattle.tree_tables.specs.Answers.{Ends, Openers};
+ghost use Rattle.tree_tables.specs.Terms.{Ends, Openers};
 ghost use Rattle.run_spec.specs.Deques.{Climbs};
 ghost use Rattle.run_spec.specs.Running.{allRun, waitsFor, WaitsAtLow, runNumber, heldNext, placeNext};
 use run_deques::MOST_WORKERS;

@@ -5,7 +5,7 @@ ghost use mathlib.Core.Path.{_≡_};
 ghost use Prim.Native.Nat.{_+_, _≤_, _<_};
 ghost use lib.ListN.{length, set};
 ghost use Rattle.rules.specs.Tree.{kinds};
-ghost use Rattle.tree_tables.specs.Answers.{Ends};
+ghost use Rattle.tree_tables.specs.Terms.{Ends};
 ghost use Rattle.run_spec.specs.Deques.{oldestMark, robbed};
 ghost use Rattle.run_spec.specs.Stealing.{stealNumber, takenOf, Small};
 use run_deques::MOST_WORKERS;

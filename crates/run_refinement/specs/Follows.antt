@@ -22,7 +22,7 @@ use Rattle.run_spec.specs.declared.TraceNumber.the-variants.{ByOrdinal, BySeria
 use Rattle.run_spec.specs.Numbers.{numberBy, numberValue}
 use Rattle.run_spec.specs.Moves.{fresh}
 use Rattle.run_state.specs.declared.RunState.{RunState}
-use Rattle.run_state.specs.Answers.{fields, stateOf, startAnswer, eventAnswer, idleAnswer}
+use Rattle.run_state.specs.Contract.{fields, stateOf, startAnswer, eventAnswer, idleAnswer}
 use Rattle.run_refinement.specs.Tie.{Shows, toldAll, outcomes, stateAfter}
 use Rattle.run_refinement.specs.Laws.Events.{start-shows, event-tells, event-shows, idle-set-shown, idle-count-shown, idle-lowest-shown}
 

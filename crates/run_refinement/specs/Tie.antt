@@ -16,7 +16,7 @@ use Rattle.run_spec.specs.declared.Outcome.the-variants.{Ran, Stole, Refused}
 use Rattle.run_spec.specs.Numbers.{numberBy}
 use Rattle.run_spec.specs.Moves.{Fields}
 use Rattle.run_state.specs.declared.RunState.{RunState}
-use Rattle.run_state.specs.Answers.{eventAnswer}
+use Rattle.run_state.specs.Contract.{eventAnswer}
 
 -- ---- a worker
 

@@ -9,7 +9,7 @@ use lib.ListN.{length, getD, set}
 use lib.Dec.{eqb}
 use Rattle.rules.specs.Bytes.{count}
 use Rattle.rules.specs.Tree.{taskEnd}
-use Rattle.tree_tables.specs.Answers.{Openers}
+use Rattle.tree_tables.specs.Terms.{Openers}
 use Rattle.run_spec.specs.declared.Pusher.{Pusher}
 use Rattle.run_spec.specs.declared.Pusher.the-variants.{At, Nothing}
 

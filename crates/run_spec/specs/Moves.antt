@@ -9,7 +9,7 @@ use lib.ListN.{length, getD, set, replicate}
 use lib.Dec.{eqb}
 use Rattle.rules.specs.Tree.{kinds}
 use Rattle.rules.specs.Scheduling.{mostWorkers, pushes}
-use Rattle.tree_tables.specs.Answers.{Ends, Openers}
+use Rattle.tree_tables.specs.Terms.{Ends, Openers}
 use Rattle.run_spec.specs.declared.Outcome.{Outcome}
 use Rattle.run_spec.specs.declared.Outcome.the-variants.{Ran, Stole, Refused}
 use Rattle.run_spec.specs.Deques.{Climbs, oldestMark, robbed}

@@ -5,7 +5,7 @@ pub mod idle_workers;
 pub mod start;
 
 ghost use mathlib.Core.Path.{_≡_};
-ghost use Rattle.run_state.specs.Answers.{runAnswer, stealAnswer, eventAnswer, idleAnswer};
+ghost use Rattle.run_state.specs.Contract.{runAnswer, stealAnswer, eventAnswer, idleAnswer};
 use run_spec::Outcome;
 
 // The state of a run.

@@ -2,7 +2,7 @@
 
 ghost use mathlib.Core.Path.{_≡_};
 ghost use Rattle.run_spec.specs.Moves.{fresh};
-ghost use Rattle.run_state.specs.Answers.{stateOf, zeros, startAnswer};
+ghost use Rattle.run_state.specs.Contract.{stateOf, zeros, startAnswer};
 use super::RunState;
 use super::Started;
 use run_deques::NOT_RUN;

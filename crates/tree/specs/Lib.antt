@@ -1,5 +1,5 @@
 -- The tree file's definitions.
---     Answers   what accepting a tree answers, by the rules (to be believed)
+--     Contract  what accepting a tree answers, by the rules (to be believed)
 --     Laws      the laws of records, walks and acceptance (proved)
-pub mod Answers
+pub mod Contract
 pub mod Laws

@@ -4,7 +4,7 @@ ghost use mathlib.Core.Path.{_≡_};
 ghost use mathlib.Core.List.{[]};
 ghost use Prim.Native.Nat.{_<_};
 ghost use lib.ListN.{length, getD};
-ghost use Rattle.tree.specs.Answers.{acceptance};
+ghost use Rattle.tree.specs.Contract.{acceptance};
 ghost use Rattle.rules.specs.Tree.{kinds, treeRecords, wrongLength, wellFormed, judgeTreeRecord};
 use super::ASYNC;
 use super::Accepted;

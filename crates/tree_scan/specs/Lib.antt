@@ -1,5 +1,5 @@
 -- The definitions on steps and tasks.
---     Answers   what the functions answer, by the rules (to be believed)
+--     Contract  what the functions answer, by the rules (to be believed)
 --     Laws      the laws of scans and of trees (proved)
-pub mod Answers
+pub mod Contract
 pub mod Laws

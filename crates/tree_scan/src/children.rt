@@ -2,7 +2,7 @@
 // ends just before a step. A scan reads only the records between the step asked for and the answer.
 ghost use mathlib.Core.Path.{_≡_};
 ghost use Rattle.rules.specs.Tree.{kinds, cont as contAt, finishBefore};
-ghost use Rattle.tree_scan.specs.Answers.{childOf};
+ghost use Rattle.tree_scan.specs.Contract.{childOf};
 use super::FinishChild;
 use super::task_of;
 use tree::END;

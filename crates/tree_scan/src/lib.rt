@@ -4,7 +4,7 @@ pub mod children;
 
 ghost use mathlib.Core.Path.{_≡_};
 ghost use Rattle.rules.specs.Tree.{kinds, ordinal};
-ghost use Rattle.tree_scan.specs.Answers.{taskOf};
+ghost use Rattle.tree_scan.specs.Contract.{taskOf};
 use tree::END;
 use tree::Ordinal;
 use tree::RECORD;

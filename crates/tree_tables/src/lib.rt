@@ -8,7 +8,7 @@ ghost use mathlib.Core.Path.{_≡_};
 ghost use Prim.Native.Nat.{_≤_};
 ghost use lib.ListN.{length};
 ghost use Rattle.rules.specs.Tree.{kinds, treeVerdict};
-ghost use Rattle.tree_tables.specs.Answers.{Ends, Openers};
+ghost use Rattle.tree_tables.specs.Terms.{Ends, Openers};
 use tree::END;
 use tree::RECORD;
 

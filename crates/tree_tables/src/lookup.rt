@@ -2,8 +2,8 @@
 ghost use mathlib.Core.Path.{_≡_};
 ghost use lib.ListN.{length};
 ghost use Rattle.rules.specs.Tree.{kinds, cont as contAt, finishBefore};
-ghost use Rattle.tree_scan.specs.Answers.{childOf};
-ghost use Rattle.tree_tables.specs.Answers.{Ends, Openers};
+ghost use Rattle.tree_scan.specs.Contract.{childOf};
+ghost use Rattle.tree_tables.specs.Terms.{Ends, Openers};
 use super::wide;
 use tree::END;
 use tree::FINISH;

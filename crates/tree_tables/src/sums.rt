@@ -3,7 +3,7 @@
 ghost use Prim.Native.Nat.{_≤_, _<_};
 ghost use lib.ListN.{length};
 ghost use Rattle.rules.specs.Tree.{kinds, weights};
-ghost use Rattle.tree_tables.specs.Answers.{Sums};
+ghost use Rattle.tree_tables.specs.Terms.{Sums};
 use tree::RECORD;
 use tree::Step;
 use tree::weight;

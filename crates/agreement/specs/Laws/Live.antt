@@ -16,7 +16,7 @@ use Rattle.run_invariant.specs.Invariant.{Invariant}
 use Rattle.run_invariant.specs.Laws.Moves.{ran, run-is, run-held, event-runs, first-within, enriched, steal-thief}
 use Rattle.run_invariant.specs.Laws.Always.{start-invariant, event-keeps}
 use Rattle.run_state.specs.declared.RunState.{RunState}
-use Rattle.run_state.specs.Answers.{fields, startAnswer, eventAnswer}
+use Rattle.run_state.specs.Contract.{fields, startAnswer, eventAnswer}
 use Rattle.tree_scan.specs.Laws.Starts.{start-tree-accepts}
 use Rattle.run_refinement.specs.Tie.{Shows, told}
 use Rattle.run_refinement.specs.Laws.Events.{start-shows, event-tells, event-shows}

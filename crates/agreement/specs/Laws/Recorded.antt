@@ -17,7 +17,7 @@ use Rattle.tree_scan.specs.Laws.Frames.{Frame, accepted-frame}
 use Rattle.run_invariant.specs.Laws.Moves.{map-one}
 use Rattle.run_invariant.specs.Laws.Always.{always}
 use Rattle.run_invariant.specs.Laws.Consequences.{runs-most, steals-most}
-use Rattle.arguments.specs.Answers.{tooShort}
+use Rattle.arguments.specs.Terms.{tooShort}
 use Rattle.record.specs.Laws.Cases.{Ready, record-event, record-all}
 use Rattle.agreement.specs.Laws.Folds.{AcceptedTo, accepted-walks, refused-walks, walk-folds, counts}
 use Rattle.agreement.specs.Agreement.{Event, eventBytes, shortOutputs}

@@ -2,7 +2,7 @@
 use Prim.Native.Nat.{ℕ}
 use mathlib.Core.Path.{_∙_}
 use borrow.Author.Needs.{needs}
-use Rattle.arguments.specs.Answers.{tooShort, recordAdmitted}
+use Rattle.arguments.specs.Terms.{tooShort, recordAdmitted}
 use Rattle.arguments.specs.Laws.Cases.{few-steps, judged-is}
 use Rattle.arguments.proofs.admit_record.Statement.{statement}
 use Rattle.arguments.proofs.admit_record.Tie as tie

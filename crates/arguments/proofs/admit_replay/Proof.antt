@@ -4,7 +4,7 @@ use mathlib.Core.Path.{_∙_}
 use native.Mathlib.Omega.{arith}
 use lib.Dec.{ltb}
 use borrow.Author.Needs.{needs}
-use Rattle.arguments.specs.Answers.{replayAdmitted}
+use Rattle.arguments.specs.Terms.{replayAdmitted}
 use Rattle.arguments.specs.Laws.Cases.{few-steps, judged-is}
 use Rattle.arguments.proofs.admit_replay.Statement.{statement}
 use Rattle.arguments.proofs.admit_replay.Tie as tie

@@ -1,7 +1,7 @@
 -- `calls::judge` meets its contract: a return for each of its tests. Assumes nothing.
 use mathlib.Core.Path.{refl}
 use borrow.Author.Tests.{eq-eqb, ne-eqb, not-true, not-false}
-use Rattle.arguments.specs.Answers.{judged}
+use Rattle.arguments.specs.Terms.{judged}
 use Rattle.arguments.proofs.judge.Statement.{statement}
 use Rattle.arguments.proofs.judge.Tie as tie
 

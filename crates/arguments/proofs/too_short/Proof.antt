@@ -4,7 +4,7 @@ use mathlib.Core.Path.{_≡_, refl}
 use native.Mathlib.Omega.{arith}
 use borrow.Author.Needs.{needs}
 use borrow.Author.Tests.{lt-ltb, le-ltb}
-use Rattle.arguments.specs.Answers.{tooShort}
+use Rattle.arguments.specs.Terms.{tooShort}
 use Rattle.arguments.proofs.too_short.Statement.{statement}
 use Rattle.arguments.proofs.too_short.Tie as tie
 

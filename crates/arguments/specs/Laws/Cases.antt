@@ -14,10 +14,10 @@ use Rattle.rules.specs.Tree.{kinds}
 use Rattle.rules.specs.Calls.{startVerdict}
 use Rattle.tree.specs.declared.Accepted.{Accepted}
 use Rattle.tree.specs.Laws.Verdicts.{first-accepts}
-use Rattle.arguments.specs.Answers.{admission}
+use Rattle.arguments.specs.Terms.{admission}
 use Rattle.tree_scan.specs.Laws.Starts.{admitted-position}
 use Rattle.arguments.specs.Laws.Starts.{start-judged, start-begins, begun-steps}
-use Rattle.arguments.specs.Answers.{givenVerdict, admitted, judged}
+use Rattle.arguments.specs.Terms.{givenVerdict, admitted, judged}
 
 -- ---- the code's answer
 

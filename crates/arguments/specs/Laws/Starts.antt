@@ -13,11 +13,11 @@ use Rattle.rules.specs.Bytes.{Verdict, accepted, refusedIf, firstRefused}
 use Rattle.rules.specs.Tree.{kinds, treeRecords, treeWalk, wrongLength, treeVerdict}
 use Rattle.rules.specs.Calls.{startVerdict}
 use Rattle.tree.specs.declared.Accepted.{Accepted}
-use Rattle.tree.specs.Answers.{acceptance}
+use Rattle.tree.specs.Contract.{acceptance}
 use Rattle.tree.specs.Laws.Verdicts.{first-position}
 use Rattle.tree_scan.specs.Laws.Starts.{start-tree-accepts}
 use Rattle.tree_scan.specs.Laws.Frames.{accepted-frame}
-use Rattle.arguments.specs.Answers.{admission}
+use Rattle.arguments.specs.Terms.{admission}
 
 -- One condition alone decides.
 alone : (v : Verdict) → (v .number ≡ 0 → v .position ≡ 0) → firstRefused (v ∷ []) ≡ v

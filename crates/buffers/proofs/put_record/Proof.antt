@@ -3,7 +3,7 @@ use mathlib.Core.Path.{refl}
 use native.Mathlib.Omega.{arith}
 use lib.ListN.{length-set}
 use borrow.Author.Needs.{needs}
-use Rattle.buffers.specs.Answers.{recordPut}
+use Rattle.buffers.specs.Terms.{recordPut}
 use Rattle.buffers.proofs.put_record.Statement.{statement}
 use Rattle.buffers.proofs.put_record.Tie as tie
 

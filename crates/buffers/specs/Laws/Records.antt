@@ -9,7 +9,7 @@ use lib.Seq.{sets, sets-eq, take-append-seam}
 use Rattle.rules.specs.Bytes.{twoBytes}
 use Rattle.rules.specs.Scheduling.{Entry, Steal}
 use Rattle.rules.specs.Traces.{traceNumber, traceBytes, entryBytes}
-use Rattle.buffers.specs.Answers.{recordPut}
+use Rattle.buffers.specs.Terms.{recordPut}
 
 -- ---- records of four bytes
 

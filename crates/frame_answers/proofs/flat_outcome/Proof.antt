@@ -2,7 +2,7 @@
 use mathlib.Core.Path.{ap, sym, _∙_}
 use Prim.Native.Nat.{ℕ}
 use Rattle.frame_answers.specs.declared.FrameOutcome.{FrameOutcome}
-use Rattle.frame_answers.specs.Answers.{flatOutcome}
+use Rattle.frame_answers.specs.Contract.{flatOutcome}
 use borrow.Author.Needs.{needs}
 use Rattle.frame_answers.proofs.flat_outcome.Statement.{statement}
 use Rattle.frame_answers.proofs.flat_outcome.Tie as tie

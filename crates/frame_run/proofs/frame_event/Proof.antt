@@ -1,7 +1,7 @@
 -- `frame::frame_event` meets its contract: it flattens what `event` answers. Assumes nothing.
 use mathlib.Core.Path.{ap, _∙_}
 use Rattle.frame_answers.specs.declared.FrameEvent.{FrameEvent}
-use Rattle.frame_answers.specs.Answers.{flatEvent}
+use Rattle.frame_answers.specs.Contract.{flatEvent}
 use borrow.Author.Needs.{needs}
 use Rattle.frame_run.proofs.frame_event.Statement.{statement}
 use Rattle.frame_run.proofs.frame_event.Tie as tie

@@ -45,7 +45,7 @@ use denote.Exit.{yes}
 use Rattle.run_state.specs.declared.RunState.{RunState}
 use Rattle.run_spec.specs.declared.Outcome.{Outcome}
 use Rattle.run_state.specs.declared.Answer.{Answer}
-use Rattle.run_state.specs.Answers.{eventAnswer}
+use Rattle.run_state.specs.Contract.{eventAnswer}
 use Rattle.run_state.proofs.RunState as S
 use Rattle.run_state.proofs.RunState.Laws as S′
 use Rattle.run_spec.proofs.Outcome as O
@@ -57,7 +57,7 @@ use Rattle.run_state.proofs.RunState.event.Symbol as event-def
 use Rattle.run_state.proofs.RunState.event.Symbol.{name as #state·RunState·event}
 use Rattle.run_state.proofs.RunState.event.Met as event-thm
 use Rattle.frame_answers.specs.declared.FrameOutcome.{FrameOutcome}
-use Rattle.frame_answers.specs.Answers.{flatOutcome}
+use Rattle.frame_answers.specs.Contract.{flatOutcome}
 use Rattle.frame_answers.proofs.FrameOutcome as R
 use Rattle.frame_answers.proofs.FrameOutcome.Laws as R′
 use Rattle.frame_answers.proofs.flat_outcome as flat

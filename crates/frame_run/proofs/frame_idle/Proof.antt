@@ -1,7 +1,7 @@
 -- `frame::frame_idle` meets its contract: it flattens what `idle` answers. Assumes nothing.
 use mathlib.Core.Path.{ap, _∙_}
 use Rattle.frame_answers.specs.declared.FrameIdle.{FrameIdle}
-use Rattle.frame_answers.specs.Answers.{flatIdle}
+use Rattle.frame_answers.specs.Contract.{flatIdle}
 use borrow.Author.Needs.{needs}
 use Rattle.frame_run.proofs.frame_idle.Statement.{statement}
 use Rattle.frame_run.proofs.frame_idle.Tie as tie

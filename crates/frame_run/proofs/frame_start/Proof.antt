@@ -1,7 +1,7 @@
 -- `frame::frame_start` meets its contract: it flattens what `start` answers. Assumes nothing.
 use mathlib.Core.Path.{ap, _∙_}
 use Rattle.frame_answers.specs.declared.FrameStart.{FrameStart}
-use Rattle.frame_answers.specs.Answers.{flatStart}
+use Rattle.frame_answers.specs.Contract.{flatStart}
 use borrow.Author.Needs.{needs}
 use Rattle.frame_run.proofs.frame_start.Statement.{statement}
 use Rattle.frame_run.proofs.frame_start.Tie as tie

@@ -1,7 +1,7 @@
 -- `recorder::frame_record` meets its contract: it flattens what `record` answers. Assumes nothing.
 use mathlib.Core.Path.{ap, _∙_}
 use Rattle.frame_answers.specs.declared.FrameRecord.{FrameRecord}
-use Rattle.frame_answers.specs.Answers.{flatRecord}
+use Rattle.frame_answers.specs.Contract.{flatRecord}
 use borrow.Author.Needs.{needs}
 use Rattle.frame_traces.proofs.frame_record.Statement.{statement}
 use Rattle.frame_traces.proofs.frame_record.Tie as tie

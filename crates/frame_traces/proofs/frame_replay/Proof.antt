@@ -1,7 +1,7 @@
 -- `recorder::frame_replay` meets its contract: it flattens what `replay` answers. Assumes nothing.
 use mathlib.Core.Path.{ap, _∙_}
 use Rattle.frame_answers.specs.declared.FrameReplay.{FrameReplay}
-use Rattle.frame_answers.specs.Answers.{flatReplay}
+use Rattle.frame_answers.specs.Contract.{flatReplay}
 use borrow.Author.Needs.{needs}
 use Rattle.frame_traces.proofs.frame_replay.Statement.{statement}
 use Rattle.frame_traces.proofs.frame_replay.Tie as tie

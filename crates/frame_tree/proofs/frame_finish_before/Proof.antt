@@ -1,6 +1,6 @@
 -- `viewer::frame_finish_before` meets its contract: it flattens what `finish_before` answers, case by case. Assumes nothing.
 use mathlib.Core.Path.{ap, sym, _∙_}
-use Rattle.frame_tree.specs.Answers.{flatChild}
+use Rattle.frame_tree.specs.Contract.{flatChild}
 use borrow.Author.Needs.{needs}
 use Rattle.frame_tree.proofs.frame_finish_before.Statement.{statement}
 use Rattle.frame_tree.proofs.frame_finish_before.Tie as tie

@@ -1,6 +1,6 @@
 -- `viewer::frame_running` meets its contract: it flattens what `running_of` answers, case by case. Assumes nothing.
 use mathlib.Core.Path.{ap, sym, _∙_}
-use Rattle.frame_tree.specs.Answers.{flatRunning}
+use Rattle.frame_tree.specs.Contract.{flatRunning}
 use borrow.Author.Needs.{needs}
 use Rattle.frame_tree.proofs.frame_running.Statement.{statement}
 use Rattle.frame_tree.proofs.frame_running.Tie as tie

@@ -1,6 +1,6 @@
 -- `viewer::frame_task` meets its contract: it flattens what `task_of` answers. Assumes nothing.
 use mathlib.Core.Path.{ap}
-use Rattle.frame_tree.specs.Answers.{flatTask}
+use Rattle.frame_tree.specs.Contract.{flatTask}
 use borrow.Author.Needs.{needs}
 use Rattle.frame_tree.proofs.frame_task.Statement.{statement}
 use Rattle.frame_tree.proofs.frame_task.Tie as tie

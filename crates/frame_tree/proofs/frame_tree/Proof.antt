@@ -1,6 +1,6 @@
 -- `viewer::frame_tree` meets its contract: it flattens what `accept` answers. Assumes nothing.
 use mathlib.Core.Path.{ap}
-use Rattle.frame_tree.specs.Answers.{flatTree}
+use Rattle.frame_tree.specs.Contract.{flatTree}
 use borrow.Author.Needs.{needs}
 use Rattle.frame_tree.proofs.frame_tree.Statement.{statement}
 use Rattle.frame_tree.proofs.frame_tree.Tie as tie

@@ -5,7 +5,7 @@ use native.Mathlib.Omega.{arith}
 use lib.ListN.{getD}
 use lib.Seq.{getD-set-other}
 use borrow.Author.Needs.{needs}
-use Rattle.loads.specs.Answers.{loadMoved}
+use Rattle.loads.specs.Terms.{loadMoved}
 use Rattle.loads.proofs.move_load.Statement.{statement}
 use Rattle.loads.proofs.move_load.Tie as tie
 

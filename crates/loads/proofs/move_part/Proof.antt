@@ -4,7 +4,7 @@ use mathlib.Core.Path.{_≡_, refl}
 use native.Mathlib.Omega.{arith}
 use lib.ListN.{getD}
 use borrow.Author.Needs.{needs}
-use Rattle.loads.specs.Answers.{weightBetween}
+use Rattle.loads.specs.Terms.{weightBetween}
 use Rattle.loads.proofs.move_part.Statement.{statement}
 use Rattle.loads.proofs.move_part.Tie as tie
 

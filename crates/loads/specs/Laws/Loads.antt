@@ -18,12 +18,12 @@ use Rattle.rules.specs.Traces.{fromStep, covers, phaseLoad, workerLoad, loads}
 use Rattle.tree.specs.Laws.Counts.{length-count}
 use Rattle.tree_scan.specs.Laws.Shape.{Shape}
 use Rattle.tree_scan.specs.Laws.Frames.{endAt, sizeAt}
-use Rattle.tree_tables.specs.Answers.{Ends, Sums, weightBefore}
+use Rattle.tree_tables.specs.Terms.{Ends, Sums, weightBefore}
 use Rattle.run_invariant.specs.Laws.Counts.{any-one, any-sum, sum-plus, sum-two}
 use Rattle.run_invariant.specs.Laws.Weights.{span, end-within}
 use Rattle.run_invariant.specs.Laws.Moves.{sum-one, sum-set, robbed}
-use Rattle.loads.specs.Answers.{loadMoved}
-use Rattle.loads.specs.Answers.{weightBetween, Movable}
+use Rattle.loads.specs.Terms.{loadMoved}
+use Rattle.loads.specs.Terms.{weightBetween, Movable}
 
 -- ---- sums
 

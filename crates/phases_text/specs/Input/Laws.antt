@@ -7,7 +7,7 @@ use native.Mathlib.Omega.{arith}
 use lib.ListN.{length, take, drop, getD, length-drop, drop-of-length-le}
 use lib.Seq.{take-all, take-nil, drop-drop}
 use Rattle.rules.specs.Program.{inputPolicy, inputCount, inputTree, inputTrace}
-use Rattle.phases_text.specs.Input.Answers.{Parts}
+use Rattle.phases_text.specs.Input.Terms.{Parts}
 
 module _ (input : List ℕ) (n start end : ℕ) (s : start ≡ min 3 (length input)) (e : end ≡ min (3 + 8 * n) (length input)) where
   tree-by : take (end - start) (drop start input) ≡ take (8 * n) (drop 3 input)

@@ -16,7 +16,7 @@ use Rattle.run_invariant.specs.Invariant.{logOf, self}
 use Rattle.run_invariant.specs.Laws.Counts.{and-both}
 use Rattle.replay_invariant.specs.Splits.{phasesOf, Splits}
 use Rattle.replay_invariant.specs.Laws.Consequences.{splits, list-none}
-use Rattle.phases_text.specs.Line.Answers.{numberAt}
+use Rattle.phases_text.specs.Line.Terms.{numberAt}
 
 -- What stands at entry i.
 abbrev pub entryAt : List Entry → ℕ → Entry

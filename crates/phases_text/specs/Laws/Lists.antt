@@ -14,7 +14,7 @@ use Rattle.rules.specs.Program.{phaseLines, line}
 use Rattle.buffers.specs.Laws.Records.{length-entries}
 use Rattle.replay_invariant.specs.Splits.{phasesOf, Splits}
 use Rattle.replay_invariant.specs.Laws.Consequences.{splits}
-use Rattle.phases_text.specs.Line.Answers.{numberAt, workerBy, lineOf, linesOf, Phased}
+use Rattle.phases_text.specs.Line.Terms.{numberAt, workerBy, lineOf, linesOf, Phased}
 use Rattle.phases_text.specs.Laws.Verdicts.{start-steps, accepted-start, accepted-trace, accepted-walk}
 use Rattle.phases_text.specs.Laws.Workers.{phases-many, phase-worker}
 use Rattle.phases_text.specs.Laws.Entries.{entryAt, number-phase, number-step, entry-phase, entry-step}

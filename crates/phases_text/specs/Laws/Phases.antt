@@ -12,10 +12,10 @@ use Rattle.rules.specs.Calls.{written, replayVerdict, replayOf, replayRefused, 
 use Rattle.rules.specs.Program.{inputPolicy, inputTree, inputTrace, heading, phaseLines, refusedLine, phasesText}
 use Rattle.replay_invariant.specs.Splits.{phasesOf}
 use Rattle.replay.specs.declared.answer.Replayed.{Replayed}
-use Rattle.replay.specs.Answers.{answers}
-use Rattle.phases_text.specs.Report.Answers.{refusalText}
-use Rattle.phases_text.specs.Line.Answers.{linesOf, Phased}
-use Rattle.phases_text.specs.Input.Answers.{Parts}
+use Rattle.replay.specs.Contract.{answers}
+use Rattle.phases_text.specs.Report.Terms.{refusalText}
+use Rattle.phases_text.specs.Line.Terms.{linesOf, Phased}
+use Rattle.phases_text.specs.Input.Terms.{Parts}
 use Rattle.phases_text.specs.Laws.Verdicts.{start-steps, same-verdict, call-accepted, call-refused, call-number, accepted-start}
 use Rattle.phases_text.specs.Laws.Lists.{runOf, listed-lines, listed-phases, listed-room}
 

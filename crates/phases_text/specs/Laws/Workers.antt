@@ -12,7 +12,7 @@ use Rattle.rules.specs.Traces.{judgeTraceRecord, nextPhases, stolenStep, record
 use Rattle.tree.specs.Laws.Records.{length-records, field-at}
 use Rattle.run_invariant.specs.Laws.Moves.{begin-map}
 use Rattle.replay_invariant.specs.Laws.Always.{judged-read, read-next}
-use Rattle.phases_text.specs.Line.Answers.{workerBy}
+use Rattle.phases_text.specs.Line.Terms.{workerBy}
 
 -- The worker that a record gives a phase to.
 thief : List ℕ → ℕ

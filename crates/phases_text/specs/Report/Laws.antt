@@ -4,7 +4,7 @@ use mathlib.Core.Path.{_≡_, ap, _∙_}
 use mathlib.Core.List.{List, [], _∷_, _++_, append-assoc}
 use Rattle.rules.specs.Program.{decimal, line, refusedLine}
 use Rattle.phases_text.specs.Number.Laws.Texts.{piece, snoc-append}
-use Rattle.phases_text.specs.Report.Answers.{refusalText}
+use Rattle.phases_text.specs.Report.Terms.{refusalText}
 
 line-two : (x y : ℕ) → piece x 32 ++ piece y 10 ≡ line (x ∷ y ∷ [])
 unfolding line

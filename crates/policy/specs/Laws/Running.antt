@@ -10,7 +10,7 @@ use Rattle.rules.specs.Tree.{kindAt, isEnd}
 use Rattle.rules.specs.Scheduling.{holds, pushes}
 use Rattle.tree.specs.declared.Step.{Step}
 use Rattle.policy.specs.declared.Running.the-variants.{Opens, Ends}
-use Rattle.policy.specs.Answers.{runningOf}
+use Rattle.policy.specs.Contract.{runningOf}
 
 module _ (p : ℕ) (ks : List ℕ) (i : ℕ) where
   pub running-past : length ks ≤ i → runningOf p ks i ≡ Ends

@@ -2,7 +2,7 @@
 use mathlib.Core.Path.{_≡_}
 use lib.ListN.{length}
 use borrow.Author.Needs.{needs}
-use Rattle.arguments.specs.Answers.{recordAdmitted}
+use Rattle.arguments.specs.Terms.{recordAdmitted}
 use Rattle.record.specs.Laws.Cases.{record-ready, ready-admitted}
 use Rattle.record.specs.Laws.Results.{given-refusal, some-steps, walk-answered}
 use Rattle.record.proofs.record.Statement.{statement}

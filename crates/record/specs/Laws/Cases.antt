@@ -11,9 +11,9 @@ use Rattle.rules.specs.Calls.{startVerdict, recordWalk, recordVerdict, recordOf
 use Rattle.tree.specs.declared.Accepted.{Accepted}
 use Rattle.tree.specs.Laws.Verdicts.{first-accepts}
 use Rattle.run_invariant.specs.Laws.Counts.{or-none}
-use Rattle.arguments.specs.Answers.{tooShort, recordAdmitted}
+use Rattle.arguments.specs.Terms.{tooShort, recordAdmitted}
 use Rattle.arguments.specs.Laws.Cases.{Given, given-last, given-refused, given}
-use Rattle.record.specs.Body.Answers.{Admitted}
+use Rattle.record.specs.Body.Terms.{Admitted}
 
 -- ---- the verdict
 

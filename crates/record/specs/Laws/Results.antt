@@ -15,12 +15,12 @@ use Rattle.tree.specs.declared.Accepted.{Accepted}
 use Rattle.tree_scan.specs.Laws.Starts.{start-tree-accepts}
 use Rattle.tree_scan.specs.Laws.Frames.{accepted-frame}
 use Rattle.record_walk.specs.declared.Ended.{Ended}
-use Rattle.arguments.specs.Answers.{recordAdmitted}
+use Rattle.arguments.specs.Terms.{recordAdmitted}
 use Rattle.arguments.specs.Laws.Cases.{given-steps}
-use Rattle.record.specs.Body.Answers.{Outcome}
+use Rattle.record.specs.Body.Terms.{Outcome}
 use Rattle.record.specs.declared.answer.Recorded.{Recorded}
-use Rattle.record.specs.Answer.Answers.{refusal, answered}
-use Rattle.record.specs.Answers.{answers}
+use Rattle.record.specs.Answer.Terms.{refusal, answered}
+use Rattle.record.specs.Contract.{answers}
 use Rattle.record.specs.Laws.Cases.{record-given, record-ready, record-event, record-all}
 
 -- What a return is to meet: the call's answers, and the lent buffers as it leaves them.

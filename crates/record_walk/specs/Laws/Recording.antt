@@ -21,7 +21,7 @@ use Rattle.tree.specs.Laws.Records.{length-records, field-at}
 use Rattle.tree.specs.Laws.Walks.{walk-on, walk-stop, walk-end}
 use Rattle.tree_scan.specs.Laws.Starts.{start-tree-accepts}
 use Rattle.tree_scan.specs.Laws.Frames.{Frame, accepted-frame}
-use Rattle.tree_tables.specs.Answers.{Ends, Sums, weightBefore}
+use Rattle.tree_tables.specs.Terms.{Ends, Sums, weightBefore}
 use Rattle.run_invariant.specs.Invariant.{Invariant}
 use Rattle.run_invariant.specs.Laws.Weights.{span}
 use Rattle.run_invariant.specs.Laws.Moves.{sum-one, ran as ranBy, run-is, begin-length, begin-robbed, enriched, steal-thief, victim-rich, first-within, second-within, run-held, event-runs, event-steals}
@@ -37,10 +37,10 @@ use Rattle.run_refinement.specs.Tie.{Shows, heldStep, told}
 use Rattle.run_refinement.specs.Follows.{number-traced}
 use Rattle.run_refinement.specs.Laws.Moves.{Known, held-some}
 use Rattle.run_refinement.specs.Laws.Events.{start-shows, event-tells, event-shows}
-use Rattle.buffers.specs.Answers.{recordPut}
-use Rattle.loads.specs.Answers.{loadMoved}
+use Rattle.buffers.specs.Terms.{recordPut}
+use Rattle.loads.specs.Terms.{loadMoved}
 use Rattle.buffers.specs.Laws.Records.{length-entries, entries-one, length-trace, trace-one, put-length, put-front}
-use Rattle.loads.specs.Answers.{Movable}
+use Rattle.loads.specs.Terms.{Movable}
 use Rattle.loads.specs.Laws.Loads.{partWeight, start-loads, Takes, begin-loads, begin-whole, begin-movable}
 
 -- The bytes stand at the front of an array.

@@ -8,17 +8,17 @@ use Rattle.rules.specs.Bytes.{accepted, Walked}
 use Rattle.rules.specs.Tree.{kinds, weights}
 use Rattle.rules.specs.Scheduling.{Run}
 use Rattle.rules.specs.Calls.{startVerdict}
-use Rattle.tree_tables.specs.Answers.{Ends, Sums, weightBefore}
+use Rattle.tree_tables.specs.Terms.{Ends, Sums, weightBefore}
 use Rattle.run_spec.specs.declared.TraceNumber.{TraceNumber}
 use Rattle.run_spec.specs.declared.Outcome.{Outcome}
 use Rattle.run_spec.specs.declared.Outcome.the-variants.{Ran, Stole, Refused}
 use Rattle.run_spec.specs.Numbers.{numberValue}
 use Rattle.run_spec.specs.Moves.{Fields, Move, fieldsOf, moveOf, fresh, eventMove}
-use Rattle.buffers.specs.Answers.{recordPut}
-use Rattle.loads.specs.Answers.{loadMoved}
+use Rattle.buffers.specs.Terms.{recordPut}
+use Rattle.loads.specs.Terms.{loadMoved}
 use Rattle.tree.specs.declared.Phase.{Phase}
 use Rattle.tree.specs.declared.Step.{Step}
-use Rattle.loads.specs.Answers.{weightBetween, Movable}
+use Rattle.loads.specs.Terms.{weightBetween, Movable}
 use Rattle.loads.specs.Laws.Loads.{part-between}
 use Rattle.tree_tables.specs.Laws.Fronts.{start-frame}
 use Rattle.record_walk.specs.Laws.Recording.{Recording, Walks, recording-start, recording-done, event-refused, ran-room, ran-next, stole-room, stole-weight, stole-next}

@@ -2,7 +2,7 @@
 use mathlib.Core.Path.{_≡_}
 use lib.ListN.{length}
 use borrow.Author.Needs.{needs}
-use Rattle.arguments.specs.Answers.{replayAdmitted}
+use Rattle.arguments.specs.Terms.{replayAdmitted}
 use Rattle.replay.specs.Laws.Cases.{replay-ready}
 use Rattle.replay.specs.Laws.Results.{given-refusal, walk-answered}
 use Rattle.replay.proofs.replay.Statement.{statement}

@@ -9,9 +9,9 @@ use Rattle.rules.specs.Tree.{kinds}
 use Rattle.rules.specs.Traces.{replayWalk}
 use Rattle.rules.specs.Calls.{replayVerdict, replayOf, replayRefused, replayCall}
 use Rattle.tree.specs.declared.Accepted.{Accepted}
-use Rattle.arguments.specs.Answers.{replayAdmitted}
+use Rattle.arguments.specs.Terms.{replayAdmitted}
 use Rattle.arguments.specs.Laws.Cases.{given-last, given-refused, given, given-steps}
-use Rattle.replay.specs.Body.Answers.{Admitted}
+use Rattle.replay.specs.Body.Terms.{Admitted}
 
 module _ (p : ℕ) (tree trace list : List ℕ) where
   -- The answer that a refusal makes.

@@ -12,11 +12,11 @@ use Rattle.rules.specs.Traces.{replayWalk, loads, heaviest}
 use Rattle.rules.specs.Calls.{replayOf, replayRefused, replayCall, Replayed as Call}
 use Rattle.tree.specs.declared.Accepted.{Accepted}
 use Rattle.replay_walk.specs.declared.Ended.{Ended}
-use Rattle.arguments.specs.Answers.{replayAdmitted}
-use Rattle.replay.specs.Body.Answers.{Outcome}
+use Rattle.arguments.specs.Terms.{replayAdmitted}
+use Rattle.replay.specs.Body.Terms.{Outcome}
 use Rattle.replay.specs.declared.answer.Replayed.{Replayed}
-use Rattle.replay.specs.Answer.Answers.{refusal, answered}
-use Rattle.replay.specs.Answers.{answers}
+use Rattle.replay.specs.Answer.Terms.{refusal, answered}
+use Rattle.replay.specs.Contract.{answers}
 use Rattle.replay.specs.Laws.Cases.{replay-given, record-refused, none-refused}
 
 -- What a return is to meet: the call's answers, and the lent list as it leaves it.

@@ -4,7 +4,7 @@ use Prim.Native.Nat.{_<_}
 use native.Mathlib.Omega.{arith}
 use lib.ListN.{length, getD}
 use borrow.Author.Needs.{needs}
-use Rattle.replay_labels.specs.Laws.Claims.{Claiming, claim-start, claim-room, claim-less, claim-turn, claim-end}
+use Rattle.replay_spec.specs.Laws.Claims.{Claiming, claim-start, claim-room, claim-less, claim-turn, claim-end}
 use Rattle.replay_labels.proofs.claim.Statement.{statement}
 use Rattle.replay_labels.proofs.claim.Tie as tie
 

@@ -1,6 +1,6 @@
 -- `labels::stays` meets its contract: an entry of the labels decides. Assumes nothing.
 use borrow.Author.Needs.{needs}
-use Rattle.replay_labels.specs.Laws.Dropping.{entry-free, entry-other}
+use Rattle.replay_spec.specs.Laws.Dropping.{entry-free, entry-other}
 use Rattle.replay_labels.proofs.stays.Statement.{statement}
 use Rattle.replay_labels.proofs.stays.Tie as tie
 

@@ -3,7 +3,7 @@ use Prim.Native.Nat.{_<_}
 use native.Mathlib.Omega.{arith}
 use lib.ListN.{length}
 use borrow.Author.Needs.{needs}
-use Rattle.replay_labels.specs.Laws.Claims.{free-past, take-labelled, take-claimed}
+use Rattle.replay_spec.specs.Laws.Claims.{free-past, take-labelled, take-claimed}
 use Rattle.replay_labels.proofs.take.Statement.{statement}
 use Rattle.replay_labels.proofs.take.Tie as tie
 

@@ -16,9 +16,9 @@ use Rattle.replay_invariant.specs.Invariant.{Split}
 use Rattle.replay_invariant.specs.Laws.Labels.{Labels}
 use Rattle.replay_invariant.specs.Laws.Order.{order-sum}
 use Rattle.replay_invariant.specs.Laws.Parts.{covered-sum}
-use Rattle.replay_list.specs.Phase.Answers.{phaseOrder, inPhase}
-use Rattle.replay_list.specs.Phase.Laws.Orders.{length-in-phase, order-labelled}
-use Rattle.replay_list.specs.Answers.{listed}
+use Rattle.replay_spec.specs.Orders.{phaseOrder, inPhase}
+use Rattle.replay_spec.specs.Laws.Orders.{length-in-phase, order-labelled}
+use Rattle.replay_list.specs.Terms.{listed}
 
 -- ---- lists of phases, by places
 

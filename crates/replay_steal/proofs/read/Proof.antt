@@ -8,10 +8,10 @@ use borrow.Author.Needs.{needs}
 use Rattle.rules.specs.Tree.{kinds}
 use Rattle.tree.specs.declared.Step.{Step}
 use Rattle.tree_scan.specs.Laws.Frames.{accepted-frame}
-use Rattle.replay_steal.specs.declared.number.Named.the-variants.{At}
-use Rattle.replay_steal.specs.Number.Answers.{namedOf, named}
-use Rattle.replay_steal.specs.Number.Laws.Naming.{named-within}
-use Rattle.replay_steal.specs.Laws.Claims.{table-upward, named-some, read-unnamed, read-elsewhere, read-there}
+use Rattle.replay_spec.specs.declared.Named.the-variants.{At}
+use Rattle.replay_spec.specs.Naming.{namedOf, named}
+use Rattle.replay_spec.specs.Laws.Naming.{named-within}
+use Rattle.replay_spec.specs.Laws.Taking.{table-upward, named-some, read-unnamed, read-elsewhere, read-there}
 use Rattle.replay_steal.proofs.read.Statement.{statement}
 use Rattle.replay_steal.proofs.read.Tie as tie
 

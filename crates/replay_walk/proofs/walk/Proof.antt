@@ -9,10 +9,10 @@ use borrow.Author.Needs.{needs}
 use Rattle.rules.specs.Tree.{kinds}
 use Rattle.tree_scan.specs.Laws.Starts.{start-tree-accepts}
 use Rattle.replay_invariant.specs.Laws.Labels.{free, labelOf}
-use Rattle.replay_steal.specs.Number.Answers.{named}
-use Rattle.replay_steal.specs.Answers.{Reading}
-use Rattle.loads.specs.Answers.{Movable}
-use Rattle.replay_steal.specs.Entry.Answers.{judgedWorkers, Entry}
+use Rattle.replay_spec.specs.Naming.{named}
+use Rattle.replay_spec.specs.Reading.{Reading}
+use Rattle.loads.specs.Terms.{Movable}
+use Rattle.replay_spec.specs.Entries.{judgedWorkers, Entry}
 use Rattle.replay_walk.specs.Laws.Retracing.{Retracing, Tables, tables-filled, label-room, retrace-start, retrace-end, retrace-judged}
 use Rattle.replay_walk.specs.Laws.Turns.{two-workers, read-ready, retrace-broken, begin-ready, part-movable, retrace-begun}
 use Rattle.replay_walk.proofs.walk.Statement.{statement}

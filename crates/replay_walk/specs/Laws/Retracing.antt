@@ -20,17 +20,17 @@ use Rattle.tree.specs.Laws.Walks.{walk-stop, walk-end}
 use Rattle.tree_scan.specs.Laws.Frames.{Frame, accepted-frame}
 use Rattle.tree_scan.specs.Laws.Places.{root-first}
 use Rattle.tree_scan.specs.Laws.Starts.{start-tree-accepts, admitted-policy}
-use Rattle.tree_tables.specs.Answers.{Ends, Openers, Sums, weightBefore}
+use Rattle.tree_tables.specs.Terms.{Ends, Openers, Sums, weightBefore}
 use Rattle.run_invariant.specs.Laws.Counts.{and-both}
 use Rattle.replay_invariant.specs.Invariant.{Split}
 use Rattle.replay_invariant.specs.Laws.Reads.{Based, based-fresh}
 use Rattle.replay_invariant.specs.Laws.Labels.{free, labelOf, Labels, first-labels}
 use Rattle.replay_invariant.specs.Laws.Always.{first-split}
 use Rattle.loads.specs.Laws.Loads.{start-loads}
-use Rattle.replay_steal.specs.Entry.Answers.{judgedWorkers, Entry}
-use Rattle.replay_steal.specs.Entry.Laws.Workers.{Latest, judged-stop}
+use Rattle.replay_spec.specs.Entries.{judgedWorkers, Entry}
+use Rattle.replay_spec.specs.Laws.Workers.{Latest, judged-stop}
 use Rattle.replay_walk.specs.declared.Ended.{Ended}
-use Rattle.replay_walk.specs.Answers.{Retraced}
+use Rattle.replay_walk.specs.Terms.{Retraced}
 use Rattle.replay_walk.specs.Laws.Begins.{based-at}
 
 pub record Retracing (p : ℕ) (tree trace : List ℕ) (k : ℕ) (labels firsts bases ordinals latest ls : List ℕ) : Type 0 where

@@ -25,18 +25,18 @@ use Rattle.replay_invariant.specs.Laws.Parts.{PartOf, part-inside, pushes-part}
 use Rattle.replay_invariant.specs.Laws.Reads.{allowed-taken}
 use Rattle.replay_invariant.specs.Laws.Labels.{free, labelOf, Climb, labelled, root-labelled, begin-labels}
 use Rattle.replay_invariant.specs.Laws.Always.{Read, latest-own, read-next, begin-split}
-use Rattle.replay_steal.specs.declared.number.Named.{Named}
-use Rattle.replay_steal.specs.declared.number.Named.the-variants.{At, Nothing}
-use Rattle.replay_steal.specs.Number.Answers.{named}
-use Rattle.replay_steal.specs.Answers.{Reading}
-use Rattle.replay_steal.specs.Laws.Reading.{opener-parts, read-allowed, read-broken}
-use Rattle.loads.specs.Answers.{loadMoved}
-use Rattle.loads.specs.Answers.{weightBetween, Movable}
+use Rattle.replay_spec.specs.declared.Named.{Named}
+use Rattle.replay_spec.specs.declared.Named.the-variants.{At, Nothing}
+use Rattle.replay_spec.specs.Naming.{named}
+use Rattle.replay_spec.specs.Reading.{Reading}
+use Rattle.replay_spec.specs.Laws.Reading.{opener-parts, read-allowed, read-broken}
+use Rattle.loads.specs.Terms.{loadMoved}
+use Rattle.loads.specs.Terms.{weightBetween, Movable}
 use Rattle.loads.specs.Laws.Loads.{Takes, part-between, begin-loads, begin-whole, begin-movable}
-use Rattle.replay_steal.specs.Entry.Answers.{judgedWorkers, Entry}
-use Rattle.replay_steal.specs.Entry.Laws.Workers.{fine-workers, latest-some, latest-next, judged-on}
+use Rattle.replay_spec.specs.Entries.{judgedWorkers, Entry}
+use Rattle.replay_spec.specs.Laws.Workers.{fine-workers, latest-some, latest-next, judged-on}
 use Rattle.replay_walk.specs.declared.Ended.{Ended}
-use Rattle.replay_walk.specs.Answers.{Retraced}
+use Rattle.replay_walk.specs.Terms.{Retraced}
 use Rattle.replay_walk.specs.Laws.Begins.{firsts-next, bases-within, bases-next}
 use Rattle.replay_walk.specs.Laws.Retracing.{Retracing, Tables, retrace-stopped}
 

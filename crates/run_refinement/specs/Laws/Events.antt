@@ -22,7 +22,7 @@ use Rattle.run_spec.specs.Stealing.{stealNumber}
 use Rattle.run_spec.specs.Moves.{Fields, fresh, refused, runMove, stealMove, eventMove}
 use Rattle.run_spec.specs.Idle.{isIdle, idleBits, idleNumber, idleFirst}
 use Rattle.run_state.specs.declared.RunState.{RunState}
-use Rattle.run_state.specs.Answers.{fields, stateOf, eventAnswer}
+use Rattle.run_state.specs.Contract.{fields, stateOf, eventAnswer}
 use Rattle.run_refinement.specs.Tie.{Shows, heldStep, told}
 use Rattle.run_refinement.specs.Laws.Ready.{start-ready}
 use Rattle.run_refinement.specs.Laws.Tables.{shows-by, start-table}

@@ -10,7 +10,7 @@ use lib.ListN.{length, getD}
 use Rattle.rules.specs.Tree.{kinds, taskEnd}
 use Rattle.rules.specs.Scheduling.{mostWorkers, Run, workerAt}
 use Rattle.tree_scan.specs.Laws.Frames.{Frame}
-use Rattle.tree_tables.specs.Answers.{Ends, Openers}
+use Rattle.tree_tables.specs.Terms.{Ends, Openers}
 use Rattle.run_spec.specs.Deques.{marked}
 use Rattle.run_spec.specs.Moves.{Fields, Hints}
 use Rattle.run_refinement.specs.Tie.{Shows}

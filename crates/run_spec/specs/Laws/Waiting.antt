@@ -15,7 +15,7 @@ use Rattle.rules.specs.Tree.{finishBefore}
 use Rattle.tree.specs.declared.Step.{Step}
 use Rattle.tree_scan.specs.declared.FinishChild.{FinishChild}
 use Rattle.tree_scan.specs.declared.FinishChild.the-variants.{From, Nothing}
-use Rattle.tree_scan.specs.Answers.{childOf}
+use Rattle.tree_scan.specs.Contract.{childOf}
 use Rattle.run_spec.specs.Laws.Marks.{count-low, count-none}
 use Rattle.run_spec.specs.Running.{allRun, waitsFor, WaitsAtLow}
 

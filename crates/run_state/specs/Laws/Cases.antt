@@ -6,7 +6,7 @@ use lib.Count.{ones, trailingZeros}
 use borrow.Author.Tests.{ne-eqb}
 use Rattle.rules.specs.Calls.{startVerdict}
 use Rattle.tree.specs.declared.Accepted.{Accepted}
-use Rattle.arguments.specs.Answers.{admission}
+use Rattle.arguments.specs.Terms.{admission}
 use Rattle.tree_scan.specs.Laws.Starts.{admitted-position}
 use Rattle.run_spec.specs.Moves.{Move, fresh, runMove, stealMove}
 use Rattle.run_spec.specs.Idle.{idleBits}
@@ -16,7 +16,7 @@ use Rattle.run_state.specs.declared.RunState.{RunState}
 use Rattle.run_state.specs.declared.Answer.{Answer}
 use Rattle.run_state.specs.declared.Started.{Started}
 use Rattle.run_state.specs.declared.Idle.{Idle}
-use Rattle.run_state.specs.Answers.{fields, stateOf, answerOf, zeros, startAnswer, runAnswer, stealAnswer, eventAnswer, idleAnswer}
+use Rattle.run_state.specs.Contract.{fields, stateOf, answerOf, zeros, startAnswer, runAnswer, stealAnswer, eventAnswer, idleAnswer}
 
 -- ---- events
 

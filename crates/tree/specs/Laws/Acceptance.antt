@@ -14,7 +14,7 @@ use borrow.Author.Tests.{eq-eqb, ne-eqb, le-leb, lt-leb}
 use Rattle.rules.specs.Bytes.{Verdict, accepted, Walked, walk, wholeRecords, refusedIf, firstRefused}
 use Rattle.rules.specs.Tree.{treeRecords, kind, isAsync, isFinish, isEnd, kinds, openAfter, wellFormed, judgeTreeRecord, nextOpen, treeWalk, wrongLength, treeVerdict}
 use Rattle.tree.specs.declared.Accepted.{Accepted}
-use Rattle.tree.specs.Answers.{acceptance}
+use Rattle.tree.specs.Contract.{acceptance}
 use Rattle.tree.specs.Laws.Records.{length-records, length-kinds, field-at}
 use Rattle.tree.specs.Laws.Walks.{walk-on, walk-stop, walk-end}
 

@@ -2,7 +2,7 @@
 use mathlib.Core.Path.{ap}
 use borrow.Author.Needs.{needs}
 use Rattle.tree_scan.specs.declared.Task.{Task}
-use Rattle.tree_scan.specs.Answers.{taskOf}
+use Rattle.tree_scan.specs.Contract.{taskOf}
 use Rattle.tree_scan.proofs.ordinal_of.Statement.{statement}
 use Rattle.tree_scan.proofs.ordinal_of.Tie as tie
 

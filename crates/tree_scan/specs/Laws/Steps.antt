@@ -7,7 +7,7 @@ use mathlib.Core.Option.{none, some}
 use borrow.Author.Tests.{ne-eqb}
 use Rattle.rules.specs.Tree.{kindAt, isFinish, isEnd, task, finishChild, finishBefore}
 use Rattle.tree_scan.specs.declared.FinishChild.the-variants.{From, Nothing}
-use Rattle.tree_scan.specs.Answers.{childOf}
+use Rattle.tree_scan.specs.Contract.{childOf}
 
 -- ---- the finish child before a step
 

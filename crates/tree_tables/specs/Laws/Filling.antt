@@ -16,7 +16,7 @@ use Rattle.tree.specs.Laws.Counts.{count-snoc}
 use Rattle.tree_scan.specs.Laws.Shape.{after, Shape, child-inside, after-end, nested}
 use Rattle.tree_scan.specs.Laws.Frames.{endAt, sizeAt, cont-after}
 use Rattle.tree_scan.specs.Laws.Places.{Part, last-step, finish-child, finish-cont, part}
-use Rattle.tree_tables.specs.Answers.{Ends, Opener, Openers, weightBefore, Sums}
+use Rattle.tree_tables.specs.Terms.{Ends, Opener, Openers, weightBefore, Sums}
 
 -- What is read after a store: what was stored there, or what stood there.
 stored : (P : ℕ → Type 0) (l : List ℕ) (j v i : ℕ) → j < length l → (i ≡ j → P v) → ((i ≡ j → ⊥) → P (getD l i 0))

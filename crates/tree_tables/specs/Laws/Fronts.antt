@@ -8,7 +8,7 @@ use lib.Seq.{getD-take, length-take-le}
 use Rattle.rules.specs.Calls.{startVerdict}
 use Rattle.tree_scan.specs.Laws.Starts.{start-tree-accepts}
 use Rattle.tree_scan.specs.Laws.Frames.{Frame, accepted-frame}
-use Rattle.tree_tables.specs.Answers.{Ends, Openers}
+use Rattle.tree_tables.specs.Terms.{Ends, Openers}
 
 -- The tree of an accepted start.
 pub start-frame : (p : ℕ) (tree : List ℕ) → startVerdict p tree .number ≡ 0 → Frame tree

@@ -9,9 +9,9 @@ use lib.ListN.{getD}
 use borrow.Author.Tests.{ne-eqb}
 use Rattle.rules.specs.Tree.{kindAt, isEnd, isFinish, cont, finishBefore}
 use Rattle.tree_scan.specs.declared.FinishChild.the-variants.{From, Nothing}
-use Rattle.tree_scan.specs.Answers.{childOf}
+use Rattle.tree_scan.specs.Contract.{childOf}
 use Rattle.tree_scan.specs.Laws.Steps.{child-none, child-some}
-use Rattle.tree_tables.specs.Answers.{Ends, Opener}
+use Rattle.tree_tables.specs.Terms.{Ends, Opener}
 use Rattle.tree_tables.specs.Laws.Filling.{cont-at}
 
 -- The continuation is the end of the child's task.

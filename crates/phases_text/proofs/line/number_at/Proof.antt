@@ -3,7 +3,7 @@ use Prim.Native.Nat.{_+_}
 use mathlib.Core.Path.{refl}
 use native.Mathlib.Omega.{arith}
 use borrow.Author.Needs.{needs}
-use Rattle.phases_text.specs.Line.Answers.{numberAt}
+use Rattle.phases_text.specs.Line.Terms.{numberAt}
 use Rattle.phases_text.proofs.line.number_at.Statement.{statement}
 use Rattle.phases_text.proofs.line.number_at.Tie as tie
 

@@ -4,7 +4,7 @@ use Prim.Native.Nat.{_+_, _-_, _≤_}
 use mathlib.Core.Path.{_≡_, ap}
 use native.Mathlib.Omega.{arith}
 use borrow.Author.Needs.{needs}
-use Rattle.phases_text.specs.Line.Answers.{linesOf}
+use Rattle.phases_text.specs.Line.Terms.{linesOf}
 use Rattle.buffers.specs.Laws.Fronts.{withPart, front-length, front-within, front-room}
 use Rattle.phases_text.specs.Number.Laws.Texts.{front-is}
 use Rattle.phases_text.specs.Line.Laws.Lines.{Listing, listing-start, listing-few, listing-turn}

@@ -3,7 +3,7 @@
 use Prim.Native.Nat.{_-_, _*_}
 use native.Mathlib.Omega.{arith}
 use borrow.Author.Needs.{needs}
-use Rattle.phases_text.specs.Line.Answers.{workerBy}
+use Rattle.phases_text.specs.Line.Terms.{workerBy}
 use Rattle.phases_text.specs.Line.Laws.Lines.{worker-later}
 use Rattle.phases_text.proofs.line.worker_of.Statement.{statement}
 use Rattle.phases_text.proofs.line.worker_of.Tie as tie

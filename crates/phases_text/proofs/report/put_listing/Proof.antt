@@ -5,7 +5,7 @@ use mathlib.Core.List.{_++_}
 use native.Mathlib.Omega.{arith}
 use borrow.Author.Needs.{needs}
 use Rattle.rules.specs.Program.{heading}
-use Rattle.phases_text.specs.Line.Answers.{linesOf}
+use Rattle.phases_text.specs.Line.Terms.{linesOf}
 use Rattle.phases_text.specs.Line.Laws.Lines.{lines-most}
 use Rattle.buffers.specs.Laws.Fronts.{withPart, Front, front-first, front-next}
 use Rattle.phases_text.specs.Number.Laws.Texts.{front-is}

@@ -3,7 +3,7 @@ use mathlib.Core.Path.{refl, _∙_}
 use lib.Dec.{ltb}
 use borrow.Author.Needs.{needs}
 use borrow.Author.Tests.{eq-eqb, ne-eqb}
-use Rattle.record.specs.Answer.Answers.{answered}
+use Rattle.record.specs.Answer.Terms.{answered}
 use Rattle.record.proofs.answer.answer.Statement.{statement}
 use Rattle.record.proofs.answer.answer.Tie as tie
 

@@ -1,6 +1,6 @@
 -- `recorded::refused` meets its contract: it is written out. Assumes nothing.
 use mathlib.Core.Path.{refl}
-use Rattle.record.specs.Answer.Answers.{refusal}
+use Rattle.record.specs.Answer.Terms.{refusal}
 use Rattle.record.proofs.answer.refused.Statement.{statement}
 use Rattle.record.proofs.answer.refused.Tie as tie
 

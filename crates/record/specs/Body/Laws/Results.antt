@@ -20,7 +20,7 @@ use Rattle.run_invariant.specs.Laws.Consequences.{runs-most, steals-most, finis
 use Rattle.buffers.specs.Laws.Records.{length-entries, length-trace}
 use Rattle.record_walk.specs.declared.Ended.{Ended}
 use Rattle.record_walk.specs.Laws.Recording.{Recording, recording-done, Walks}
-use Rattle.record.specs.Body.Answers.{Admitted, Told, Outcome}
+use Rattle.record.specs.Body.Terms.{Admitted, Told, Outcome}
 
 module _ {p : ℕ} {tree events log trace : List ℕ} {w : Ended} {own-log own-trace : List ℕ}
     (ready : Admitted p tree log trace) (walks : Walks p tree events w own-log own-trace) where

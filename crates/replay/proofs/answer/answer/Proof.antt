@@ -2,7 +2,7 @@
 use mathlib.Core.Path.{refl, _∙_}
 use borrow.Author.Needs.{needs}
 use borrow.Author.Tests.{eq-eqb, ne-eqb}
-use Rattle.replay.specs.Answer.Answers.{answered}
+use Rattle.replay.specs.Answer.Terms.{answered}
 use Rattle.replay.proofs.answer.answer.Statement.{statement}
 use Rattle.replay.proofs.answer.answer.Tie as tie
 

@@ -1,6 +1,6 @@
 -- `replayed::refused` meets its contract: it is written out. Assumes nothing.
 use mathlib.Core.Path.{refl}
-use Rattle.replay.specs.Answer.Answers.{refusal}
+use Rattle.replay.specs.Answer.Terms.{refusal}
 use Rattle.replay.proofs.answer.refused.Statement.{statement}
 use Rattle.replay.proofs.answer.refused.Tie as tie
 

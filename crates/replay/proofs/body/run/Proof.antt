@@ -8,9 +8,9 @@ use lib.Seq.{length-take-le, take-at}
 use borrow.Author.Needs.{needs}
 use Rattle.rules.specs.Tree.{kinds}
 use Rattle.tree_scan.specs.Laws.Starts.{start-tree-accepts}
-use Rattle.tree_tables.specs.Answers.{Ends}
+use Rattle.tree_tables.specs.Terms.{Ends}
 use Rattle.tree_tables.specs.Laws.Fronts.{start-frame, ends-prefix, openers-prefix}
-use Rattle.replay_walk.specs.Answers.{Retraced}
+use Rattle.replay_walk.specs.Terms.{Retraced}
 use Rattle.replay.specs.Body.Laws.Results.{take-replicate, front-room, front-length, lost-outcome, done-asked, done-outcome}
 use Rattle.replay.proofs.body.run.Statement.{statement}
 use Rattle.replay.proofs.body.run.Tie as tie

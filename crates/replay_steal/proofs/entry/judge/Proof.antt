@@ -1,7 +1,7 @@
 -- `entries::judge` meets its contract: a law for each return. Assumes nothing.
 use native.Mathlib.Omega.{arith}
 use borrow.Author.Needs.{needs}
-use Rattle.replay_steal.specs.Entry.Laws.Workers.{thief-refused, victim-refused, same-refused, unseen-refused, none-refused}
+use Rattle.replay_spec.specs.Laws.Workers.{thief-refused, victim-refused, same-refused, unseen-refused, none-refused}
 use Rattle.replay_steal.proofs.entry.judge.Statement.{statement}
 use Rattle.replay_steal.proofs.entry.judge.Tie as tie
 

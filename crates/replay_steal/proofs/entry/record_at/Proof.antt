@@ -1,6 +1,6 @@
 -- `entries::record_at` meets its contract: the four bytes of record k are read. Assumes nothing.
 use borrow.Author.Needs.{needs}
-use Rattle.replay_steal.specs.Entry.Laws.Records.{entry-bytes}
+use Rattle.replay_spec.specs.Laws.Entries.{entry-bytes}
 use Rattle.replay_steal.proofs.entry.record_at.Statement.{statement}
 use Rattle.replay_steal.proofs.entry.record_at.Tie as tie
 

@@ -3,7 +3,7 @@ use mathlib.Core.Path.{sym, _∙_}
 use native.Mathlib.Omega.{arith}
 use borrow.Author.Needs.{needs}
 use Rattle.rules.specs.Tree.{kinds}
-use Rattle.replay_steal.specs.Number.Laws.Naming.{pushable-first, pushable-async, pushable-finish, pushable-none}
+use Rattle.replay_spec.specs.Laws.Naming.{pushable-first, pushable-async, pushable-finish, pushable-none}
 use Rattle.replay_steal.proofs.number.async_or_after_finish.Statement.{statement}
 use Rattle.replay_steal.proofs.number.async_or_after_finish.Tie as tie
 

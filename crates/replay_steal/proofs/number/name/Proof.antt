@@ -2,7 +2,7 @@
 use native.Mathlib.Omega.{arith}
 use borrow.Author.Needs.{needs}
 use Rattle.rules.specs.Tree.{kinds}
-use Rattle.replay_steal.specs.Number.Laws.Naming.{name-own, name-hopped, name-past, name-other, name-itself}
+use Rattle.replay_spec.specs.Laws.Naming.{name-own, name-hopped, name-past, name-other, name-itself}
 use Rattle.replay_steal.proofs.number.name.Statement.{statement}
 use Rattle.replay_steal.proofs.number.name.Tie as tie
 

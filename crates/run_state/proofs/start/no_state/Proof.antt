@@ -1,6 +1,6 @@
 -- `starts::no_state` meets its contract: it is written out. Assumes nothing.
 use mathlib.Core.Path.{refl}
-use Rattle.run_state.specs.Answers.{zeros}
+use Rattle.run_state.specs.Contract.{zeros}
 use Rattle.run_state.proofs.start.no_state.Statement.{statement}
 use Rattle.run_state.proofs.start.no_state.Tie as tie
 

@@ -4,7 +4,7 @@ use mathlib.Core.Path.{sym, _∙_}
 use native.Mathlib.Omega.{arith}
 use Rattle.rules.specs.Tree.{kinds}
 use Rattle.tree_scan.specs.Laws.Steps.{child-none, finish-first, finish-open}
-use Rattle.tree_tables.specs.Answers.{Opener}
+use Rattle.tree_tables.specs.Terms.{Opener}
 use Rattle.tree_tables.specs.Laws.Lookup.{finish-other, finish-opened}
 use borrow.Author.Needs.{needs}
 use Rattle.tree_tables.proofs.lookup.finish_by.Statement.{statement}

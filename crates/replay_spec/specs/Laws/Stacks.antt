@@ -1,0 +1,237 @@
+-- What the loop that writes one phase holds: the phase has run alone so far, the stack has what is pending behind the step that
+-- is run next, and the records so far stand at the front of the phase's part of the list. One law for the start, for each kind
+-- of turn, and for the end.
+use Prim.Native.Nat.{ℕ, _+_, _-_, _*_, _/_, _%_, _≤_, _<_}
+use mathlib.Core.Path.{_≡_, refl, sym, _∙_}
+use mathlib.Core.Bool.{true, false, not}
+use mathlib.Core.List.{List, [], _∷_, _++_, map-append, flatten}
+use native.Mathlib.Omega.{arith}
+use lib.ListN.{length, take, drop, getD, set, length-append, length-set}
+use lib.Seq.{getD-set-same, getD-set-other, sets-eq, take-append-seam, drop-append-add, drop-drop}
+use borrow.Author.Tests.{eq-eqb, ne-eqb}
+use Rattle.rules.specs.Bytes.{twoBytes}
+use Rattle.rules.specs.Tree.{kinds, kindAt, isEnd, treeVerdict}
+use Rattle.rules.specs.Scheduling.{holds, pushes, Phase, phaseAt}
+use Rattle.rules.specs.Traces.{covers, entryBytes}
+use Rattle.rules.specs.Calls.{written}
+use Rattle.tree_scan.specs.Laws.Frames.{Frame, accepted-frame}
+use Rattle.run_invariant.specs.Laws.Counts.{has-head}
+use Rattle.run_invariant.specs.Laws.Weights.{pushed-within}
+use Rattle.replay_invariant.specs.Invariant.{Cut}
+use Rattle.replay_invariant.specs.Laws.Order.{Alone, alone-start, alone-end, alone-drops, alone-keeps, alone-done, alone-within}
+use Rattle.buffers.specs.Terms.{recordPut}
+use Rattle.buffers.specs.Laws.Records.{length-entries, entries-one, put-sets}
+use Rattle.buffers.specs.Laws.Fronts.{length-written}
+use Rattle.replay_spec.specs.Labels.{dropped}
+use Rattle.replay_spec.specs.Orders.{phaseOrder, inPhase, Writable}
+use Rattle.replay_spec.specs.Laws.Orders.{length-in-phase, stays-covered, order-labelled}
+
+-- The stack has the steps of a deque at its front, the newest last.
+abbrev pub Stacked : List ℕ → List ℕ → Type 0
+Stacked stack [] = Unit {0}
+Stacked stack (x ∷ deque) = (getD stack (length deque) 0 ≡ x) × Stacked stack deque
+
+pub record Writing (p : ℕ) (tree labels : List ℕ) (k first : ℕ) (before stack list : List ℕ) (i depth count : ℕ) : Type 0 where
+  pub from : Writable p (kinds tree) labels k first (length before)
+  pub log : List ℕ
+  pub deque : List ℕ
+  pub alone : Alone p (kinds tree) (phaseAt (from .phs) k) log (i ∷ deque)
+  pub counted : count ≡ length log
+  pub deep : depth ≡ length deque
+  pub room : length stack ≡ 2047
+  pub stacked : Stacked stack deque
+  pub filled : list ≡ written (entryBytes (inPhase k log)) before
+
+-- ---- the stack
+
+-- What is stored above the steps leaves them.
+stacked-above : (deque stack : List ℕ) (j x : ℕ) → length deque ≤ j → Stacked stack deque → Stacked (set stack j x) deque
+stacked-above [] stack j x h s = tt
+stacked-above (y ∷ deque) stack j x h s =
+    (getD-set-other stack j (length deque) x 0 (omega arith) ∙ s .0, stacked-above deque stack j x (omega arith) (s .1))
+
+stacked-push : (deque stack : List ℕ) (x : ℕ) → length deque < length stack → Stacked stack deque
+    → Stacked (set stack (length deque) x) (x ∷ deque)
+stacked-push deque stack x h s =
+    (getD-set-same stack (length deque) x 0 h, stacked-above deque stack (length deque) x (omega arith) s)
+
+-- ---- the records
+
+module _ (bytes before : List ℕ) where
+  -- A record goes behind some bytes.
+  put-written : (k a b n : ℕ) → length bytes ≡ 4 * k → 4 * k + 4 ≤ length before
+      → recordPut (written bytes before) k a b n ≡ written (bytes ++ (a ∷ b ∷ twoBytes n)) before
+  unfolding written twoBytes
+  put-written k a b n e room =
+      let record-bytes : List ℕ = a ∷ b ∷ twoBytes n in
+      let old = written bytes before in
+      let front : take (4 * k) old ≡ bytes = rw (← e) (take-append-seam bytes (drop (length bytes) before)) in
+      let rest : drop (4 * k + 4) old ≡ drop (length (bytes ++ record-bytes)) before =
+      rw (← e, length-append, drop-append-add) (drop-drop 4 (length bytes) before) in
+      put-sets old k a b n
+      ∙ sets-eq record-bytes old (4 * k) (omega (arith, length-written bytes before (omega arith)))
+      ∙ rw (front, rest) refl
+
+steps-one : (k : ℕ) (log : List ℕ) (i : ℕ) → inPhase k (log ++ (i ∷ [])) ≡ inPhase k log ++ (record { phase = k; step = i } ∷ [])
+unfolding inPhase
+steps-one k log i = map-append (λ x. record { phase = k; step = x }) log (i ∷ [])
+
+-- ---- the loop
+
+module _ (p : ℕ) (tree labels : List ℕ) (accepts : treeVerdict tree .number ≡ 0) (k first : ℕ) (before : List ℕ) where
+  frame : Frame tree
+  frame = accepted-frame tree accepts
+
+  cut : (w : Writable p (kinds tree) labels k first (length before)) → Cut p (kinds tree) (phaseAt (w .phs) k)
+  cut w = w .split .cuts k (w .begun)
+
+  pub writing-start : Writable p (kinds tree) labels k first (length before) → (stack : List ℕ) → length stack ≡ 2047
+      → Writing p tree labels k first before stack before first 0 0
+  unfolding entryBytes inPhase written flatten
+  writing-start w stack room =
+      record {
+        from = w;
+        log = [];
+        deque = [];
+        alone = rw (← w .from) (alone-start p (kinds tree) (frame .shape) (phaseAt (w .phs) k) (cut w));
+        counted = refl;
+        deep = refl;
+        room = room;
+        stacked = tt;
+        filled = refl;
+      }
+
+  module _ (stack list : List ℕ) (i depth count : ℕ) (so : Writing p tree labels k first before stack list i depth count) where
+    abbrev ph : Phase
+    ph = phaseAt (so .from .phs) k
+
+    abbrev ran : List ℕ
+    ran = so .log ++ (i ∷ [])
+
+    size : length (entryBytes (inPhase k (so .log))) ≡ 4 * count
+    size = rw (length-entries, length-in-phase, so .counted) refl
+
+    -- The step is one of the tree, its record has room, and the stack is not overfull.
+    pub record-fits : (i < length (kinds tree)) × (4 * count + 4 ≤ length before) × (length list ≡ length before) × (depth ≤ 2047)
+    record-fits =
+        let within = alone-within p (kinds tree) (frame .shape) ph (cut (so .from)) (so .log) i (so .deque) (so .alone) in
+        let room : 4 * count + 4 ≤ length before = omega (arith, within .1, so .from .fits, so .counted) in (
+          within .0,
+          room,
+          rw (so .filled) (length-written (entryBytes (inPhase k (so .log))) before (omega (arith, size))),
+          omega (arith, within .2, so .deep, frame .most),
+        )
+
+    module _ (next : List ℕ) (put : next ≡ recordPut list count (k % 256) (k / 256 % 256) i) where
+      filled : next ≡ written (entryBytes (inPhase k ran)) before
+      filled =
+          rw (put, so .filled, steps-one, entries-one)
+          (put-written (entryBytes (inPhase k (so .log))) before count (k % 256) (k / 256 % 256) i size (record-fits .1))
+
+      counted : count + 1 ≡ length ran
+      counted = omega (arith, length-append (so .log) (i ∷ []), so .counted)
+
+      -- What is common to the turns that go on.
+      goes-on : (stack : List ℕ) (x : ℕ) (deque : List ℕ) → Alone p (kinds tree) ph ran (x ∷ deque) → length stack ≡ 2047
+          → Stacked stack deque → (depth : ℕ) → depth ≡ length deque
+          → Writing p tree labels k first before stack next x depth (count + 1)
+      goes-on stack x deque alone room stacked depth deep =
+          record {
+            from = so .from;
+            log = ran;
+            deque = deque;
+            alone = alone;
+            counted = counted;
+            deep = deep;
+            room = room;
+            stacked = stacked;
+            filled = filled;
+          }
+
+      -- The step is an end.
+      module _ (end : kindAt (kinds tree) i ≡ 3) where
+        ended : Alone p (kinds tree) ph ran (so .deque)
+        unfolding isEnd
+        ended =
+            alone-end p (kinds tree) (frame .shape) ph (cut (so .from)) (so .log) i (so .deque) (so .alone)
+            (eq-eqb (kindAt (kinds tree) i) 3 end)
+
+        whole : (d : List ℕ) → length d ≡ 0 → Alone p (kinds tree) ph ran d → ran ≡ phaseOrder p (kinds tree) labels k first
+        whole [] e a =
+            let order =
+            order-labelled p (kinds tree) (frame .some) (frame .shape) (so .from .phs) (so .from .split) labels (so .from .shown)
+            k (so .from .begun) in
+            rw (← so .from .from) (alone-done p (kinds tree) (frame .shape) ph (cut (so .from)) ran a ∙ sym order)
+        whole (x ∷ d) e a = absurd (omega arith)
+
+        -- Nothing is pending: that was all.
+        pub phase-done : depth ≡ 0 → (count + 1 ≡ length (phaseOrder p (kinds tree) labels k first))
+            × (next ≡ written (entryBytes (inPhase k (phaseOrder p (kinds tree) labels k first))) before)
+        phase-done e =
+            let all = whole (so .deque) (sym (so .deep) ∙ e) ended in
+            rw (← all) (counted, filled)
+
+        popped : (d : List ℕ) → Alone p (kinds tree) ph ran d → Stacked stack d → depth ≡ length d → (depth ≡ 0 → ⊥)
+            → Writing p tree labels k first before stack next (getD stack (depth - 1) 0) (depth - 1) (count + 1)
+        popped [] a s e n = absurd (n e)
+        popped (x ∷ d) a s e n =
+            let less : depth - 1 ≡ length d = omega arith in
+            rw (less, s .0) (goes-on stack x d a (so .room) (s .1) (length d) refl)
+
+        -- The newest step of the stack is run next.
+        pub step-popped : (depth ≡ 0 → ⊥)
+            → Writing p tree labels k first before stack next (getD stack (depth - 1) 0) (depth - 1) (count + 1)
+        step-popped n = popped (so .deque) ended (so .stacked) (so .deep) n
+
+      -- The step opens a task.
+      module _ (opens : kindAt (kinds tree) i ≡ 3 → ⊥) (held pushed : ℕ) (holding : held ≡ holds p (kinds tree) i)
+          (pushing : pushed ≡ pushes p (kinds tree) i) where
+        opening : isEnd (kindAt (kinds tree) i) ≡ false
+        unfolding isEnd
+        opening = ne-eqb (kindAt (kinds tree) i) 3 opens
+
+        stays : covers (kinds tree) ph (pushes p (kinds tree) i) ≡ not (dropped labels k pushed)
+        stays =
+            rw pushing (stays-covered p (kinds tree) (frame .some) (frame .shape) (so .from .phs) (so .from .split) labels
+            (so .from .shown) k i (so .from .begun) (so .alone .covered i (has-head i (so .deque))) opening)
+
+        -- What it pushes was stolen.
+        pub step-dropped : not (dropped labels k pushed) ≡ false
+            → Writing p tree labels k first before stack next held depth (count + 1)
+        step-dropped gone =
+            rw holding (goes-on stack (holds p (kinds tree) i) (so .deque)
+            (alone-drops p (kinds tree) (frame .shape) ph (cut (so .from)) (so .log) i (so .deque) (so .alone) opening
+            (stays ∙ gone))
+            (so .room) (so .stacked) depth (so .deep))
+
+        -- What it pushes stays with it.
+        module _ (kept : not (dropped labels k pushed) ≡ true) where
+          pending : Alone p (kinds tree) ph ran (holds p (kinds tree) i ∷ pushed ∷ so .deque)
+          pending =
+              rw pushing (alone-keeps p (kinds tree) (frame .shape) ph (cut (so .from)) (so .log) i (so .deque) (so .alone)
+              opening (stays ∙ kept))
+
+          pub push-fits : depth < 2047
+          push-fits =
+              let within =
+              alone-within p (kinds tree) (frame .shape) ph (cut (so .from)) ran (holds p (kinds tree) i)
+              (pushed ∷ so .deque) pending in
+              omega (arith, within .2, so .deep, frame .most)
+
+          pub step-pushed : Writing p tree labels k first before (set stack depth pushed) next held (depth + 1) (count + 1)
+          step-pushed =
+              rw holding (goes-on (set stack depth pushed) (holds p (kinds tree) i) (pushed ∷ so .deque) pending
+              (length-set stack depth pushed ∙ so .room)
+              (rw (so .deep) (stacked-push (so .deque) stack pushed (omega (arith, push-fits, so .room, so .deep)) (so .stacked)))
+              (depth + 1) (omega (arith, so .deep)))
+
+  -- What an opening step pushes is a step of the tree.
+  pub pushed-inside : (i : ℕ) → i < length (kinds tree) → (kindAt (kinds tree) i ≡ 3 → ⊥)
+      → (pushed : ℕ) → pushed ≡ pushes p (kinds tree) i → (pushed < length (kinds tree)) × (pushed < 4095)
+  unfolding isEnd
+  pushed-inside i h n pushed e =
+      omega (
+        arith,
+        pushed-within (kinds tree) (frame .shape) p pushed (i, h, ne-eqb (kindAt (kinds tree) i) 3 n, e),
+        frame .most,
+      )

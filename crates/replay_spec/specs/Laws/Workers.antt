@@ -1,0 +1,136 @@
+-- What `judge` answers by the table of the workers' latest phases, and that it is what the rules say of a record before they
+-- look at its number.
+use Prim.Native.Nat.{ℕ, _≤_, _<_}
+use mathlib.Core.Path.{_≡_, refl, sym}
+use mathlib.Core.Bool.{Bool, true, false, cond, _||_, or-true}
+use mathlib.Core.List.{List}
+use mathlib.Core.Option.{Option, none, some}
+use native.Mathlib.Decide.{ℕ-discrete}
+use native.Mathlib.Omega.{arith}
+use lib.ListN.{length, getD, set}
+use lib.Seq.{getD-set-same, getD-set-other}
+use lib.Dec.{eqb, leb}
+use borrow.Author.Tests.{leb-false, eqb-true, eqb-false, le-leb, lt-leb, eq-eqb, ne-eqb}
+use Rattle.rules.specs.Scheduling.{mostWorkers, Phase, phaseAt, begin}
+use Rattle.rules.specs.Traces.{latestPhase, numberAllowed, recordNumber, judgeRead, judgeTraceRecord}
+use Rattle.run_invariant.specs.Laws.Counts.{or-none}
+use Rattle.replay_invariant.specs.Laws.Always.{latest-own, latest-begin}
+use Rattle.replay_spec.specs.Entries.{judgedWorkers}
+
+-- A worker's latest phase, by the table.
+abbrev pub LatestShown : Option ℕ → ℕ → Type 0
+LatestShown none x = x ≡ 65535
+LatestShown (some k) x = x ≡ k
+
+-- The table shows all workers' latest phases.
+abbrev pub Latest : List Phase → List ℕ → Type 0
+Latest phs latest = (w : ℕ) → w < mostWorkers → LatestShown (latestPhase w 0 phs) (getD latest w 0)
+
+-- ---- each answer
+
+module _ (latest : List ℕ) (thief victim : ℕ) where
+  pub thief-refused : 15 < thief → 8 ≡ judgedWorkers latest thief victim
+  unfolding judgedWorkers
+  thief-refused h = rw (le-leb 16 thief (omega arith)) refl
+
+  pub victim-refused : 15 < victim → 8 ≡ judgedWorkers latest thief victim
+  unfolding judgedWorkers
+  victim-refused h = rw (le-leb 16 victim (omega arith), or-true (leb 16 thief)) refl
+
+  module _ (t : thief ≤ 15) (v : victim ≤ 15) where
+    pub same-refused : thief ≡ victim → 13 ≡ judgedWorkers latest thief victim
+    unfolding judgedWorkers
+    same-refused e = rw (lt-leb 16 thief (omega arith), lt-leb 16 victim (omega arith), eq-eqb thief victim e) refl
+
+    -- Two workers: the table decides.
+    by-table : (thief ≡ victim → ⊥) → judgedWorkers latest thief victim ≡ cond (eqb (getD latest victim 0) 65535) 14 0
+    unfolding judgedWorkers
+    by-table n = rw (lt-leb 16 thief (omega arith), lt-leb 16 victim (omega arith), ne-eqb thief victim n) refl
+
+    pub unseen-refused : (thief ≡ victim → ⊥) → getD latest victim 0 ≡ 65535 → 14 ≡ judgedWorkers latest thief victim
+    unseen-refused n e = rw (by-table n, eq-eqb (getD latest victim 0) 65535 e) refl
+
+    pub none-refused : (thief ≡ victim → ⊥) → (getD latest victim 0 ≡ 65535 → ⊥) → 0 ≡ judgedWorkers latest thief victim
+    none-refused n m = rw (by-table n, ne-eqb (getD latest victim 0) 65535 m) refl
+
+-- ---- what no refusal says
+
+refused-none : (out many same unseen : Bool) → _≡_ {A = ℕ} (cond (out || many) 8 (cond same 13 (cond unseen 14 0))) 0
+    → (out ≡ false) × (many ≡ false) × (same ≡ false) × (unseen ≡ false)
+refused-none true many same unseen e = absurd (omega arith)
+refused-none false true same unseen e = absurd (omega arith)
+refused-none false false true unseen e = absurd (omega arith)
+refused-none false false false true e = absurd (omega arith)
+refused-none false false false false e = (refl, refl, refl, refl)
+
+pub fine-workers : (latest : List ℕ) (thief victim : ℕ) → judgedWorkers latest thief victim ≡ 0
+    → (thief < mostWorkers) × (victim < mostWorkers) × (thief ≡ victim → ⊥) × (getD latest victim 0 ≡ 65535 → ⊥)
+unfolding judgedWorkers
+fine-workers latest thief victim e =
+    let by = refused-none (leb 16 thief) (leb 16 victim) (eqb thief victim) (eqb (getD latest victim 0) 65535) e in (
+      leb-false 16 thief (by .0),
+      leb-false 16 victim (by .1),
+      eqb-false thief victim (by .2),
+      eqb-false (getD latest victim 0) 65535 (by .3),
+    )
+
+-- ---- the rules
+
+-- A refusal by the workers is decided before the number, which is `rest`.
+refused-first : (out same unseen : Bool) (rest : ℕ) → (out ≡ false → unseen ≡ true → rest ≡ 14)
+    → (_≡_ {A = ℕ} (cond out 8 (cond same 13 (cond unseen 14 0))) 0 → ⊥)
+    → _≡_ {A = ℕ} (cond out 8 (cond same 13 rest)) (cond out 8 (cond same 13 (cond unseen 14 0)))
+refused-first true same unseen rest f n = refl
+refused-first false true unseen rest f n = refl
+refused-first false false true rest f n = f refl refl
+refused-first false false false rest f n = absurd (n refl)
+
+module _ (phs : List Phase) (latest : List ℕ) (shown : Latest phs latest) where
+  -- A worker's latest phase, where the table has one.
+  pub latest-some : (w : ℕ) → w < mostWorkers → (getD latest w 0 ≡ 65535 → ⊥) → latestPhase w 0 phs ≡ some (getD latest w 0)
+  latest-some w h n = by (latestPhase w 0 phs) refl (shown w h)
+    where
+      by : (o : Option ℕ) → latestPhase w 0 phs ≡ o → LatestShown o (getD latest w 0)
+          → latestPhase w 0 phs ≡ some (getD latest w 0)
+      by none e x = absurd (n x)
+      by (some k) e x = rw x e
+
+  -- Where it has none, there is none.
+  latest-none : length phs ≤ 65535 → (w : ℕ) → w < mostWorkers → getD latest w 0 ≡ 65535 → latestPhase w 0 phs ≡ none
+  latest-none few w h f = by (latestPhase w 0 phs) refl (shown w h)
+    where
+      by : (o : Option ℕ) → latestPhase w 0 phs ≡ o → LatestShown o (getD latest w 0) → latestPhase w 0 phs ≡ none
+      by none e x = e
+      by (some k) e x = absurd (omega (arith, latest-own w phs k e .0))
+
+  -- A thief's new phase goes into the table.
+  pub latest-next : (t k s : ℕ) → t < length latest → k < length phs → Latest (begin phs t k s) (set latest t (length phs))
+  latest-next t k s l h w b =
+      elim (ℕ-discrete w t) [
+        | yes e ↦ rw (latest-begin w t k s phs h .0 (sym e), e) (getD-set-same latest t (length phs) 0 l)
+        | no n ↦ rw (latest-begin w t k s phs h .1 (λ e. n (sym e)), getD-set-other latest t w (length phs) 0 n) (shown w b)
+      ]
+
+  module _ (p : ℕ) (ks r : List ℕ) where
+    pub judged-stop : length phs ≤ 65535 → (judgedWorkers latest (getD r 0 0) (getD r 1 0) ≡ 0 → ⊥)
+        → judgeTraceRecord mostWorkers p ks phs r ≡ judgedWorkers latest (getD r 0 0) (getD r 1 0)
+    unfolding judgeTraceRecord judgedWorkers judgeRead
+    judged-stop few n =
+        let thief = getD r 0 0 in
+        let victim = getD r 1 0 in
+        refused-first (leb 16 thief || leb 16 victim) (eqb thief victim) (eqb (getD latest victim 0) 65535)
+        (judgeRead p ks phs victim (recordNumber r)) (λ out unseen.
+        let h = leb-false 16 victim (or-none (leb 16 thief) (leb 16 victim) out .1) in
+        rw (latest-none few victim h (eqb-true (getD latest victim 0) 65535 unseen), judgeRead) refl) n
+
+    -- Where the workers are not refused, the number decides.
+    pub judged-on : judgedWorkers latest (getD r 0 0) (getD r 1 0) ≡ 0
+        → judgeTraceRecord mostWorkers p ks phs r
+        ≡ cond (numberAllowed p ks (phaseAt phs (getD latest (getD r 1 0) 0)) (recordNumber r)) 0 15
+    unfolding judgeTraceRecord judgeRead
+    judged-on e =
+        let thief = getD r 0 0 in
+        let victim = getD r 1 0 in
+        let f = fine-workers latest thief victim e in
+        let known = latest-some victim (f .1) (f .3) in
+        rw (lt-leb 16 thief (f .0), lt-leb 16 victim (f .1), ne-eqb thief victim (f .2), known, judgeRead) refl

@@ -1,0 +1,13 @@
+-- One trace record and one phase in the tables of replay.
+--     Entries   what a trace record says, and the refusals that its workers decide
+--     Naming    the step that a trace number names
+--     Labels    which phase has a step
+--     Reading   what reading a steal comes to
+--     Orders    what is written of one phase
+--     Laws      each of these case by case, in the terms of the code, and that they are the rules (proved)
+pub mod Entries
+pub mod Naming
+pub mod Labels
+pub mod Reading
+pub mod Orders
+pub mod Laws

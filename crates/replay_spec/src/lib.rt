@@ -1,0 +1,16 @@
+// One trace record and one phase in the tables of replay (document 01, "Trace, log, run list"): what reading a steal and running a
+// phase alone come to, as definitions and laws in `specs`, and the types that they speak of. The functions are in the crates above.
+use tree::Step;
+
+// What a trace record says.
+pub struct TraceRecord {
+    pub thief: u8,
+    pub victim: u8,
+    pub number: u16,
+}
+
+// The step that a trace number names, or none.
+pub enum Named {
+    At(Step),
+    Nothing,
+}
