@@ -8,15 +8,13 @@ ghost use Rattle.arguments.specs.Terms.{admission, judged, tooShort, rec
 use buffers::EVENT;
 use buffers::RECORD;
 use policy::HELP_FIRST;
+use policy::MOST_STEALS;
 use policy::WORK_FIRST;
 use tree::Accepted;
 use tree::validation::accept;
 
 // The most events of a record call.
 pub const MOST_EVENTS: usize = 8192;
-
-// The most records of a trace.
-pub const MOST_TRACE_RECORDS: usize = 2047;
 
 // Judges a policy and a tree: refusals 1 to 5, or how many steps the tree has.
 pub fn admit(tree: &[u8], policy: u8) -> Accepted
@@ -93,7 +91,7 @@ pub fn admit_replay(tree: &[u8], policy: u8, trace: &[u8], list: usize) -> Accep
     ensures { λ r. ⌜ r ≡ replayAdmitted policy (now (tree .entry)) (now (trace .entry)) list ⌝ }
 {
     let start = admit(tree, policy);
-    let whole = buffers::whole_records(trace, RECORD, MOST_TRACE_RECORDS);
+    let whole = buffers::whole_records(trace, RECORD, MOST_STEALS);
     let short = list < RECORD * start.steps;
     judge(start, whole, short)
 }

@@ -3,6 +3,7 @@
 
 ghost use mathlib.Core.Path.{_≡_};
 ghost use Rattle.frame_answers.specs.Contract.{flatStart, flatOutcome, flatEvent, flatIdle, flatRecord, flatReplay};
+use policy::WORKERS;
 use record::answer::Recorded;
 use replay::answer::Replayed;
 use run_spec::Outcome;
@@ -118,7 +119,7 @@ pub struct FrameRecord {
     pub logs: usize,
     pub steals: usize,
     pub finished: usize,
-    pub loads: [u64; 16],
+    pub loads: [u64; WORKERS],
     pub heaviest: usize,
 }
 
@@ -144,7 +145,7 @@ pub struct FrameReplay {
     pub number: usize,
     pub position: usize,
     pub phases: usize,
-    pub loads: [u64; 16],
+    pub loads: [u64; WORKERS],
     pub heaviest: usize,
 }
 

@@ -5,10 +5,11 @@ ghost use Prim.Native.Nat.{_+_, _≤_, _<_};
 ghost use lib.ListN.{length, getD};
 ghost use Rattle.rules.specs.Traces.{heaviest as heaviestOf};
 ghost use Rattle.loads.specs.Terms.{loadMoved, weightBetween, Movable};
+use policy::WORKERS;
 use tree_tables::wide;
 
 // Some weight leaves the victim's load for the thief's.
-pub fn move_load(loads: &mut [u64; 16], thief: usize, victim: usize, weight: u64)
+pub fn move_load(loads: &mut [u64; WORKERS], thief: usize, victim: usize, weight: u64)
     requires { ⌜ (thief < 16) × (victim < 16) × (thief ≡ victim → ⊥) × (weight ≤ getD (now loads) victim 0) × (getD (now loads) thief 0 + weight < 18446744073709551616) ⌝ }
     ensures { λ r. ⌜ now (loads .exit) ≡ loadMoved (now (loads .entry)) thief victim weight ⌝ }
 {
@@ -20,7 +21,7 @@ pub fn move_load(loads: &mut [u64; 16], thief: usize, victim: usize, weight: u64
 pub fn move_part(
     ends: &[u16],
     sums: &[u64],
-    loads: &mut [u64; 16],
+    loads: &mut [u64; WORKERS],
     thief: usize,
     victim: usize,
     step: usize,
@@ -35,13 +36,13 @@ pub fn move_part(
 }
 
 // The heaviest worker, the lowest numbered among equals.
-pub fn heaviest(loads: &[u64; 16]) -> usize
+pub fn heaviest(loads: &[u64; WORKERS]) -> usize
     requires { ⌜ length (now loads) ≡ 16 ⌝ }
     ensures { λ r. ⌜ r ≡ heaviestOf (now (loads .entry)) ⌝ }
 {
     let mut best = 0;
     let mut w = 1;
-    while w < 16 {
+    while w < WORKERS {
         let k = w;
         w += 1;
         if loads[best] < loads[k] {

@@ -13,6 +13,9 @@ ghost use Rattle.rules.specs.Calls.{written};
 use report::put_listing;
 use report::put_refusal;
 
+// Bytes of the longest run list.
+const LIST_BYTES: usize = buffers::RECORD * tree::MOST_STEPS;
+
 // Replays the tree and the trace of an input, and writes the text. Gives its length. A heading and 4,095 lines, of three numbers of
 // five digits and a byte each, have at most 73,728 bytes.
 pub fn list_phases(input: &[u8], text: &mut [u8]) -> usize
@@ -24,7 +27,7 @@ pub fn list_phases(input: &[u8], text: &mut [u8]) -> usize
     let policy = parts.policy;
     let start = parts.start;
     let end = parts.end;
-    let mut list: [u8; 16380] = [0; 16380];
+    let mut list: [u8; LIST_BYTES] = [0; LIST_BYTES];
     let tree = &input[start..end];
     let trace = &input[end..];
     let replayed = replay::replay(tree, policy, trace, &mut list);

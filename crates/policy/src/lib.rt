@@ -9,8 +9,8 @@ ghost use Rattle.policy.specs.Contract.{runningOf};
 ghost use Rattle.tree_tables.specs.Terms.{Ends};
 use tree::ASYNC;
 use tree::END;
-use tree::RECORD;
 use tree::Step;
+use tree::TREE_RECORD;
 use tree::kind;
 use tree_tables::lookup::cont_by;
 
@@ -18,6 +18,15 @@ use tree_tables::lookup::cont_by;
 pub const WORK_FIRST: u8 = 1;
 
 pub const HELP_FIRST: u8 = 2;
+
+// Workers of a run.
+pub const WORKERS: usize = 16;
+
+// The most steals of a run: one for each task that a step opens.
+pub const MOST_STEALS: usize = 2047;
+
+// The most phases of a run: one for the start, and one for each steal.
+pub const MOST_PHASES: usize = 2048;
 
 // What running a step does to its worker: it holds a step and pushes one, or it pops.
 pub enum Running {
@@ -64,7 +73,7 @@ pub fn running_of(tree: &[u8], policy: u8, step: Step) -> Running
     ensures { λ r. ⌜ r ≡ runningOf policy (kinds (now (tree .entry))) (step .0) ⌝ }
 {
     let i = step.0;
-    if tree.len() / RECORD <= i {
+    if tree.len() / TREE_RECORD <= i {
         return Running::Ends;
     }
     if kind(tree, step) == END {

@@ -2,6 +2,7 @@
 
 ghost use mathlib.Core.Path.{_≡_};
 ghost use Rattle.record.specs.Answer.Terms.{refusal, answered};
+use policy::WORKERS;
 
 // Its refusal and position, or the counts of log and trace records, whether every step has run, each worker's load and the
 // heaviest worker.
@@ -11,7 +12,7 @@ pub struct Recorded {
     pub logs: usize,
     pub steals: usize,
     pub finished: bool,
-    pub loads: [u64; 16],
+    pub loads: [u64; WORKERS],
     pub heaviest: usize,
 }
 
@@ -25,7 +26,7 @@ pub fn refused(number: u8, position: usize) -> Recorded
         logs: 0,
         steals: 0,
         finished: false,
-        loads: [0; 16],
+        loads: [0; WORKERS],
         heaviest: 0,
     }
 }
@@ -37,7 +38,7 @@ pub fn answer(
     logs: usize,
     steals: usize,
     last: usize,
-    loads: [u64; 16],
+    loads: [u64; WORKERS],
 ) -> Recorded
     ensures { λ r. ⌜ r ≡ answered number position logs steals last loads ⌝ }
 {

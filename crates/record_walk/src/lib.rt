@@ -10,9 +10,12 @@ ghost use Rattle.rules.specs.Calls.{startVerdict};
 ghost use Rattle.tree_tables.specs.Terms.{Ends, Openers, Sums};
 ghost use Rattle.record_walk.specs.Laws.Recording.{Walks};
 use buffers::EVENT;
+use policy::WORKERS;
 use run_deques::NOT_RUN;
-use run_event::run::NO_STEP;
+use run_spec::NO_STEP;
 use run_spec::Outcome;
+use tree::MOST_STEPS;
+use tree_tables::sums::SUMS;
 use tree_tables::wide;
 
 // What the walk over the events comes to.
@@ -21,7 +24,7 @@ pub struct Ended {
     pub position: usize,
     pub logs: usize,
     pub steals: usize,
-    pub loads: [u64; 16],
+    pub loads: [u64; WORKERS],
 }
 
 // Runs the events from the start on, up to the first that is refused, with the tree's tables.
@@ -43,14 +46,14 @@ fn walk(
     ensures { λ r. ⌜ Walks policy (now (tree .entry)) (now (events .entry)) r (now (log .exit)) (now (trace .exit)) ⌝ }
 {
     let n = tree::steps(tree);
-    let mut place: [u8; 4095] = [NOT_RUN; 4095];
-    let mut held: [u16; 16] = [NO_STEP; 16];
+    let mut place: [u8; MOST_STEPS] = [NOT_RUN; MOST_STEPS];
+    let mut held: [u16; WORKERS] = [NO_STEP; WORKERS];
     held[0] = 0;
-    let mut latest: [u16; 16] = [0; 16];
-    let mut low: [u16; 16] = [0; 16];
-    let mut base: [u16; 16] = [0; 16];
+    let mut latest: [u16; WORKERS] = [0; WORKERS];
+    let mut low: [u16; WORKERS] = [0; WORKERS];
+    let mut base: [u16; WORKERS] = [0; WORKERS];
     let mut steals: u16 = 0;
-    let mut loads: [u64; 16] = [0; 16];
+    let mut loads: [u64; WORKERS] = [0; WORKERS];
     loads[0] = sums[n];
     let mut logs = 0;
     let mut k = 0;
@@ -101,7 +104,7 @@ fn walk(
                     position: at,
                     logs: 0,
                     steals: 0,
-                    loads: [0; 16],
+                    loads: [0; WORKERS],
                 };
             }
         }
@@ -128,9 +131,9 @@ pub fn walk_events(
     ensures { λ r. ⌜ Walks policy (now (tree .entry)) (now (events .entry)) r (now (log .exit)) (now (trace .exit)) ⌝ }
 {
     let n = tree::steps(tree);
-    let mut ends: [u16; 4095] = [0; 4095];
-    let mut openers: [u16; 4095] = [0; 4095];
-    let mut sums: [u64; 4096] = [0; 4096];
+    let mut ends: [u16; MOST_STEPS] = [0; MOST_STEPS];
+    let mut openers: [u16; MOST_STEPS] = [0; MOST_STEPS];
+    let mut sums: [u64; SUMS] = [0; SUMS];
     tree_tables::fill(tree, &mut ends, &mut openers);
     tree_tables::sums::add_up(tree, &mut sums);
     walk(

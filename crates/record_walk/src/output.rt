@@ -8,6 +8,7 @@ ghost use Rattle.buffers.specs.Terms.{recordPut};
 ghost use Rattle.loads.specs.Terms.{loadMoved};
 ghost use Rattle.loads.specs.Terms.{weightBetween, Movable};
 ghost use Rattle.run_spec.specs.Numbers.{numberValue};
+use policy::WORKERS;
 use run_spec::TraceNumber;
 use tree::Phase;
 use tree::Step;
@@ -26,7 +27,7 @@ pub fn trace_steal(
     ends: &[u16],
     sums: &[u64],
     trace: &mut [u8],
-    loads: &mut [u64; 16],
+    loads: &mut [u64; WORKERS],
     k: usize,
     thief: u8,
     victim: u8,

@@ -2,13 +2,14 @@
 
 ghost use mathlib.Core.Path.{_≡_};
 ghost use Rattle.replay.specs.Answer.Terms.{refusal, answered};
+use policy::WORKERS;
 
 // Its refusal and position, or the count of phases, each worker's load and the heaviest worker.
 pub struct Replayed {
     pub number: u8,
     pub position: usize,
     pub phases: usize,
-    pub loads: [u64; 16],
+    pub loads: [u64; WORKERS],
     pub heaviest: usize,
 }
 
@@ -20,13 +21,13 @@ pub fn refused(number: u8, position: usize) -> Replayed
         number,
         position,
         phases: 0,
-        loads: [0; 16],
+        loads: [0; WORKERS],
         heaviest: 0,
     }
 }
 
 // The answer on a trace whose walk is refused, or has come to so many phases with these loads.
-pub fn answer(number: u8, position: usize, phases: usize, loads: [u64; 16]) -> Replayed
+pub fn answer(number: u8, position: usize, phases: usize, loads: [u64; WORKERS]) -> Replayed
     ensures { λ r. ⌜ r ≡ answered number position phases loads ⌝ }
 {
     if number != 0 {

@@ -1,7 +1,9 @@
 -- How a trace that replay accepts splits a tree into phases, whether a scheduler made it or not.
---     Splits      what holds of every accepted trace (to be read); the theorem is `splits` of Laws/Consequences
+--     Splits      what holds of every accepted trace (to be read)
+--     Theorem     the claim, for every trace (to be read)
 --     Invariant   what holds after each record
 --     Laws        the proofs, and that the trace of a run replays to the run's own phases
 pub mod Splits
+pub mod Theorem
 pub mod Invariant
 pub mod Laws

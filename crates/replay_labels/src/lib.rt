@@ -8,10 +8,8 @@ ghost use Prim.Native.Nat.{_≤_, _<_};
 ghost use lib.ListN.{length};
 ghost use Rattle.replay_invariant.specs.Laws.Labels.{labelOf};
 ghost use Rattle.replay_spec.specs.Labels.{Upward, Claimed, Taking, dropped};
+use replay_spec::FREE;
 use tree_tables::wide;
-
-// The label of a step that has none.
-pub const FREE: u16 = 65535;
 
 // Labels the free steps above a step with a phase, from opener to opener, up to the first labelled one. Gives that one's label.
 fn claim(openers: &[u16], labels: &mut [u16], step: usize, phase: u16) -> u16

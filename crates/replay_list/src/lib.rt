@@ -10,6 +10,7 @@ ghost use Rattle.rules.specs.Calls.{written};
 ghost use Rattle.tree_tables.specs.Terms.{Ends};
 ghost use Rattle.replay_list.specs.Terms.{listed, Listable};
 use phase::write_phase;
+use policy::MOST_STEALS;
 use tree_tables::wide;
 
 // Writes the run list, each phase behind the one before.
@@ -27,7 +28,7 @@ pub fn write_list(
     requires { ⌜ Listable policy (kinds (now tree)) (now labels) (now firsts) phases (length (now list)) ⌝ }
     ensures { λ r. ⌜ now (list .exit) ≡ written (entryBytes (listed policy (kinds (now (tree .entry))) (now (labels .entry)) (now (firsts .entry)) phases)) (now (list .entry)) ⌝ }
 {
-    let mut stack: [u16; 2047] = [0; 2047];
+    let mut stack: [u16; MOST_STEALS] = [0; MOST_STEALS];
     let mut k = 0;
     let mut at = 0;
     while k < phases {

@@ -2,6 +2,12 @@
 // phase alone come to, as definitions and laws in `specs`, and the types that they speak of. The functions are in the crates above.
 use tree::Step;
 
+// The latest phase of a worker that has had none.
+pub const NO_PHASE: u16 = 65535;
+
+// The label of a step that has none.
+pub const FREE: u16 = 65535;
+
 // What a trace record says.
 pub struct TraceRecord {
     pub thief: u8,

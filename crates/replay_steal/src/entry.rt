@@ -5,10 +5,9 @@ ghost use mathlib.Core.Path.{_≡_};
 ghost use Prim.Native.Nat.{_+_, _*_, _/_, _<_};
 ghost use lib.ListN.{length};
 ghost use Rattle.replay_spec.specs.Entries.{judgedWorkers, Entry};
+use policy::WORKERS;
+use replay_spec::NO_PHASE;
 use replay_spec::TraceRecord;
-
-// The latest phase of a worker that has had none.
-pub const NO_PHASE: u16 = 65535;
 
 // A number of two bytes.
 fn two_bytes(low: u8, high: u8) -> u16
@@ -31,7 +30,7 @@ pub fn record_at(trace: &[u8], k: usize) -> TraceRecord
 }
 
 // Refusals 8, 13 and 14 of a record, 0 for none.
-pub fn judge(latest: &[u16; 16], thief: u8, victim: u8) -> u8
+pub fn judge(latest: &[u16; WORKERS], thief: u8, victim: u8) -> u8
     requires { ⌜ length (now latest) ≡ 16 ⌝ }
     ensures { λ r. ⌜ r ≡ judgedWorkers (now (latest .entry)) thief victim ⌝ }
 {

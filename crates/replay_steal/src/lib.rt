@@ -12,6 +12,7 @@ ghost use Rattle.tree_tables.specs.Terms.{Ends, Openers};
 ghost use Rattle.replay_invariant.specs.Laws.Labels.{labelOf};
 ghost use Rattle.replay_spec.specs.Naming.{named};
 ghost use Rattle.replay_spec.specs.Reading.{Reading};
+use policy::MOST_PHASES;
 use replay_spec::Named;
 use tree_tables::wide;
 
@@ -23,8 +24,8 @@ pub fn read(
     openers: &[u16],
     labels: &mut [u16],
     policy: u8,
-    bases: &[u16; 2048],
-    ordinals: &[u16; 2048],
+    bases: &[u16; MOST_PHASES],
+    ordinals: &[u16; MOST_PHASES],
     phase: u16,
     number: u16,
 ) -> Named

@@ -4,13 +4,15 @@
 ghost use mathlib.Core.Path.{_≡_};
 ghost use Prim.Native.Nat.{_+_, _<_};
 ghost use lib.ListN.{length, getD, set};
+use policy::MOST_PHASES;
+use policy::WORKERS;
 
 // Phase 0 begins: worker 0 has step 0 and all the weight.
 pub fn begin_first(
     labels: &mut [u16],
-    firsts: &mut [u16; 2048],
-    latest: &mut [u16; 16],
-    loads: &mut [u64; 16],
+    firsts: &mut [u16; MOST_PHASES],
+    latest: &mut [u16; WORKERS],
+    loads: &mut [u64; WORKERS],
     weight: u64,
 )
     requires { ⌜ (0 < length (now labels)) × (length (now firsts) ≡ 2048) × (length (now latest) ≡ 16) × (length (now loads) ≡ 16) ⌝ }
@@ -31,10 +33,10 @@ pub fn begin_first(
 pub fn begin(
     openers: &[u16],
     labels: &mut [u16],
-    firsts: &mut [u16; 2048],
-    bases: &mut [u16; 2048],
-    ordinals: &mut [u16; 2048],
-    latest: &mut [u16; 16],
+    firsts: &mut [u16; MOST_PHASES],
+    bases: &mut [u16; MOST_PHASES],
+    ordinals: &mut [u16; MOST_PHASES],
+    latest: &mut [u16; WORKERS],
     phase: usize,
     from: u16,
     thief: usize,

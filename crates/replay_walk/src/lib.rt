@@ -11,15 +11,17 @@ ghost use Rattle.rules.specs.Bytes.{wholeRecords};
 ghost use Rattle.rules.specs.Calls.{startVerdict};
 ghost use Rattle.tree_tables.specs.Terms.{Ends, Openers, Sums};
 ghost use Rattle.replay_walk.specs.Terms.{Retraced};
+use policy::MOST_PHASES;
+use policy::WORKERS;
+use replay_spec::NO_PHASE;
 use replay_spec::Named;
-use replay_steal::entry::NO_PHASE;
 
 // What the walk over the records comes to.
 pub struct Ended {
     pub number: u8,
     pub position: usize,
     pub phases: usize,
-    pub loads: [u64; 16],
+    pub loads: [u64; WORKERS],
 }
 
 // A refusal at a position.
@@ -30,7 +32,7 @@ fn refused(number: u8, position: usize) -> Ended
         number,
         position,
         phases: 0,
-        loads: [0; 16],
+        loads: [0; WORKERS],
     }
 }
 
@@ -44,7 +46,7 @@ pub fn walk(
     policy: u8,
     trace: &[u8],
     labels: &mut [u16],
-    firsts: &mut [u16; 2048],
+    firsts: &mut [u16; MOST_PHASES],
 ) -> Ended
     requires { ⌜ (startVerdict policy (now tree) .number ≡ 0) × (wholeRecords 4 2047 (now trace) ≡ true) ⌝ }
     requires { ⌜ (length (now ends) ≡ length (kinds (now tree))) × Ends (kinds (now tree)) (now ends) (length (now ends)) ⌝ }
@@ -53,10 +55,10 @@ pub fn walk(
     requires { ⌜ (now labels ≡ replicate (length (kinds (now tree))) 65535) × (length (now firsts) ≡ 2048) ⌝ }
     ensures { λ r. ⌜ Retraced policy (now (tree .entry)) (now (trace .entry)) r (now (labels .exit)) (now (firsts .exit)) ⌝ }
 {
-    let mut bases: [u16; 2048] = [0; 2048];
-    let mut ordinals: [u16; 2048] = [0; 2048];
-    let mut latest: [u16; 16] = [NO_PHASE; 16];
-    let mut loads: [u64; 16] = [0; 16];
+    let mut bases: [u16; MOST_PHASES] = [0; MOST_PHASES];
+    let mut ordinals: [u16; MOST_PHASES] = [0; MOST_PHASES];
+    let mut latest: [u16; WORKERS] = [NO_PHASE; WORKERS];
+    let mut loads: [u64; WORKERS] = [0; WORKERS];
     let weight = sums[tree::steps(tree)];
     replay_steal::phase::begin_first(labels, firsts, &mut latest, &mut loads, weight);
     let mut k = 0;

@@ -7,11 +7,22 @@ use mathlib.Core.Bool.{Bool, true, false, cond}
 use mathlib.Core.List.{List, [], _∷_, _++_, map, flatten, zipWith}
 use lib.ListN.{length, take, drop, replicate}
 use lib.Dec.{eqb}
-use Rattle.rules.specs.Bytes.{littleEndian, twoBytes, cut, records, wholeRecords, count, all, any, sum, Verdict, accepted, refusedIf, firstRefused, walk}
-use Rattle.rules.specs.Tree.{treeRecords, kind, isAsync, isFinish, isEnd, weight, kinds, weights, kindAt, root, innermost, leave, enter, openTasks, taskAt, task, ordinal, openAfter, afterEnds, taskEnd, cont, finishChild, finishBefore, wellFormed, judgeTreeRecord, nextOpen, treeWalk, wrongLength, treeVerdict}
-use Rattle.rules.specs.Scheduling.{workFirst, helpFirst, mostWorkers, pushesChild, holds, pushes, pop, afterRun, firstPhases, phaseAt, begin, Run, idleWorker, start, workerAt, hasRun, waits, isRun, judgeRun, runStep, holdsStep, judgeSteal, oldest, steal, judgeEvent, nextRun, idleSet, idleCount, idleLowest}
-use Rattle.rules.specs.Traces.{traceNumber, traceBytes, entryBytes, fromStep, covers, latestPhase, lastStolen, frontier, childCount, taskStep, ordinalAllowed, startsAsync, followsFinish, serialAllowed, numberAllowed, stolenStep, recordNumber, judgeRead, judgeTraceRecord, nextPhases, replayWalk, runAlone, runningOrder, runList, phaseLoad, workerLoad, loads, largest, firstAt, heaviest}
-use Rattle.rules.specs.Calls.{startVerdict, eventCall, written, Recorded, recordWalk, recordVerdict, finished, recordOf, recordRefused, recordCall, Replayed, replayVerdict, replayOf, replayRefused, replayCall}
+use Rattle.rules.specs.Bytes.{littleEndian, twoBytes, cut, records, wholeRecords, count, all, any, sum, Verdict, accepted}
+use Rattle.rules.specs.Bytes.{refusedIf, firstRefused, walk}
+use Rattle.rules.specs.Tree.{treeRecords, kind, isAsync, isFinish, isEnd, weight, kinds, weights, kindAt, root, innermost}
+use Rattle.rules.specs.Tree.{leave, enter, openTasks, taskAt, task, ordinal, openAfter, afterEnds, taskEnd, cont}
+use Rattle.rules.specs.Tree.{finishChild, finishBefore, wellFormed, judgeTreeRecord, nextOpen, treeWalk, wrongLength}
+use Rattle.rules.specs.Tree.{treeVerdict}
+use Rattle.rules.specs.Scheduling.{workFirst, helpFirst, mostWorkers, pushesChild, holds, pushes, pop, afterRun}
+use Rattle.rules.specs.Scheduling.{firstPhases, phaseAt, begin, Run, idleWorker, start, workerAt, hasRun, waits, isRun}
+use Rattle.rules.specs.Scheduling.{judgeRun, runStep, holdsStep, judgeSteal, oldest, steal, judgeEvent, nextRun, idleSet}
+use Rattle.rules.specs.Scheduling.{idleCount, idleLowest}
+use Rattle.rules.specs.Traces.{traceNumber, traceBytes, entryBytes, fromStep, covers, latestPhase, lastStolen, frontier}
+use Rattle.rules.specs.Traces.{childCount, taskStep, ordinalAllowed, startsAsync, followsFinish, serialAllowed}
+use Rattle.rules.specs.Traces.{numberAllowed, stolenStep, recordNumber, judgeRead, judgeTraceRecord, nextPhases, replayWalk}
+use Rattle.rules.specs.Traces.{runAlone, runningOrder, runList, phaseLoad, workerLoad, loads, largest, firstAt, heaviest}
+use Rattle.rules.specs.Calls.{startVerdict, eventCall, written, Recorded, recordWalk, recordVerdict, finished, recordOf}
+use Rattle.rules.specs.Calls.{recordRefused, recordCall, Replayed, replayVerdict, replayOf, replayRefused, replayCall}
 
 -- ---- cases and answers
 

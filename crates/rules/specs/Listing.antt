@@ -4,7 +4,8 @@ use mathlib.Core.Path.{_≡_, refl}
 use mathlib.Core.List.{List, [], _∷_, _++_, map, flatten}
 use lib.ListN.{take}
 use Rattle.rules.specs.Scheduling.{mostWorkers}
-use Rattle.rules.specs.Program.{inputPolicy, inputCount, inputTree, inputTrace, digits, decimal, line, heading, phaseLines, refusedLine, phasesText, printed}
+use Rattle.rules.specs.Program.{inputPolicy, inputCount, inputTree, inputTrace, digits, decimal, line, heading, phaseLines}
+use Rattle.rules.specs.Program.{refusedLine, phasesText, printed}
 use Rattle.rules.specs.Cases.{answer, bytes, ofKinds, S}
 
 -- Policy and n in front of a tree and a trace.

@@ -6,13 +6,12 @@
 ghost use mathlib.Core.Path.{_≡_};
 ghost use Prim.Native.Nat.{_≤_, _<_};
 ghost use lib.ListN.{length};
-ghost use Rattle.run_spec.specs.Deques.{Climbs, newestMark, oldestMark, pusherOf, popped, robbed};
+ghost use Rattle.run_spec.specs.Deques.{newestMark, oldestMark, pusherOf, popped, robbed};
+ghost use Rattle.run_spec.specs.Terms.{Climbs};
 use run_spec::Pusher;
+use tree::MOST_STEPS;
 use tree::Step;
 use tree_tables::wide;
-
-// Workers of a run.
-pub const MOST_WORKERS: usize = 16;
 
 // A step that has run, where the step that it pushed, if any, is in no deque any more.
 pub const RUN: u8 = 16;
@@ -21,7 +20,7 @@ pub const RUN: u8 = 16;
 pub const NOT_RUN: u8 = 17;
 
 // The highest step marked with the worker among those from `low` to before `end`, by a scan.
-fn scan(place: &[u8; 4095], worker: u8, low: usize, end: usize) -> Pusher
+fn scan(place: &[u8; MOST_STEPS], worker: u8, low: usize, end: usize) -> Pusher
     requires { ⌜ end ≤ 4095 ⌝ }
     ensures { λ r. ⌜ r ≡ pusherOf (newestMark (now (place .entry)) worker low end) ⌝ }
 {
@@ -36,7 +35,7 @@ fn scan(place: &[u8; 4095], worker: u8, low: usize, end: usize) -> Pusher
 }
 
 // The same from step `end` up, from opener to opener: no other step is marked with a worker that holds `end`.
-fn climb(openers: &[u16], place: &[u8; 4095], worker: u8, low: usize, end: usize) -> Pusher
+fn climb(openers: &[u16], place: &[u8; MOST_STEPS], worker: u8, low: usize, end: usize) -> Pusher
     requires { ⌜ (end < 4095) × (end < length (now openers)) × Climbs (now openers) (now place) worker low end ⌝ }
     ensures { λ r. ⌜ r ≡ pusherOf (newestMark (now (place .entry)) worker low end) ⌝ }
 {
@@ -54,7 +53,13 @@ fn climb(openers: &[u16], place: &[u8; 4095], worker: u8, low: usize, end: usize
 }
 
 // The same, by the openers where their table has step `end`.
-pub fn newest(openers: &[u16], place: &[u8; 4095], worker: u8, low: usize, end: usize) -> Pusher
+pub fn newest(
+    openers: &[u16],
+    place: &[u8; MOST_STEPS],
+    worker: u8,
+    low: usize,
+    end: usize,
+) -> Pusher
     requires { ⌜ (end < 4095) × (end < length (now openers) → Climbs (now openers) (now place) worker low end) ⌝ }
     ensures { λ r. ⌜ r ≡ pusherOf (newestMark (now (place .entry)) worker low end) ⌝ }
 {
@@ -65,7 +70,7 @@ pub fn newest(openers: &[u16], place: &[u8; 4095], worker: u8, low: usize, end: 
 }
 
 // The lowest.
-pub fn oldest(place: &[u8; 4095], worker: u8, low: usize, end: usize) -> Pusher
+pub fn oldest(place: &[u8; MOST_STEPS], worker: u8, low: usize, end: usize) -> Pusher
     requires { ⌜ end ≤ 4095 ⌝ }
     ensures { λ r. ⌜ r ≡ pusherOf (oldestMark (now (place .entry)) worker low end) ⌝ }
 {
@@ -80,7 +85,13 @@ pub fn oldest(place: &[u8; 4095], worker: u8, low: usize, end: usize) -> Pusher
 }
 
 // A worker runs an end: the step has run, and the newest step of the worker's deque leaves it. Gives that step's pusher.
-pub fn pop(openers: &[u16], place: &mut [u8; 4095], worker: u8, low: usize, step: Step) -> Pusher
+pub fn pop(
+    openers: &[u16],
+    place: &mut [u8; MOST_STEPS],
+    worker: u8,
+    low: usize,
+    step: Step,
+) -> Pusher
     requires { ⌜ (step .0 < 4095) × (step .0 < length (now openers) → Climbs (now openers) (now place) worker low (step .0)) ⌝ }
     ensures gives { λ r. ⌜ r ≡ pusherOf (newestMark (now (place .entry)) worker low (step .0)) ⌝ }
     ensures marks { λ r. ⌜ now (place .exit) ≡ popped (now (place .entry)) worker low (step .0) ⌝ }
@@ -102,7 +113,7 @@ pub fn pop(openers: &[u16], place: &mut [u8; 4095], worker: u8, low: usize, step
 
 // A thief takes the oldest step of the victim's deque, among the steps pushed by those from `low` to before `end`. Gives that
 // step's pusher.
-pub fn take(place: &mut [u8; 4095], victim: u8, low: usize, end: usize) -> Pusher
+pub fn take(place: &mut [u8; MOST_STEPS], victim: u8, low: usize, end: usize) -> Pusher
     requires { ⌜ end ≤ 4095 ⌝ }
     ensures gives { λ r. ⌜ r ≡ pusherOf (oldestMark (now (place .entry)) victim low end) ⌝ }
     ensures marks { λ r. ⌜ now (place .exit) ≡ robbed (now (place .entry)) victim low end ⌝ }

@@ -12,15 +12,16 @@ ghost use lib.ListN.{length};
 ghost use Rattle.rules.specs.Tree.{kinds};
 ghost use Rattle.tree_tables.specs.Terms.{Ends};
 ghost use Rattle.run_spec.specs.declared.Outcome.the-variants.{Refused};
-ghost use Rattle.run_spec.specs.Moves.{Hints, fieldsOf, moveOf, runMove, stealMove, eventMove};
+ghost use Rattle.run_spec.specs.Moves.{fieldsOf, moveOf, runMove, stealMove, eventMove};
+ghost use Rattle.run_spec.specs.Terms.{Hints};
+use policy::MOST_PHASES;
+use policy::WORKERS;
 use run_spec::Outcome;
 use run_spec::Taken;
+use tree::MOST_STEPS;
 use tree::Phase;
 use tree::Step;
 use tree_tables::wide;
-
-// Phases of a run: one for the start, and at most one for each spawned task.
-pub const MOST_PHASES: u16 = 2048;
 
 // An event's outcome with the count of steals after it.
 pub struct Moved {
@@ -33,10 +34,10 @@ pub fn run_on(
     tree: &[u8],
     ends: &[u16],
     openers: &[u16],
-    place: &mut [u8; 4095],
-    held: &mut [u16; 16],
-    phase: &[u16; 16],
-    low: &[u16; 16],
+    place: &mut [u8; MOST_STEPS],
+    held: &mut [u16; WORKERS],
+    phase: &[u16; WORKERS],
+    low: &[u16; WORKERS],
     policy: u8,
     worker: u8,
 ) -> Outcome
@@ -71,11 +72,11 @@ fn refused(number: u8, steals: u16) -> Moved
 pub fn steal_on(
     tree: &[u8],
     ends: &[u16],
-    place: &mut [u8; 4095],
-    held: &mut [u16; 16],
-    phase: &mut [u16; 16],
-    low: &mut [u16; 16],
-    base: &mut [u16; 16],
+    place: &mut [u8; MOST_STEPS],
+    held: &mut [u16; WORKERS],
+    phase: &mut [u16; WORKERS],
+    low: &mut [u16; WORKERS],
+    base: &mut [u16; WORKERS],
     steals: u16,
     policy: u8,
     thief: u8,
@@ -96,7 +97,7 @@ pub fn steal_on(
             step,
             ordinal,
         } => {
-            let begun = steals % MOST_PHASES + 1;
+            let begun = steals % MOST_PHASES as u16 + 1;
             steal::settle(
                 held,
                 phase,
@@ -123,11 +124,11 @@ pub fn event_on(
     tree: &[u8],
     ends: &[u16],
     openers: &[u16],
-    place: &mut [u8; 4095],
-    held: &mut [u16; 16],
-    phase: &mut [u16; 16],
-    low: &mut [u16; 16],
-    base: &mut [u16; 16],
+    place: &mut [u8; MOST_STEPS],
+    held: &mut [u16; WORKERS],
+    phase: &mut [u16; WORKERS],
+    low: &mut [u16; WORKERS],
+    base: &mut [u16; WORKERS],
     steals: u16,
     policy: u8,
     first: u8,

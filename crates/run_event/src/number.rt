@@ -8,13 +8,14 @@ ghost use Rattle.run_spec.specs.Numbers.{childrenBetween, numberBy, numberValue
 use policy::WORK_FIRST;
 use run_spec::TraceNumber;
 use tree::END;
+use tree::MOST_STEPS;
 use tree::Ordinal;
-use tree::RECORD;
 use tree::Step;
+use tree::TREE_RECORD;
 use tree_tables::wide;
 
 // More than any ordinal of a tree.
-const MOST_ORDINALS: usize = 4096;
+const MOST_ORDINALS: usize = MOST_STEPS + 1;
 
 // The trace number of a stolen step, by its ordinal or its serial number.
 pub fn trace_number(policy: u8, ordinal: Ordinal, step: Step) -> TraceNumber
@@ -46,7 +47,7 @@ fn children_between(tree: &[u8], from: usize, to: usize) -> usize
     let mut depth: usize = 0;
     let mut children: usize = 0;
     while j < to {
-        let k = tree[RECORD * j];
+        let k = tree[TREE_RECORD * j];
         j += 1;
         if k == END {
             if depth == 0 {

@@ -7,10 +7,11 @@ ghost use lib.ListN.{length};
 ghost use lib.Dec.{eqb, leb};
 ghost use Rattle.rules.specs.Tree.{kinds};
 ghost use Rattle.tree_tables.specs.Terms.{Ends, Openers};
-ghost use Rattle.run_spec.specs.Deques.{Climbs};
-ghost use Rattle.run_spec.specs.Running.{allRun, waitsFor, WaitsAtLow, runNumber, heldNext, placeNext};
-use run_deques::MOST_WORKERS;
+ghost use Rattle.run_spec.specs.Terms.{Climbs, WaitsAtLow};
+ghost use Rattle.run_spec.specs.Running.{allRun, waitsFor, runNumber, heldNext, placeNext};
+use policy::WORKERS;
 use run_deques::NOT_RUN;
+use run_spec::NO_STEP;
 use run_spec::Pusher;
 use tree::END;
 use tree::MOST_STEPS;
@@ -19,12 +20,9 @@ use tree_scan::FinishChild;
 use tree_tables::lookup::finish_by;
 use tree_tables::wide;
 
-// What a worker that holds no step has for one.
-pub const NO_STEP: u16 = 65535;
-
 // Whether all steps from `first` to before `end` have run. It counts those that have not, and looks at all of them: a loop
 // without a way out takes many bytes at a time.
-fn all_run(place: &[u8; 4095], first: usize, end: usize) -> bool
+fn all_run(place: &[u8; MOST_STEPS], first: usize, end: usize) -> bool
     requires { ⌜ end ≤ 4095 ⌝ }
     ensures { λ r. ⌜ r ≡ allRun (now (place .entry)) first end ⌝ }
 {
@@ -41,7 +39,7 @@ fn all_run(place: &[u8; 4095], first: usize, end: usize) -> bool
 }
 
 // Whether a held step waits for a finish child.
-fn waits(tree: &[u8], openers: &[u16], place: &[u8; 4095], step: Step) -> bool
+fn waits(tree: &[u8], openers: &[u16], place: &[u8; MOST_STEPS], step: Step) -> bool
     requires { ⌜ (step .0 ≤ 4095) × Openers (kinds (now tree)) (now openers) (length (now openers)) ⌝ }
     ensures { λ r. ⌜ r ≡ waitsFor (kinds (now (tree .entry))) (now (place .entry)) (step .0) ⌝ }
 {
@@ -65,9 +63,9 @@ fn may_wait(openers: &[u16], step: usize, low: usize) -> bool
 pub fn judge_run(
     tree: &[u8],
     openers: &[u16],
-    place: &[u8; 4095],
-    held: &[u16; 16],
-    low: &[u16; 16],
+    place: &[u8; MOST_STEPS],
+    held: &[u16; WORKERS],
+    low: &[u16; WORKERS],
     worker: u8,
 ) -> u8
     requires { ⌜ Openers (kinds (now tree)) (now openers) (length (now openers)) ⌝ }
@@ -75,7 +73,7 @@ pub fn judge_run(
     ensures { λ r. ⌜ r ≡ runNumber (kinds (now (tree .entry))) (now (place .entry)) (now (held .entry)) worker ⌝ }
 {
     let w = worker as usize;
-    if MOST_WORKERS <= w {
+    if WORKERS <= w {
         return 8;
     }
     let n = tree::steps(tree);
@@ -100,7 +98,7 @@ pub fn advance(
     tree: &[u8],
     ends: &[u16],
     openers: &[u16],
-    place: &mut [u8; 4095],
+    place: &mut [u8; MOST_STEPS],
     policy: u8,
     worker: u8,
     low: usize,

@@ -7,8 +7,9 @@ ghost use lib.ListN.{length, set};
 ghost use Rattle.rules.specs.Tree.{kinds};
 ghost use Rattle.tree_tables.specs.Terms.{Ends};
 ghost use Rattle.run_spec.specs.Deques.{oldestMark, robbed};
-ghost use Rattle.run_spec.specs.Stealing.{stealNumber, takenOf, Small};
-use run_deques::MOST_WORKERS;
+ghost use Rattle.run_spec.specs.Stealing.{stealNumber, takenOf};
+ghost use Rattle.run_spec.specs.Terms.{Small};
+use policy::WORKERS;
 use run_spec::Pusher;
 use run_spec::Taken;
 use tree::MOST_STEPS;
@@ -17,15 +18,15 @@ use tree::Step;
 use tree_tables::wide;
 
 // The refusal of a steal, but for an empty deque: 8 or 11, or 2 for a tree that is too long; 0 for none.
-pub fn judge_steal(tree: &[u8], held: &[u16; 16], thief: u8, victim: u8) -> u8
+pub fn judge_steal(tree: &[u8], held: &[u16; WORKERS], thief: u8, victim: u8) -> u8
     ensures { λ r. ⌜ r ≡ stealNumber (kinds (now (tree .entry))) (now (held .entry)) thief victim ⌝ }
 {
     let t = thief as usize;
     let v = victim as usize;
-    if MOST_WORKERS <= t {
+    if WORKERS <= t {
         return 8;
     }
-    if MOST_WORKERS <= v {
+    if WORKERS <= v {
         return 8;
     }
     let n = tree::steps(tree);
@@ -42,7 +43,7 @@ pub fn judge_steal(tree: &[u8], held: &[u16; 16], thief: u8, victim: u8) -> u8
 pub fn take_step(
     tree: &[u8],
     ends: &[u16],
-    place: &mut [u8; 4095],
+    place: &mut [u8; MOST_STEPS],
     policy: u8,
     victim: u8,
     low: usize,
@@ -70,10 +71,10 @@ pub fn take_step(
 
 // What a steal stores: the thief holds the step and has begun the phase, and the victim's scans go on behind the step's pusher.
 pub fn settle(
-    held: &mut [u16; 16],
-    phase: &mut [u16; 16],
-    low: &mut [u16; 16],
-    base: &mut [u16; 16],
+    held: &mut [u16; WORKERS],
+    phase: &mut [u16; WORKERS],
+    low: &mut [u16; WORKERS],
+    base: &mut [u16; WORKERS],
     thief: u8,
     victim: u8,
     pusher: Step,

@@ -1,80 +1,30 @@
--- The theorem that makes the calls' contracts worth something. From an accepted start on, whatever events follow, refused ones
--- included: each event's outcome is the rules' word on it, the state then shows the rules' run, and its idle answers are the
--- rules'. `outcomes` and `stateAfter` are folds of `eventAnswer`, which is what the contract of `event` gives; `startAnswer` and
--- `idleAnswer` are what those of `start` and `idle` give.
+-- What is claimed of single events. From an accepted start on, whatever events follow, refused ones included: each event's outcome is
+-- the rules' word on it, the state then shows the rules' run, and its idle answers are the rules'. `outcomes` and `stateAfter` are
+-- folds of `eventAnswer`, which is what the contract of `event` gives; `startAnswer` and `idleAnswer` are what those of `start` and
+-- `idle` give.
 use Prim.Native.Nat.{ℕ}
-use mathlib.Core.Path.{_≡_, refl, ap₂}
-use mathlib.Core.Bool.{true, false, cond}
-use mathlib.Core.List.{List, [], _∷_}
-use native.Mathlib.Omega.{arith}
-use lib.ListN.{getD}
-use lib.Dec.{eqb}
-use Rattle.rules.specs.Tree.{kinds, ordinal}
-use Rattle.rules.specs.Scheduling.{workFirst, mostWorkers, Run, start, idleSet, idleCount, idleLowest}
-use Rattle.rules.specs.Traces.{traceNumber}
-use Rattle.rules.specs.Calls.{startVerdict, eventCall, afterEvents}
-use Rattle.tree_scan.specs.Laws.Starts.{start-tree-accepts}
-use Rattle.tree_scan.specs.Laws.Frames.{Frame, accepted-frame}
+use mathlib.Core.Path.{_≡_}
+use mathlib.Core.List.{List}
+use Rattle.rules.specs.Tree.{kinds}
+use Rattle.rules.specs.Scheduling.{mostWorkers, Run, start, idleSet, idleCount, idleLowest}
+use Rattle.rules.specs.Calls.{afterEvents}
 use Rattle.run_invariant.specs.Invariant.{Invariant}
-use Rattle.run_invariant.specs.Laws.Always.{start-invariant, event-keeps, always}
-use Rattle.run_spec.specs.declared.Outcome.{Outcome}
-use Rattle.run_spec.specs.declared.TraceNumber.the-variants.{ByOrdinal, BySerial}
-use Rattle.run_spec.specs.Numbers.{numberBy, numberValue}
-use Rattle.run_spec.specs.Moves.{fresh}
 use Rattle.run_state.specs.declared.RunState.{RunState}
-use Rattle.run_state.specs.Contract.{fields, stateOf, startAnswer, eventAnswer, idleAnswer}
+use Rattle.run_state.specs.Contract.{fields, startAnswer, idleAnswer}
 use Rattle.run_refinement.specs.Tie.{Shows, toldAll, outcomes, stateAfter}
-use Rattle.run_refinement.specs.Laws.Events.{start-shows, event-tells, event-shows, idle-set-shown, idle-count-shown, idle-lowest-shown}
 
--- The number of a steal is the one that its trace record has.
-pub number-traced : (p : ℕ) (ks : List ℕ) (step : ℕ) → numberValue (numberBy p (ordinal ks step) step) ≡ traceNumber p ks step
-unfolding numberBy traceNumber
-number-traced p ks step =
-    elim (eqb p workFirst) as
-    (λ b. numberValue (cond b (ByOrdinal (record { 0 = ordinal ks step })) (BySerial (record { 0 = step }))) ≡ cond b (ordinal ks step) step)
-    [ true ↦ refl | false ↦ refl ]
+module _ (p : ℕ) (tree : List ℕ) (es : List (List ℕ)) where
+  -- The rules' run of the events, and the state after their calls.
+  unfoldable pub ruled : Run
+  ruled = afterEvents p (kinds tree) (start mostWorkers) es
 
-pub record Follows (p : ℕ) (tree : List ℕ) (es : List (List ℕ)) : Type 0 where
-  pub invariant : Invariant p (kinds tree) (afterEvents p (kinds tree) (start mostWorkers) es)
-  pub tells : outcomes tree (startAnswer p tree .state) es ≡ toldAll p (kinds tree) (start mostWorkers) es
-  pub shows : Shows p (kinds tree) (fields (stateAfter tree (startAnswer p tree .state) es)) (afterEvents p (kinds tree) (start mostWorkers) es)
-  pub idleAs : idleAnswer (stateAfter tree (startAnswer p tree .state) es) .set
-      ≡ idleSet (afterEvents p (kinds tree) (start mostWorkers) es .workers)
-  pub idleMany : idleAnswer (stateAfter tree (startAnswer p tree .state) es) .count
-      ≡ idleCount (afterEvents p (kinds tree) (start mostWorkers) es .workers)
-  pub idleFrom : idleAnswer (stateAfter tree (startAnswer p tree .state) es) .lowest
-      ≡ idleLowest 0 (afterEvents p (kinds tree) (start mostWorkers) es .workers)
+  unfoldable pub reached : RunState
+  reached = stateAfter tree (startAnswer p tree .state) es
 
-module _ (p : ℕ) (tree : List ℕ) (frame : Frame tree) where
-  -- From any state that shows a run on: both go on alike.
-  along : (es : List (List ℕ)) (s : RunState) (r : Run) → Invariant p (kinds tree) r → Shows p (kinds tree) (fields s) r
-      → (outcomes tree s es ≡ toldAll p (kinds tree) r es) × Shows p (kinds tree) (fields (stateAfter tree s es)) (afterEvents p (kinds tree) r es)
-  unfolding outcomes toldAll stateAfter afterEvents eventAnswer
-  along [] s r inv shows = (refl, shows)
-  along (e ∷ es) s r inv shows =
-      let rest =
-      along es (eventAnswer s tree (getD e 0 0) (getD e 1 0) .state) (eventCall p (kinds tree) r e .state)
-      (event-keeps p (kinds tree) (frame .some) (frame .shape) r inv e) (event-shows p tree frame (fields s) r inv shows e)
-      in
-      (ap₂ (λ (x : Outcome) (xs : List Outcome). x ∷ xs) (event-tells p tree frame (fields s) r inv shows e) (rest .0), rest .1)
-
-pub follows : (p : ℕ) (tree : List ℕ) → startVerdict p tree .number ≡ 0 → (es : List (List ℕ)) → Follows p tree es
-unfolding startAnswer idleAnswer
-follows p tree accepts es =
-    let frame = accepted-frame tree (start-tree-accepts p tree accepts) in
-    let inv = always p (kinds tree) (frame .some) (frame .shape) mostWorkers (omega arith) es in
-    let both =
-    along p tree frame es (stateOf (fresh p)) (start mostWorkers) (start-invariant p (kinds tree) (frame .some) (frame .shape) mostWorkers (omega arith))
-    (start-shows p (kinds tree) (frame .some) (frame .most))
-    in
-    let after = fields (stateAfter tree (stateOf (fresh p)) es) in
-    let run = afterEvents p (kinds tree) (start mostWorkers) es in
-    let first : startAnswer p tree .state ≡ stateOf (fresh p) = rw accepts refl in
-    record {
-      invariant = inv;
-      tells = rw first (both .0);
-      shows = rw first (both .1);
-      idleAs = rw first (idle-set-shown p tree frame after run inv (both .1));
-      idleMany = rw first (idle-count-shown p tree frame after run inv (both .1));
-      idleFrom = rw first (idle-lowest-shown p tree frame after run inv (both .1));
-    }
+  pub record Follows : Type 0 where
+    pub invariant : Invariant p (kinds tree) ruled
+    pub tells : outcomes tree (startAnswer p tree .state) es ≡ toldAll p (kinds tree) (start mostWorkers) es
+    pub shows : Shows p (kinds tree) (fields reached) ruled
+    pub idleAs : idleAnswer reached .set ≡ idleSet (ruled .workers)
+    pub idleMany : idleAnswer reached .count ≡ idleCount (ruled .workers)
+    pub idleFrom : idleAnswer reached .lowest ≡ idleLowest 0 (ruled .workers)

@@ -8,6 +8,7 @@
 --     Moves    an accepted run or steal: the next state shows the next run
 --     Answers  a run's and a steal's move beside the rules' verdict, case by case; a refusal keeps every field
 --     Events   each call on a state that shows a run: the start, an event, the idle workers
+--     Follows  a list of events: both go on alike, and the number of a steal is that of its trace record
 pub mod Scans
 pub mod Hops
 pub mod Hands
@@ -17,3 +18,4 @@ pub mod Tables
 pub mod Moves
 pub mod Answers
 pub mod Events
+pub mod Follows

@@ -1,7 +1,9 @@
 -- The state by value and the rules' run.
 --     Tie       how a state shows a run, and the list of events on both sides (to be read)
---     Follows   the theorem: from an accepted start on, every call is exactly the rules' step or refusal
+--     Follows   what is claimed of single events (to be read)
+--     Theorem   the claim, for every accepted start and every list of events (to be read)
 --     Laws      its proof
 pub mod Tie
-pub mod Laws
 pub mod Follows
+pub mod Theorem
+pub mod Laws

@@ -8,7 +8,8 @@ use lib.ListN.{length, getD}
 use lib.Dec.{eqb}
 use Rattle.rules.specs.Bytes.{any}
 use Rattle.rules.specs.Tree.{kindAt, isEnd, ordinal, taskEnd, cont}
-use Rattle.rules.specs.Scheduling.{workFirst, mostWorkers, pushes, phaseAt, Worker, Entry, Run, workerAt, hasRun, waits, isRun, oldest, judgeEvent}
+use Rattle.rules.specs.Scheduling.{workFirst, mostWorkers, pushes, phaseAt, Worker, Entry, Run, workerAt, hasRun, waits, isRun}
+use Rattle.rules.specs.Scheduling.{oldest, judgeEvent}
 use Rattle.rules.specs.Calls.{eventCall}
 use Rattle.run_spec.specs.Deques.{marked}
 use Rattle.run_spec.specs.declared.Outcome.{Outcome}

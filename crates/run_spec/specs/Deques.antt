@@ -1,15 +1,12 @@
 -- What the functions on the array of places answer, and what they leave in it. `place` is one byte for each step: 17 not run, 16
 -- run, w run and its pushed step is in worker w's deque.
-use Prim.Native.Nat.{ℕ, _-_, _≤_, _<_}
-use mathlib.Core.Path.{_≡_}
-use mathlib.Core.Bool.{Bool, true, cond}
+use Prim.Native.Nat.{ℕ, _-_}
+use mathlib.Core.Bool.{Bool, cond}
 use mathlib.Core.List.{List, [], _∷_, reverse}
 use mathlib.Core.Option.{Option, none, some}
-use lib.ListN.{length, getD, set}
+use lib.ListN.{getD, set}
 use lib.Dec.{eqb}
 use Rattle.rules.specs.Bytes.{count}
-use Rattle.rules.specs.Tree.{taskEnd}
-use Rattle.tree_tables.specs.Terms.{Openers}
 use Rattle.run_spec.specs.declared.Pusher.{Pusher}
 use Rattle.run_spec.specs.declared.Pusher.the-variants.{At, Nothing}
 
@@ -34,13 +31,6 @@ oldestMark place w low end = find (marked place w) (count low (end - low))
 unfoldable pub pusherOf : Option ℕ → Pusher
 pusherOf none = Nothing
 pusherOf (some q) = At (record { 0 = q })
-
--- A table of openers leads from step `end` to the steps before it that are marked with w: the task of each of these ends past
--- step `end`. So it is in a run where w holds `end`, by the order of the pushers.
-pub record Climbs (openers place : List ℕ) (w low end : ℕ) : Type 0 where
-  pub ks : List ℕ
-  pub table : Openers ks openers (length openers)
-  pub nested : (j : ℕ) → low ≤ j → j < end → marked place w j ≡ true → end < taskEnd ks j
 
 -- ---- stores
 

@@ -1,19 +1,18 @@
 -- A run, a steal and an event on the fields of a run's state: what each answers, and every field then. They are functions of the
 -- fields, the tree's bytes and the event alone, for any of them. On the states that a run leads to these are the rules; on any
 -- other a held step that the tree has not is none, and a tree with too many records is refused with 2.
-use Prim.Native.Nat.{ℕ, suc, _+_, _%_, _<_}
+use Prim.Native.Nat.{ℕ, suc, _+_, _%_}
 use mathlib.Core.Bool.{cond}
 use mathlib.Core.List.{List}
 use mathlib.Core.Option.{none, some}
 use lib.ListN.{length, getD, set, replicate}
 use lib.Dec.{eqb}
 use Rattle.rules.specs.Tree.{kinds}
-use Rattle.rules.specs.Scheduling.{mostWorkers, pushes}
-use Rattle.tree_tables.specs.Terms.{Ends, Openers}
+use Rattle.rules.specs.Scheduling.{pushes}
 use Rattle.run_spec.specs.declared.Outcome.{Outcome}
 use Rattle.run_spec.specs.declared.Outcome.the-variants.{Ran, Stole, Refused}
-use Rattle.run_spec.specs.Deques.{Climbs, oldestMark, robbed}
-use Rattle.run_spec.specs.Running.{WaitsAtLow, runNumber, heldNext, placeNext}
+use Rattle.run_spec.specs.Deques.{oldestMark, robbed}
+use Rattle.run_spec.specs.Running.{runNumber, heldNext, placeNext}
 use Rattle.run_spec.specs.Numbers.{numberBy, ordinalFrom}
 use Rattle.run_spec.specs.Stealing.{stealNumber}
 
@@ -40,14 +39,6 @@ fieldsOf place held phase low base steals policy =
 
 abbrev pub moveOf : Outcome → Fields → Move
 moveOf outcome after = record { outcome = outcome; after = after }
-
--- What a call asks of the tables that it is lent: they are the tree's, as far as they go, and lead from each held step to the steps
--- that are marked with its worker; and only a step at `low` may wait. A single event lends empty ones, of which nothing is asked.
-pub record Hints (tree ends openers place held low : List ℕ) : Type 0 where
-  pub taskEnds : Ends (kinds tree) ends (length ends)
-  pub opened : Openers (kinds tree) openers (length openers)
-  pub waits : (w : ℕ) → w < mostWorkers → WaitsAtLow (kinds tree) openers place held low w
-  pub climbs : (w : ℕ) → w < mostWorkers → getD held w 0 < length openers → Climbs openers place w (getD low w 0) (getD held w 0)
 
 -- ---- the start
 

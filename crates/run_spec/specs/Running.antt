@@ -1,7 +1,6 @@
 -- What running a step asks and does: whether the worker may run it, the step that it holds next, and the array of places then.
 -- `place` is one byte for each step: 17 not run, 16 run, w run and its pushed step is in worker w's deque.
-use Prim.Native.Nat.{ℕ, _-_, _<_}
-use mathlib.Core.Path.{_≡_}
+use Prim.Native.Nat.{ℕ, _-_}
 use mathlib.Core.Bool.{Bool, false, cond, not}
 use mathlib.Core.List.{List}
 use mathlib.Core.Option.{none, some}
@@ -21,12 +20,6 @@ allRun place first end = all (λ j. not (eqb (getD place j 0) 17)) (count first 
 -- A step after a finish child waits until all steps of the child have run, those of its descendants too: they stand between.
 unfoldable pub waitsFor : List ℕ → List ℕ → ℕ → Bool
 waitsFor ks place i = elim (finishBefore ks i) [ none ↦ false | some first ↦ not (allRun place first i) ]
-
--- Where a table of openers is lent, only a step at its worker's `low` may wait: a stolen one, with which a phase begins. So it is in
--- every run. An empty table is asked nothing.
-abbrev pub WaitsAtLow : List ℕ → List ℕ → List ℕ → List ℕ → List ℕ → ℕ → Type 0
-WaitsAtLow ks openers place held low w =
-    getD held w 0 < length openers → (getD held w 0 ≡ getD low w 0 → ⊥) → waitsFor ks place (getD held w 0) ≡ false
 
 -- ---- refusals
 

@@ -1,5 +1,5 @@
 -- What a steal asks and takes: whether it is refused before the deque is looked at, and the step that it takes, with its ordinal.
-use Prim.Native.Nat.{ℕ, _<_}
+use Prim.Native.Nat.{ℕ}
 use mathlib.Core.Bool.{cond, _||_}
 use mathlib.Core.List.{List}
 use mathlib.Core.Option.{Option, none, some}
@@ -26,8 +26,3 @@ stealNumber ks held t v =
 unfoldable pub takenOf : ℕ → List ℕ → ℕ → ℕ → Option ℕ → Taken
 takenOf p ks base from none = Nothing
 takenOf p ks base from (some q) = Of (record { 0 = q }) (record { 0 = pushes p ks q }) (record { 0 = ordinalFrom p ks base from q })
-
--- It fits the tables.
-abbrev pub Small : Taken → Type 0
-Small (Of pusher step ordinal) = (pusher .0 < 4095) × (step .0 < 65536) × (ordinal .0 < 65536)
-Small Nothing = 0 < 1

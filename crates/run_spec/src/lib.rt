@@ -4,6 +4,9 @@ use tree::Ordinal;
 use tree::Phase;
 use tree::Step;
 
+// What a worker that holds no step has for one.
+pub const NO_STEP: u16 = 65535;
+
 // The pusher of a step of a deque, or none.
 pub enum Pusher {
     At(Step),

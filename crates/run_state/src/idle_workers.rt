@@ -2,15 +2,15 @@
 
 ghost use mathlib.Core.Path.{_≡_};
 ghost use Rattle.run_spec.specs.Idle.{idleBits};
-use run_deques::MOST_WORKERS;
+use policy::WORKERS;
 use tree::MOST_STEPS;
 use tree_tables::wide;
 
 // The set of idle workers: worker w is bit w.
-pub fn idle_set(held: &[u16; 16]) -> u16
+pub fn idle_set(held: &[u16; WORKERS]) -> u16
     ensures { λ r. ⌜ r ≡ idleBits (now (held .entry)) 0 16 ⌝ }
 {
-    let mut w = MOST_WORKERS;
+    let mut w = WORKERS;
     let mut set: u16 = 0;
     while 0 < w {
         w -= 1;

@@ -6,21 +6,23 @@ pub mod start;
 
 ghost use mathlib.Core.Path.{_≡_};
 ghost use Rattle.run_state.specs.Contract.{runAnswer, stealAnswer, eventAnswer, idleAnswer};
+use policy::WORKERS;
 use run_spec::Outcome;
+use tree::MOST_STEPS;
 
 // The state of a run.
 #[repr(C)]
 pub struct RunState {
     // for each step NOT_RUN, RUN, or the worker in whose deque the step is that it pushed
-    pub place: [u8; 4095],
+    pub place: [u8; MOST_STEPS],
     // for each worker the step that it holds, or NO_STEP
-    pub held: [u16; 16],
+    pub held: [u16; WORKERS],
     // its latest phase
-    pub phase: [u16; 16],
+    pub phase: [u16; WORKERS],
     // a step below which no step is marked with it
-    pub low: [u16; 16],
+    pub low: [u16; WORKERS],
     // and, work-first, that step's ordinal
-    pub base: [u16; 16],
+    pub base: [u16; WORKERS],
     // how many steals there were
     pub steals: u16,
     pub policy: u8,

@@ -5,19 +5,21 @@ ghost use Rattle.run_spec.specs.Moves.{fresh};
 ghost use Rattle.run_state.specs.Contract.{stateOf, zeros, startAnswer};
 use super::RunState;
 use super::Started;
+use policy::WORKERS;
 use run_deques::NOT_RUN;
-use run_event::run::NO_STEP;
+use run_spec::NO_STEP;
+use tree::MOST_STEPS;
 
 // The state beside a refusal.
 fn no_state() -> RunState
     ensures { λ r. ⌜ r ≡ zeros ⌝ }
 {
     RunState {
-        place: [0; 4095],
-        held: [0; 16],
-        phase: [0; 16],
-        low: [0; 16],
-        base: [0; 16],
+        place: [0; MOST_STEPS],
+        held: [0; WORKERS],
+        phase: [0; WORKERS],
+        low: [0; WORKERS],
+        base: [0; WORKERS],
         steals: 0,
         policy: 0,
     }
@@ -27,14 +29,14 @@ fn no_state() -> RunState
 fn first_state(policy: u8) -> RunState
     ensures { λ r. ⌜ r ≡ stateOf (fresh policy) ⌝ }
 {
-    let mut held = [NO_STEP; 16];
+    let mut held = [NO_STEP; WORKERS];
     held[0] = 0;
     RunState {
-        place: [NOT_RUN; 4095],
+        place: [NOT_RUN; MOST_STEPS],
         held,
-        phase: [0; 16],
-        low: [0; 16],
-        base: [0; 16],
+        phase: [0; WORKERS],
+        low: [0; WORKERS],
+        base: [0; WORKERS],
         steals: 0,
         policy,
     }

@@ -17,7 +17,7 @@ pub struct Ordinal(pub usize);
 pub struct Phase(pub usize);
 
 // Bytes of a record.
-pub const RECORD: usize = 8;
+pub const TREE_RECORD: usize = 8;
 
 // The most records of a tree.
 pub const MOST_STEPS: usize = 4095;
@@ -33,7 +33,7 @@ pub const END: u8 = 3;
 pub fn steps(tree: &[u8]) -> usize
     ensures { λ r. ⌜ r ≡ length (kinds (now (tree .entry))) ⌝ }
 {
-    tree.len() / RECORD
+    tree.len() / TREE_RECORD
 }
 
 // The kind of a step's record, 0 where the tree has no such step.
@@ -41,8 +41,8 @@ pub fn kind(tree: &[u8], step: Step) -> u8
     ensures { λ r. ⌜ r ≡ kindAt (kinds (now (tree .entry))) (step .0) ⌝ }
 {
     let i = step.0;
-    if i < tree.len() / RECORD {
-        tree[RECORD * i]
+    if i < tree.len() / TREE_RECORD {
+        tree[TREE_RECORD * i]
     } else {
         0
     }
@@ -60,8 +60,8 @@ pub fn weight(tree: &[u8], step: Step) -> u32
     ensures { λ r. ⌜ r ≡ getD (weights (now (tree .entry))) (step .0) 0 ⌝ }
 {
     let i = step.0;
-    if tree.len() / RECORD <= i {
+    if tree.len() / TREE_RECORD <= i {
         return 0;
     }
-    words::word(tree, RECORD * i + 4)
+    words::word(tree, TREE_RECORD * i + 4)
 }

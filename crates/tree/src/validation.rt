@@ -10,7 +10,7 @@ use super::ASYNC;
 use super::Accepted;
 use super::END;
 use super::MOST_STEPS;
-use super::RECORD;
+use super::TREE_RECORD;
 
 // The most tasks open together, the root counted.
 const MOST_OPEN: usize = 64;
@@ -19,11 +19,11 @@ const MOST_OPEN: usize = 64;
 pub fn wrong_length(tree: &[u8]) -> bool
     ensures { λ r. ⌜ r ≡ wrongLength (now (tree .entry)) ⌝ }
 {
-    let n = tree.len() / RECORD;
+    let n = tree.len() / TREE_RECORD;
     if n == 0 {
         return true;
     }
-    if tree.len() % RECORD != 0 {
+    if tree.len() % TREE_RECORD != 0 {
         return true;
     }
     if MOST_STEPS < n {
@@ -37,7 +37,7 @@ fn well_formed(tree: &[u8], i: usize) -> bool
     requires { ⌜ i < length (kinds (now tree)) ⌝ }
     ensures { λ r. ⌜ r ≡ wellFormed (getD (treeRecords (now (tree .entry))) i []) ⌝ }
 {
-    let head = super::words::word(tree, RECORD * i);
+    let head = super::words::word(tree, TREE_RECORD * i);
     if head < ASYNC as u32 {
         return false;
     }
@@ -53,7 +53,7 @@ pub fn judge(tree: &[u8], i: usize, depth: usize) -> u8
         return 3;
     }
     if depth == MOST_OPEN {
-        if tree[RECORD * i] == END {
+        if tree[TREE_RECORD * i] == END {
             return 0;
         }
         return 4;
@@ -75,7 +75,7 @@ pub fn accept(tree: &[u8]) -> Accepted
             steps: 0,
         };
     }
-    let n = tree.len() / RECORD;
+    let n = tree.len() / TREE_RECORD;
     let mut i = 0;
     let mut depth: usize = 1;
     while i < n {
@@ -87,7 +87,7 @@ pub fn accept(tree: &[u8]) -> Accepted
                 steps: 0,
             };
         }
-        let k = tree[RECORD * i];
+        let k = tree[TREE_RECORD * i];
         i += 1;
         if k == END {
             depth -= 1;

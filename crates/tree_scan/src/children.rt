@@ -7,8 +7,8 @@ use super::FinishChild;
 use super::task_of;
 use tree::END;
 use tree::FINISH;
-use tree::RECORD;
 use tree::Step;
+use tree::TREE_RECORD;
 use tree::kind;
 
 // The step after the end of the child that a step opens: its continuation. Where the tree has no such step, or ends before
@@ -16,7 +16,7 @@ use tree::kind;
 pub fn cont(tree: &[u8], step: Step) -> Step
     ensures { λ r. ⌜ r .0 ≡ contAt (kinds (now (tree .entry))) (step .0) ⌝ }
 {
-    let n = tree.len() / RECORD;
+    let n = tree.len() / TREE_RECORD;
     let i = step.0;
     if n <= i {
         return Step(n);
@@ -27,7 +27,7 @@ pub fn cont(tree: &[u8], step: Step) -> Step
         if n <= j {
             return Step(n);
         }
-        let k = tree[RECORD * j];
+        let k = tree[TREE_RECORD * j];
         j += 1;
         if k == END {
             left -= 1;

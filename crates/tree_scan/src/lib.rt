@@ -7,8 +7,8 @@ ghost use Rattle.rules.specs.Tree.{kinds, ordinal};
 ghost use Rattle.tree_scan.specs.Contract.{taskOf};
 use tree::END;
 use tree::Ordinal;
-use tree::RECORD;
 use tree::Step;
+use tree::TREE_RECORD;
 
 // A finish child by its first step, or none.
 pub enum FinishChild {
@@ -25,14 +25,14 @@ pub struct Task {
 pub fn task_of(tree: &[u8], step: Step) -> Task
     ensures { λ r. ⌜ r ≡ taskOf (kinds (now (tree .entry))) (step .0) ⌝ }
 {
-    let n = tree.len() / RECORD;
+    let n = tree.len() / TREE_RECORD;
     let i = step.0;
     let mut j = if i < n { i } else { n };
     let mut ended: usize = 0;
     let mut children: usize = 0;
     while 0 < j {
         j -= 1;
-        if tree[RECORD * j] == END {
+        if tree[TREE_RECORD * j] == END {
             ended += 1;
             continue;
         }

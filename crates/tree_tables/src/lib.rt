@@ -10,7 +10,7 @@ ghost use lib.ListN.{length};
 ghost use Rattle.rules.specs.Tree.{kinds, treeVerdict};
 ghost use Rattle.tree_tables.specs.Terms.{Ends, Openers};
 use tree::END;
-use tree::RECORD;
+use tree::TREE_RECORD;
 
 // An entry of a table as an index.
 pub fn wide(x: u16) -> usize
@@ -28,10 +28,10 @@ pub fn fill(tree: &[u8], ends: &mut [u16], openers: &mut [u16])
     ensures ends { λ r. ⌜ Ends (kinds (now (tree .entry))) (now (ends .exit)) (length (kinds (now (tree .entry)))) ⌝ }
     ensures openers { λ r. ⌜ Openers (kinds (now (tree .entry))) (now (openers .exit)) (length (kinds (now (tree .entry)))) ⌝ }
 {
-    let mut j = tree.len() / RECORD;
+    let mut j = tree.len() / TREE_RECORD;
     while 0 < j {
         j -= 1;
-        if tree[RECORD * j] == END {
+        if tree[TREE_RECORD * j] == END {
             ends[j] = (j + 1) as u16;
             continue;
         }

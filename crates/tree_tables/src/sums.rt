@@ -4,9 +4,13 @@ ghost use Prim.Native.Nat.{_≤_, _<_};
 ghost use lib.ListN.{length};
 ghost use Rattle.rules.specs.Tree.{kinds, weights};
 ghost use Rattle.tree_tables.specs.Terms.{Sums};
-use tree::RECORD;
+use tree::MOST_STEPS;
 use tree::Step;
+use tree::TREE_RECORD;
 use tree::weight;
+
+// Entries of the table: one more than there are steps, since the last has what all weigh.
+pub const SUMS: usize = MOST_STEPS + 1;
 
 // Adds up the weights.
 pub fn add_up(tree: &[u8], sums: &mut [u64])
@@ -14,7 +18,7 @@ pub fn add_up(tree: &[u8], sums: &mut [u64])
     requires { ⌜ length (kinds (now tree)) < length (now sums) ⌝ }
     ensures { λ r. ⌜ Sums (weights (now (tree .entry))) (now (sums .exit)) (length (kinds (now (tree .entry)))) ⌝ }
 {
-    let n = tree.len() / RECORD;
+    let n = tree.len() / TREE_RECORD;
     sums[0] = 0;
     let mut j = 0;
     let mut total: u64 = 0;

@@ -21,11 +21,13 @@ use Rattle.replay_invariant.specs.Laws.Always.{always-split}
 use Rattle.replay_invariant.specs.Laws.Traces.{trace-replays}
 use Rattle.replay_invariant.specs.Laws.Consequences.{list-none, list-length, list-once, list-within}
 use Rattle.run_state.specs.Contract.{startAnswer}
-use Rattle.agreement.specs.Agreement.{Event, entriesOf, replayedWorkers, liveWorkers, shortOutputs, shortList, live, steals, recorded, traced, logged, replayed, listed, Same, Agreement}
+use Rattle.agreement.specs.Agreement.{Event, entriesOf, replayedWorkers, liveWorkers, shortOutputs, shortList, live, steals}
+use Rattle.agreement.specs.Agreement.{recorded, traced, logged, replayed, listed, Same, Agreement}
 use Rattle.agreement.specs.Laws.Live.{pair, runAfter, call-number, live-same, live-accepted, live-runs, live-steals}
 use Rattle.agreement.specs.Laws.Records.{Small, entries-back, trace-back, workers-back}
 use Rattle.agreement.specs.Laws.Phases.{PhasesBelow, StepsBelow, below-small}
-use Rattle.agreement.specs.Laws.Leading.{log-steps, first-leads, log-leading, finished-whole, whole-finished, finished-counts}
+use Rattle.agreement.specs.Laws.Leading.{log-steps, first-leads, log-leading, finished-whole, whole-finished}
+use Rattle.agreement.specs.Laws.Leading.{finished-counts}
 use Rattle.agreement.specs.Laws.Recorded.{recorded-is, recorded-one, recorded-number}
 use Rattle.agreement.specs.Laws.Replayed.{replayed-is, replayed-number}
 

@@ -10,7 +10,8 @@ use Rattle.rules.specs.Tree.{kinds}
 use Rattle.rules.specs.Program.{inputTree}
 use Rattle.phases_text.specs.Number.Laws.Texts.{text-is}
 use Rattle.phases_text.specs.Input.Terms.{Parts}
-use Rattle.phases_text.specs.Laws.Phases.{Called, parts-called, called-refused, called-steps, called-room, called-phases, called-listed}
+use Rattle.phases_text.specs.Laws.Phases.{Called, parts-called, called-refused, called-steps, called-room, called-phases}
+use Rattle.phases_text.specs.Laws.Phases.{called-listed}
 use Rattle.phases_text.proofs.list_phases.Statement.{statement}
 use Rattle.phases_text.proofs.list_phases.Tie as tie
 

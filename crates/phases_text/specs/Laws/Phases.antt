@@ -16,7 +16,8 @@ use Rattle.replay.specs.Contract.{answers}
 use Rattle.phases_text.specs.Report.Terms.{refusalText}
 use Rattle.phases_text.specs.Line.Terms.{linesOf, Phased}
 use Rattle.phases_text.specs.Input.Terms.{Parts}
-use Rattle.phases_text.specs.Laws.Verdicts.{start-steps, same-verdict, call-accepted, call-refused, call-number, accepted-start}
+use Rattle.phases_text.specs.Laws.Verdicts.{start-steps, same-verdict, call-accepted, call-refused, call-number}
+use Rattle.phases_text.specs.Laws.Verdicts.{accepted-start}
 use Rattle.phases_text.specs.Laws.Lists.{runOf, listed-lines, listed-phases, listed-room}
 
 -- What is known once replay is called: what it answers, and what it leaves in the run list that it is lent.

@@ -10,7 +10,8 @@ use Rattle.run_spec.specs.Moves.{Fields, fieldsOf}
 use Rattle.run_refinement.specs.Laws.Hints.{shows-hints}
 use Rattle.tree_tables.specs.Laws.Fronts.{start-frame}
 use Rattle.record_walk.specs.Laws.Recording.{Recording}
-use Rattle.record_walk.specs.Laws.Turns.{Turn, Weighed, fresh-arrays, turn-start, turn-done, turn-refused, ran-fits, ran-turn, stole-fits, stole-movable, stole-turn}
+use Rattle.record_walk.specs.Laws.Turns.{Turn, Weighed, fresh-arrays, turn-start, turn-done, turn-refused, ran-fits}
+use Rattle.record_walk.specs.Laws.Turns.{ran-turn, stole-fits, stole-movable, stole-turn}
 use Rattle.record_walk.proofs.walk.Statement.{statement}
 use Rattle.record_walk.proofs.walk.Tie as tie
 

@@ -12,7 +12,8 @@ use lib.Dec.{eqb}
 use borrow.Author.Tests.{eqb-true, eqb-false}
 use Rattle.rules.specs.Bytes.{records, Verdict, accepted, sum, Walked, walk}
 use Rattle.rules.specs.Tree.{kinds, weights}
-use Rattle.rules.specs.Scheduling.{mostWorkers, phaseAt, Worker, Run, start, workerAt, isRun, holdsStep, oldest, steal, judgeEvent, nextRun}
+use Rattle.rules.specs.Scheduling.{mostWorkers, phaseAt, Worker, Run, start, workerAt, isRun, holdsStep, oldest, steal}
+use Rattle.rules.specs.Scheduling.{judgeEvent, nextRun}
 use Rattle.rules.specs.Traces.{traceNumber, traceBytes, entryBytes, loads}
 use Rattle.rules.specs.Calls.{startVerdict, eventCall, recordWalk}
 use Rattle.tree.specs.declared.Phase.{Phase}
@@ -24,7 +25,8 @@ use Rattle.tree_scan.specs.Laws.Frames.{Frame, accepted-frame}
 use Rattle.tree_tables.specs.Terms.{Ends, Sums, weightBefore}
 use Rattle.run_invariant.specs.Invariant.{Invariant}
 use Rattle.run_invariant.specs.Laws.Weights.{span}
-use Rattle.run_invariant.specs.Laws.Moves.{sum-one, ran as ranBy, run-is, begin-length, begin-robbed, enriched, steal-thief, victim-rich, first-within, second-within, run-held, event-runs, event-steals}
+use Rattle.run_invariant.specs.Laws.Moves.{sum-one, ran as ranBy, run-is, begin-length, begin-robbed, enriched, steal-thief}
+use Rattle.run_invariant.specs.Laws.Moves.{victim-rich, first-within, second-within, run-held, event-runs, event-steals}
 use Rattle.run_invariant.specs.Laws.Always.{start-invariant, event-keeps}
 use Rattle.run_invariant.specs.Laws.Consequences.{covered-once, runs-most, steals-most}
 use Rattle.run_spec.specs.declared.TraceNumber.{TraceNumber}
@@ -34,7 +36,7 @@ use Rattle.run_spec.specs.Numbers.{numberValue}
 use Rattle.run_spec.specs.Moves.{Fields, fresh, eventMove}
 use Rattle.record_walk.specs.declared.Ended.{Ended}
 use Rattle.run_refinement.specs.Tie.{Shows, heldStep, told}
-use Rattle.run_refinement.specs.Follows.{number-traced}
+use Rattle.run_refinement.specs.Laws.Follows.{number-traced}
 use Rattle.run_refinement.specs.Laws.Moves.{Known, held-some}
 use Rattle.run_refinement.specs.Laws.Events.{start-shows, event-tells, event-shows}
 use Rattle.buffers.specs.Terms.{recordPut}

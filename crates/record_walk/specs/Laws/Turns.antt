@@ -21,7 +21,8 @@ use Rattle.tree.specs.declared.Step.{Step}
 use Rattle.loads.specs.Terms.{weightBetween, Movable}
 use Rattle.loads.specs.Laws.Loads.{part-between}
 use Rattle.tree_tables.specs.Laws.Fronts.{start-frame}
-use Rattle.record_walk.specs.Laws.Recording.{Recording, Walks, recording-start, recording-done, event-refused, ran-room, ran-next, stole-room, stole-weight, stole-next}
+use Rattle.record_walk.specs.Laws.Recording.{Recording, Walks, recording-start, recording-done, event-refused, ran-room}
+use Rattle.record_walk.specs.Laws.Recording.{ran-next, stole-room, stole-weight, stole-next}
 
 -- What holds of a state holds of an equal one, and the count of steals is the state's.
 at-state : {p : ℕ} {tree events : List ℕ} {k : ℕ} {s : Fields} {log trace ls : List ℕ} {logs steals : ℕ} (after : Fields) → s ≡ after

@@ -13,7 +13,8 @@ use lib.Dec.{eqb}
 use borrow.Author.Tests.{eqb-true, eq-eqb, ne-eqb, le-leb, lt-leb}
 use Rattle.rules.specs.Bytes.{sum, walk}
 use Rattle.rules.specs.Scheduling.{workFirst, helpFirst, Phase, firstPhases, phaseAt, begin}
-use Rattle.rules.specs.Traces.{latestPhase, numberAllowed, stolenStep, recordNumber, judgeRead, judgeTraceRecord, nextPhases, replayWalk}
+use Rattle.rules.specs.Traces.{latestPhase, numberAllowed, stolenStep, recordNumber, judgeRead, judgeTraceRecord, nextPhases}
+use Rattle.rules.specs.Traces.{replayWalk}
 use Rattle.tree_scan.specs.Laws.Shape.{Shape}
 use Rattle.tree_scan.specs.Laws.Frames.{endAt, sizeAt}
 use Rattle.run_invariant.specs.Laws.Weights.{pushed-within}

@@ -18,10 +18,13 @@ use Rattle.rules.specs.Traces.{fromStep, covers}
 use Rattle.tree_scan.specs.Laws.Shape.{Shape}
 use Rattle.tree_scan.specs.Laws.Frames.{endAt, sizeAt}
 use Rattle.run_invariant.specs.Laws.Counts.{Has, has-cases, has-none, one-true, has-head, has-tail, cond-same}
-use Rattle.run_invariant.specs.Laws.Weights.{end-within, nested-end, inside-from, from-inside, outside-from, span-in, from-self, pushed-within}
+use Rattle.run_invariant.specs.Laws.Weights.{end-within, nested-end, inside-from, from-inside, outside-from, span-in, from-self}
+use Rattle.run_invariant.specs.Laws.Weights.{pushed-within}
 use Rattle.run_invariant.specs.Laws.Moves.{begin-length, begin-new, begin-robbed, begin-other, begin-same}
 use Rattle.replay_invariant.specs.Invariant.{Taken, Split}
-use Rattle.replay_invariant.specs.Laws.Parts.{PartOf, part-inside, entered, covers-counts, covered-inside, covered-kept, covered-by, first-covered, pushed-covered, same-phase, stolen-begins, covers-robbed, covering}
+use Rattle.replay_invariant.specs.Laws.Parts.{PartOf, part-inside, entered, covers-counts, covered-inside, covered-kept}
+use Rattle.replay_invariant.specs.Laws.Parts.{covered-by, first-covered, pushed-covered, same-phase, stolen-begins}
+use Rattle.replay_invariant.specs.Laws.Parts.{covers-robbed, covering}
 
 -- The label of a step that has none.
 abbrev pub free : ℕ

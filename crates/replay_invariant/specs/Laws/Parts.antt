@@ -16,8 +16,10 @@ use Rattle.rules.specs.Traces.{fromStep, covers}
 use Rattle.tree_scan.specs.Laws.Shape.{Shape}
 use Rattle.tree_scan.specs.Laws.Frames.{endAt, sizeAt}
 use Rattle.run_invariant.specs.Invariant.{self, Pushed}
-use Rattle.run_invariant.specs.Laws.Counts.{and-both, Has, has-sum, no-members, sum-none, any-sum, any-one, not-so, one-true, sum-alike, sum-plus, sum-place, sum-two, sum-some}
-use Rattle.run_invariant.specs.Laws.Weights.{span, end-within, cont-inside, nested-end, inside-from, from-inside, span-one, span-in, span-inside, span-self, self-same, pushed-within}
+use Rattle.run_invariant.specs.Laws.Counts.{and-both, Has, has-sum, no-members, sum-none, any-sum, any-one, not-so, one-true}
+use Rattle.run_invariant.specs.Laws.Counts.{sum-alike, sum-plus, sum-place, sum-two, sum-some}
+use Rattle.run_invariant.specs.Laws.Weights.{span, end-within, cont-inside, nested-end, inside-from, from-inside, span-one}
+use Rattle.run_invariant.specs.Laws.Weights.{span-in, span-inside, span-self, self-same, pushed-within}
 use Rattle.run_invariant.specs.Laws.Moves.{robbed}
 use Rattle.replay_invariant.specs.Invariant.{Cut, Split}
 

@@ -13,13 +13,15 @@ use borrow.Author.Tests.{ltb-true, leb-true, eqb-true, eqb-false, not-true, lt-l
 use Rattle.rules.specs.Bytes.{count, all, any, sum}
 use Rattle.rules.specs.Tree.{kindAt, isAsync, isFinish, isEnd, task, ordinal, taskEnd, cont, finishBefore}
 use Rattle.rules.specs.Scheduling.{workFirst, helpFirst, pushesChild, pushes, Phase}
-use Rattle.rules.specs.Traces.{fromStep, covers, lastStolen, frontier, childCount, taskStep, ordinalAllowed, startsAsync, followsFinish, serialAllowed, numberAllowed, stolenStep}
+use Rattle.rules.specs.Traces.{fromStep, covers, lastStolen, frontier, childCount, taskStep, ordinalAllowed, startsAsync}
+use Rattle.rules.specs.Traces.{followsFinish, serialAllowed, numberAllowed, stolenStep}
 use Rattle.tree_scan.specs.Laws.Shape.{Shape, child-inside}
 use Rattle.tree_scan.specs.Laws.Frames.{endAt, sizeAt}
 use Rattle.tree_scan.specs.Laws.Places.{task-child, ordinal-child, finish-child, finish-cont, part}
 use Rattle.run_invariant.specs.Invariant.{Pushed, frontierEnd}
 use Rattle.run_invariant.specs.Laws.Counts.{and-both, all-count, Has, has-head, has-none, has-sum, any-one, has-tail}
-use Rattle.run_invariant.specs.Laws.Weights.{span, end-within, cont-inside, from-inside, span-in, span-inside, span-self, pushed-within}
+use Rattle.run_invariant.specs.Laws.Weights.{span, end-within, cont-inside, from-inside, span-in, span-inside, span-self}
+use Rattle.run_invariant.specs.Laws.Weights.{pushed-within}
 use Rattle.run_invariant.specs.Laws.Moves.{sum-one, robbed}
 use Rattle.run_invariant.specs.Laws.Phase.{first-pushes, last-stolen}
 use Rattle.replay_invariant.specs.Invariant.{Cut, Taken}

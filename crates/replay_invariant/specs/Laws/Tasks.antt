@@ -15,7 +15,8 @@ use Rattle.rules.specs.Tree.{kindAt, isEnd, task, ordinal, taskEnd, cont}
 use Rattle.rules.specs.Traces.{childCount, taskStep}
 use Rattle.tree_scan.specs.Laws.Shape.{Shape, after, child-inside, tree-ind}
 use Rattle.tree_scan.specs.Laws.Frames.{endAt, sizeAt, cont-after}
-use Rattle.tree_scan.specs.Laws.Places.{Part, part, task-child, ordinal-child, task-cont as cont-task, ordinal-cont, last-step, root-first}
+use Rattle.tree_scan.specs.Laws.Places.{Part, part, task-child, ordinal-child, task-cont as cont-task, ordinal-cont, last-step}
+use Rattle.tree_scan.specs.Laws.Places.{root-first}
 use Rattle.run_invariant.specs.Laws.Counts.{not-so}
 use Rattle.run_invariant.specs.Laws.Weights.{end-size, cont-inside}
 

@@ -12,8 +12,11 @@ use lib.Dec.{eqb}
 use borrow.Author.Tests.{lt-ltb, le-ltb, le-leb, lt-leb, eq-eqb, ne-eqb, eqb-false}
 use Rattle.rules.specs.Bytes.{records, cut, twoBytes, any, sum, accepted, Walked, walk}
 use Rattle.rules.specs.Tree.{kindAt, isAsync, isFinish, isEnd, task, ordinal, taskEnd, cont}
-use Rattle.rules.specs.Scheduling.{workFirst, helpFirst, pushesChild, pushes, Phase, firstPhases, phaseAt, begin, Steal, Run, idleWorker, start, workerAt, holdsStep, isRun, oldest, steal, judgeEvent, nextRun}
-use Rattle.rules.specs.Traces.{traceNumber, traceBytes, fromStep, covers, latestPhase, lastStolen, frontier, childCount, taskStep, ordinalAllowed, startsAsync, followsFinish, serialAllowed, numberAllowed, stolenStep, recordNumber, judgeRead, judgeTraceRecord, nextPhases, replayWalk}
+use Rattle.rules.specs.Scheduling.{workFirst, helpFirst, pushesChild, pushes, Phase, firstPhases, phaseAt, begin, Steal, Run}
+use Rattle.rules.specs.Scheduling.{idleWorker, start, workerAt, holdsStep, isRun, oldest, steal, judgeEvent, nextRun}
+use Rattle.rules.specs.Traces.{traceNumber, traceBytes, fromStep, covers, latestPhase, lastStolen, frontier, childCount, taskStep}
+use Rattle.rules.specs.Traces.{ordinalAllowed, startsAsync, followsFinish, serialAllowed, numberAllowed, stolenStep, recordNumber}
+use Rattle.rules.specs.Traces.{judgeRead, judgeTraceRecord, nextPhases, replayWalk}
 use Rattle.rules.specs.Calls.{eventCall, afterEvents}
 use Rattle.tree.specs.Laws.Records.{number-back}
 use Rattle.tree_scan.specs.Laws.Shape.{Shape}
@@ -23,7 +26,9 @@ use Rattle.run_invariant.specs.Invariant.{self, logOf, Pushed, PhaseFacts, Inva
 use Rattle.run_invariant.specs.Laws.Counts.{count-all, any-sum}
 use Rattle.run_invariant.specs.Laws.Weights.{span, end-within, span-weighs, span-some, span-most, span-in, span-inside, span-self}
 use Rattle.run_invariant.specs.Laws.Phase.{first-pushes, held-within, oldest-pushed, oldest-within, oldest-last}
-use Rattle.run_invariant.specs.Laws.Moves.{getD-alike, map-one, some-holds, holds-some, onward, ran, run-is, ran-here, ran-other, enriched, lightened, steal-thief, steal-other, steal-victim, victim-rich, first-within, second-within, run-held, event-runs, event-steals, sum-one, rich-holds, held-facts}
+use Rattle.run_invariant.specs.Laws.Moves.{getD-alike, map-one, some-holds, holds-some, onward, ran, run-is, ran-here, ran-other}
+use Rattle.run_invariant.specs.Laws.Moves.{enriched, lightened, steal-thief, steal-other, steal-victim, victim-rich, first-within}
+use Rattle.run_invariant.specs.Laws.Moves.{second-within, run-held, event-runs, event-steals, sum-one, rich-holds, held-facts}
 use Rattle.run_invariant.specs.Laws.Always.{start-invariant, event-keeps}
 use Rattle.run_invariant.specs.Laws.Consequences.{oldest-frontier}
 use Rattle.replay_invariant.specs.Laws.Tasks.{step-of, task-step, at-most-count}

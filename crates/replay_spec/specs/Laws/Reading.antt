@@ -14,7 +14,8 @@ use borrow.Author.Tests.{le-leb, lt-leb, eq-eqb, ne-eqb}
 use Rattle.rules.specs.Bytes.{count, all}
 use Rattle.rules.specs.Tree.{task, ordinal, taskEnd}
 use Rattle.rules.specs.Scheduling.{workFirst, helpFirst, Phase, phaseAt}
-use Rattle.rules.specs.Traces.{covers, frontier, childCount, taskStep, ordinalAllowed, startsAsync, followsFinish, serialAllowed, numberAllowed, stolenStep}
+use Rattle.rules.specs.Traces.{covers, frontier, childCount, taskStep, ordinalAllowed, startsAsync, followsFinish, serialAllowed}
+use Rattle.rules.specs.Traces.{numberAllowed, stolenStep}
 use Rattle.tree_scan.specs.Laws.Shape.{Shape}
 use Rattle.tree_scan.specs.Laws.Frames.{endAt, sizeAt}
 use Rattle.tree_tables.specs.Terms.{Openers}

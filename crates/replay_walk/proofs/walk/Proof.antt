@@ -13,7 +13,8 @@ use Rattle.replay_spec.specs.Naming.{named}
 use Rattle.replay_spec.specs.Reading.{Reading}
 use Rattle.loads.specs.Terms.{Movable}
 use Rattle.replay_spec.specs.Entries.{judgedWorkers, Entry}
-use Rattle.replay_walk.specs.Laws.Retracing.{Retracing, Tables, tables-filled, label-room, retrace-start, retrace-end, retrace-judged}
+use Rattle.replay_walk.specs.Laws.Retracing.{Retracing, Tables, tables-filled, label-room, retrace-start, retrace-end}
+use Rattle.replay_walk.specs.Laws.Retracing.{retrace-judged}
 use Rattle.replay_walk.specs.Laws.Turns.{two-workers, read-ready, retrace-broken, begin-ready, part-movable, retrace-begun}
 use Rattle.replay_walk.proofs.walk.Statement.{statement}
 use Rattle.replay_walk.proofs.walk.Tie as tie

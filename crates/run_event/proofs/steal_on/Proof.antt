@@ -4,7 +4,7 @@ use mathlib.Core.Path.{refl, sym, ap, _∙_}
 use lib.ListN.{length, getD}
 use Rattle.rules.specs.Tree.{kinds}
 use Rattle.run_spec.specs.declared.Taken.the-variants.{Of}
-use Rattle.run_spec.specs.Stealing.{Small}
+use Rattle.run_spec.specs.Terms.{Small}
 use Rattle.run_spec.specs.Laws.Stealing.{steal-allowed}
 use Rattle.run_spec.specs.Moves.{Fields, fieldsOf, moveOf}
 use Rattle.run_spec.specs.Laws.Moves.{steal-refused, steal-empty, steal-takes}
@@ -75,6 +75,12 @@ enum-known-pusher c = c .match .keys1
 small : (c : tie.After-pusher) → let x = c .pusher .given .0 in Small (Of (x .0) (x .1 .0) (x .1 .1 .0))
 small c = rw (c .pusher .given .1) at (c .before .before .take-step .ensures .1 .1)
 
+cast-begun : tie.Need-cast-begun
+cast-begun c = search needs
+
+rem-begun : tie.Need-rem-begun
+rem-begun c = search needs
+
 add-begun : tie.Need-add-begun
 add-begun c = search needs
 
@@ -134,6 +140,8 @@ steal-on-spec =
     element-copy-out-take-step
     take-step-requires
     enum-known-pusher
+    cast-begun
+    rem-begun
     add-begun
     settle-requires
     trace-number-requires

@@ -9,14 +9,22 @@ use native.Mathlib.Omega.{arith}
 use lib.ListN.{length, take, getD, length-append}
 use borrow.Author.Tests.{eq-eqb, ne-eqb}
 use Rattle.rules.specs.Bytes.{any, sum}
-use Rattle.rules.specs.Scheduling.{afterRun, Phase, firstPhases, phaseAt, Worker, Run, start, idleWorker, workerAt, hasRun, waits, isRun, judgeRun, runStep, holdsStep, judgeSteal, oldest, steal, judgeEvent, nextRun}
+use Rattle.rules.specs.Scheduling.{afterRun, Phase, firstPhases, phaseAt, Worker, Run, start, idleWorker, workerAt, hasRun, waits}
+use Rattle.rules.specs.Scheduling.{isRun, judgeRun, runStep, holdsStep, judgeSteal, oldest, steal, judgeEvent, nextRun}
 use Rattle.rules.specs.Calls.{eventCall, afterEvents}
 use Rattle.tree_scan.specs.Laws.Shape.{Shape}
 use Rattle.tree_scan.specs.Laws.Frames.{endAt, sizeAt}
 use Rattle.run_invariant.specs.Invariant.{logOf, stack, pending, self, opening, Pushed, PhaseFacts, WorkerFacts, Invariant}
 use Rattle.run_invariant.specs.Laws.Phase.{phase-begins, phase-runs, phase-robbed, oldest-pushed, oldest-within}
 use Rattle.run_invariant.specs.Laws.Waiting.{waited-more}
-use Rattle.run_invariant.specs.Laws.Moves.{sum-one, sum-replicate, getD-alike, map-one, length-dropLast, log-own, log-other, pending-latest, pending-past, pending-idle, pending-same, some-holds, some-stack, holds-some, none-stack, worker-facts, after-idle, after-deque, onward, ran, run-is, ran-here, ran-other, ran-sum, robbed, begin-length, begin-new, begin-robbed, begin-other, begin-same, begin-map, enriched, lightened, steal-thief, steal-other, steal-victim, steal-sum, thief-idle, victim-rich, first-within, second-within, run-held, run-free, event-runs, event-steals, rich-holds, held-facts}
+use Rattle.run_invariant.specs.Laws.Moves.{sum-one, sum-replicate, getD-alike, map-one, length-dropLast, log-own, log-other}
+use Rattle.run_invariant.specs.Laws.Moves.{pending-latest, pending-past, pending-idle, pending-same, some-holds, some-stack}
+use Rattle.run_invariant.specs.Laws.Moves.{holds-some, none-stack, worker-facts, after-idle, after-deque, onward, ran}
+use Rattle.run_invariant.specs.Laws.Moves.{run-is, ran-here, ran-other, ran-sum, robbed, begin-length, begin-new}
+use Rattle.run_invariant.specs.Laws.Moves.{begin-robbed, begin-other, begin-same, begin-map, enriched, lightened}
+use Rattle.run_invariant.specs.Laws.Moves.{steal-thief, steal-other, steal-victim, steal-sum, thief-idle, victim-rich}
+use Rattle.run_invariant.specs.Laws.Moves.{first-within, second-within, run-held, run-free, event-runs, event-steals}
+use Rattle.run_invariant.specs.Laws.Moves.{rich-holds, held-facts}
 
 -- The number of worker w's latest phase, its deque, and what would be stolen from it.
 abbrev phaseOf : Run → ℕ → ℕ

@@ -12,7 +12,8 @@ use lib.Dec.{eqb}
 use borrow.Author.Tests.{eq-eqb, ne-eqb, le-leb, lt-leb}
 use Rattle.rules.specs.Bytes.{sum}
 use Rattle.rules.specs.Tree.{kindAt, isEnd}
-use Rattle.rules.specs.Scheduling.{Hand, holds, pushes, pop, afterRun, Phase, phaseAt, begin, Worker, Entry, Run, idleWorker, workerAt, waits, isRun, judgeRun, runStep, holdsStep, judgeSteal, oldest, steal, judgeEvent}
+use Rattle.rules.specs.Scheduling.{Hand, holds, pushes, pop, afterRun, Phase, phaseAt, begin, Worker, Entry, Run, idleWorker}
+use Rattle.rules.specs.Scheduling.{workerAt, waits, isRun, judgeRun, runStep, holdsStep, judgeSteal, oldest, steal, judgeEvent}
 use Rattle.run_invariant.specs.Invariant.{logOf, stack, pending, opening, WorkerFacts, PhaseFacts, Invariant}
 use Rattle.run_invariant.specs.Laws.Counts.{not-so}
 use Rattle.run_invariant.specs.Laws.Weights.{sum-append}

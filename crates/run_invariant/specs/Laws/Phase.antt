@@ -15,7 +15,8 @@ use Rattle.tree_scan.specs.Laws.Shape.{Shape}
 use Rattle.tree_scan.specs.Laws.Frames.{endAt, sizeAt}
 use Rattle.run_invariant.specs.Invariant.{stack, Weighs, Chain, Pushed, Chained, Ends, frontierEnd, kept, PhaseFacts}
 use Rattle.run_invariant.specs.Laws.Counts.{and-both, or-none, sum-ones}
-use Rattle.run_invariant.specs.Laws.Weights.{sum-append, end-within, cont-inside, size-weighs, run-weighs, holds-inside, pushes-inside, nested-end, pushed-within}
+use Rattle.run_invariant.specs.Laws.Weights.{sum-append, end-within, cont-inside, size-weighs, run-weighs, holds-inside}
+use Rattle.run_invariant.specs.Laws.Weights.{pushes-inside, nested-end, pushed-within}
 
 -- ---- lists
 

@@ -10,7 +10,8 @@ use lib.ListN.{length, getD}
 use lib.Dec.{eqb, ltb}
 use borrow.Author.Tests.{lt-ltb, le-ltb, le-leb, lt-leb, ne-eqb}
 use Rattle.rules.specs.Tree.{kinds, ordinal}
-use Rattle.rules.specs.Scheduling.{workFirst, mostWorkers, pushes, Run, workerAt, waits, judgeRun, runStep, holdsStep, judgeSteal, oldest, steal}
+use Rattle.rules.specs.Scheduling.{workFirst, mostWorkers, pushes, Run, workerAt, waits, judgeRun, runStep, holdsStep, judgeSteal}
+use Rattle.rules.specs.Scheduling.{oldest, steal}
 use Rattle.run_spec.specs.Deques.{oldestMark}
 use Rattle.run_spec.specs.Running.{runNumber}
 use Rattle.run_spec.specs.declared.TraceNumber.{TraceNumber}

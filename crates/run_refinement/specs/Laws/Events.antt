@@ -10,7 +10,8 @@ use lib.ListN.{length, getD, length-replicate, getD-replicate}
 use lib.Dec.{eqb, leb}
 use borrow.Author.Tests.{le-leb, lt-leb, eq-eqb, ne-eqb}
 use Rattle.rules.specs.Bytes.{any}
-use Rattle.rules.specs.Scheduling.{mostWorkers, Worker, Run, idleWorker, workerAt, start, hasRun, isRun, holdsStep, oldest, judgeEvent, nextRun, idleSet, idleCount, idleLowest}
+use Rattle.rules.specs.Scheduling.{mostWorkers, Worker, Run, idleWorker, workerAt, start, hasRun, isRun, holdsStep, oldest}
+use Rattle.rules.specs.Scheduling.{judgeEvent, nextRun, idleSet, idleCount, idleLowest}
 use Rattle.rules.specs.Tree.{kinds, ordinal}
 use Rattle.rules.specs.Calls.{eventCall}
 use Rattle.tree_scan.specs.Laws.Frames.{Frame}
@@ -27,7 +28,8 @@ use Rattle.run_refinement.specs.Tie.{Shows, heldStep, told}
 use Rattle.run_refinement.specs.Laws.Ready.{start-ready}
 use Rattle.run_refinement.specs.Laws.Tables.{shows-by, start-table}
 use Rattle.run_refinement.specs.Laws.Moves.{Known, held-none, held-some}
-use Rattle.run_refinement.specs.Laws.Answers.{keeps-if, keeps-run, keeps-steal, Agrees, refuses, accepts, run-agrees, steal-agrees}
+use Rattle.run_refinement.specs.Laws.Answers.{keeps-if, keeps-run, keeps-steal, Agrees, refuses, accepts, run-agrees}
+use Rattle.run_refinement.specs.Laws.Answers.{steal-agrees}
 
 -- On any state whatever, a refused event leaves every field, and so hands back the very state that it got.
 move-keeps : (f : Fields) (tree : List ℕ) (a b number : ℕ) → eventMove f tree a b .outcome ≡ Refused number

@@ -12,7 +12,8 @@ use Rattle.rules.specs.Scheduling.{mostWorkers, Run, workerAt}
 use Rattle.tree_scan.specs.Laws.Frames.{Frame}
 use Rattle.tree_tables.specs.Terms.{Ends, Openers}
 use Rattle.run_spec.specs.Deques.{marked}
-use Rattle.run_spec.specs.Moves.{Fields, Hints}
+use Rattle.run_spec.specs.Moves.{Fields}
+use Rattle.run_spec.specs.Terms.{Hints}
 use Rattle.run_refinement.specs.Tie.{Shows}
 use Rattle.run_refinement.specs.Laws.Hands.{line-nested}
 use Rattle.run_refinement.specs.Laws.Ready.{never-waits}

@@ -10,7 +10,8 @@ use lib.ListN.{length, getD, set, length-set, length-append}
 use lib.Seq.{set-getD}
 use borrow.Author.Tests.{eq-eqb, ne-eqb, eqb-true}
 use Rattle.rules.specs.Tree.{kindAt, isEnd, ordinal}
-use Rattle.rules.specs.Scheduling.{workFirst, mostWorkers, holds, pushes, afterRun, Worker, Steal, Run, workerAt, runStep, oldest, steal}
+use Rattle.rules.specs.Scheduling.{workFirst, mostWorkers, holds, pushes, afterRun, Worker, Steal, Run, workerAt, runStep, oldest}
+use Rattle.rules.specs.Scheduling.{steal}
 use Rattle.tree_scan.specs.Laws.Shape.{Shape}
 use Rattle.tree_scan.specs.Laws.Frames.{endAt, sizeAt}
 use Rattle.run_invariant.specs.Invariant.{stack, Chained, Invariant}
@@ -23,7 +24,10 @@ use Rattle.run_spec.specs.Deques.{marked, newestMark, oldestMark, popped, robbe
 use Rattle.run_spec.specs.Running.{heldNext, placeNext}
 use Rattle.run_spec.specs.Moves.{Fields, fieldsOf, ranFields, nextPhase, takenOrdinal, robbedFields}
 use Rattle.run_refinement.specs.Tie.{HandShown, Shows}
-use Rattle.run_refinement.specs.Laws.Hands.{opened-shown, ended-nothing, ended-newest, ended-idle-shown, ended-shown, oldest-none, oldest-pusher, oldest-ordinal, robbed-shown, idle-none, thief-shown, other-shown, push-other, pop-other, rob-other, push-unrun, push-run, pop-unrun, pop-run, rob-unrun, popped-length, robbed-length}
+use Rattle.run_refinement.specs.Laws.Hands.{opened-shown, ended-nothing, ended-newest, ended-idle-shown, ended-shown}
+use Rattle.run_refinement.specs.Laws.Hands.{oldest-none, oldest-pusher, oldest-ordinal, robbed-shown, idle-none}
+use Rattle.run_refinement.specs.Laws.Hands.{thief-shown, other-shown, push-other, pop-other, rob-other, push-unrun}
+use Rattle.run_refinement.specs.Laws.Hands.{push-run, pop-unrun, pop-run, rob-unrun, popped-length, robbed-length}
 use Rattle.run_refinement.specs.Laws.Ready.{run-ready, steal-ready}
 use Rattle.run_refinement.specs.Laws.Tables.{Table, Spared, tables-of, shows-by, table-set}
 

@@ -12,15 +12,20 @@ use lib.Dec.{eqb}
 use borrow.Author.Tests.{ne-eqb, eqb-true, not-false, lt-ltb}
 use Rattle.rules.specs.Bytes.{count, all, any, sum}
 use Rattle.rules.specs.Tree.{kindAt, isAsync, isFinish, isEnd, taskEnd, cont, finishBefore}
-use Rattle.rules.specs.Scheduling.{mostWorkers, helpFirst, pushesChild, holds, pushes, pop, afterRun, Phase, phaseAt, firstPhases, Worker, Entry, Run, idleWorker, start, workerAt, hasRun, waits, oldest, steal}
+use Rattle.rules.specs.Scheduling.{mostWorkers, helpFirst, pushesChild, holds, pushes, pop, afterRun, Phase, phaseAt, firstPhases}
+use Rattle.rules.specs.Scheduling.{Worker, Entry, Run, idleWorker, start, workerAt, hasRun, waits, oldest, steal}
 use Rattle.tree_scan.specs.Laws.Shape.{Shape}
 use Rattle.tree_scan.specs.Laws.Frames.{endAt, sizeAt}
 use Rattle.run_invariant.specs.Invariant.{self, logOf, stack, PhaseFacts, Invariant}
-use Rattle.run_invariant.specs.Laws.Counts.{and-both, all-count, count-all, Has, has-head, has-tail, has-cases, has-none, any-one, any-sum}
-use Rattle.run_invariant.specs.Laws.Weights.{span, self-same, span-weighs, span-most, span-in, span-inside, span-out, span-self, cont-inside, nested-end}
+use Rattle.run_invariant.specs.Laws.Counts.{and-both, all-count, count-all, Has, has-head, has-tail, has-cases, has-none, any-one}
+use Rattle.run_invariant.specs.Laws.Counts.{any-sum}
+use Rattle.run_invariant.specs.Laws.Weights.{span, self-same, span-weighs, span-most, span-in, span-inside, span-out, span-self}
+use Rattle.run_invariant.specs.Laws.Weights.{cont-inside, nested-end}
 use Rattle.run_invariant.specs.Laws.Waiting.{waits-no-longer, child-never-waits, async-never-waits, run-stays}
 use Rattle.run_invariant.specs.Laws.Phase.{phase-runs, after-ended, after-kept}
-use Rattle.run_invariant.specs.Laws.Moves.{sum-one, getD-alike, log-own, some-holds, held-facts, onward, ran, ran-here, ran-other, begin-new, begin-robbed, begin-other, enriched, lightened, steal-thief, steal-other, steal-victim}
+use Rattle.run_invariant.specs.Laws.Moves.{sum-one, getD-alike, log-own, some-holds, held-facts, onward, ran, ran-here, ran-other}
+use Rattle.run_invariant.specs.Laws.Moves.{begin-new, begin-robbed, begin-other, enriched, lightened, steal-thief, steal-other}
+use Rattle.run_invariant.specs.Laws.Moves.{steal-victim}
 use Rattle.run_spec.specs.Running.{waitsFor}
 use Rattle.run_spec.specs.Moves.{Fields}
 use Rattle.run_refinement.specs.Tie.{Line, PushedBelow, Ready, AllReady, Shows}

@@ -15,7 +15,8 @@ use Rattle.tree.specs.Laws.Counts.{count-snoc}
 use Rattle.tree.specs.declared.Step.{Step}
 use Rattle.run_spec.specs.declared.Pusher.{Pusher}
 use Rattle.run_spec.specs.declared.Pusher.the-variants.{At, Nothing}
-use Rattle.run_spec.specs.Deques.{Climbs, find, marked, newestMark, oldestMark, pusherOf, popped, robbed}
+use Rattle.run_spec.specs.Deques.{find, marked, newestMark, oldestMark, pusherOf, popped, robbed}
+use Rattle.run_spec.specs.Terms.{Climbs}
 
 -- ---- intervals
 

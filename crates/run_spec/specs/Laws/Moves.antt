@@ -13,13 +13,15 @@ use Rattle.run_spec.specs.declared.TraceNumber.{TraceNumber}
 use Rattle.run_spec.specs.declared.Taken.{Taken}
 use Rattle.run_spec.specs.declared.Taken.the-variants.{Of, Nothing}
 use Rattle.run_spec.specs.declared.Outcome.the-variants.{Ran, Stole, Refused}
-use Rattle.run_spec.specs.Deques.{Climbs, oldestMark, robbed}
+use Rattle.run_spec.specs.Deques.{oldestMark, robbed}
 use Rattle.run_spec.specs.Running.{runNumber, heldNext, placeNext}
 use Rattle.run_spec.specs.Numbers.{numberBy}
 use Rattle.run_spec.specs.Stealing.{stealNumber, takenOf}
-use Rattle.run_spec.specs.Moves.{Fields, fieldsOf, moveOf, Hints, refused, takenOrdinal, ranFields, runMove, nextPhase, robbedFields, stealMove, eventMove}
+use Rattle.run_spec.specs.Moves.{Fields, fieldsOf, moveOf, refused, takenOrdinal, ranFields, runMove, nextPhase}
+use Rattle.run_spec.specs.Moves.{robbedFields, stealMove, eventMove}
 use Rattle.run_spec.specs.Laws.Marks.{robbed-nothing}
 use Rattle.run_spec.specs.Laws.Stealing.{took-nothing, took-step}
+use Rattle.run_spec.specs.Terms.{Climbs, Hints}
 
 -- ---- a run
 

@@ -17,7 +17,8 @@ use Rattle.tree_scan.specs.declared.FinishChild.{FinishChild}
 use Rattle.tree_scan.specs.declared.FinishChild.the-variants.{From, Nothing}
 use Rattle.tree_scan.specs.Contract.{childOf}
 use Rattle.run_spec.specs.Laws.Marks.{count-low, count-none}
-use Rattle.run_spec.specs.Running.{allRun, waitsFor, WaitsAtLow}
+use Rattle.run_spec.specs.Running.{allRun, waitsFor}
+use Rattle.run_spec.specs.Terms.{WaitsAtLow}
 
 run-turn : (place : List ℕ) (j end : ℕ) → j < end
     → allRun place j end ≡ not (eqb (getD place j 0) 17) && allRun place (suc j) end

@@ -16,7 +16,8 @@ use Rattle.run_state.specs.declared.RunState.{RunState}
 use Rattle.run_state.specs.declared.Answer.{Answer}
 use Rattle.run_state.specs.declared.Started.{Started}
 use Rattle.run_state.specs.declared.Idle.{Idle}
-use Rattle.run_state.specs.Contract.{fields, stateOf, answerOf, zeros, startAnswer, runAnswer, stealAnswer, eventAnswer, idleAnswer}
+use Rattle.run_state.specs.Contract.{fields, stateOf, answerOf, zeros, startAnswer, runAnswer, stealAnswer, eventAnswer}
+use Rattle.run_state.specs.Contract.{idleAnswer}
 
 -- ---- events
 

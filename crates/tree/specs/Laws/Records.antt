@@ -5,7 +5,8 @@ use mathlib.Core.Path.{_≡_, refl, ap, _∙_}
 use mathlib.Core.List.{List, [], _∷_}
 use native.Mathlib.Nat.{mul-zero, mul-suc}
 use native.Mathlib.Omega.{arith}
-use lib.ListN.{length, take, drop, getD, length-take, length-drop, length-map, drop-of-length-le, List·getD-map, List·getD-eq-default}
+use lib.ListN.{length, take, drop, getD, length-take, length-drop, length-map, drop-of-length-le, List·getD-map}
+use lib.ListN.{List·getD-eq-default}
 use lib.Seq.{getD-take, getD-drop, drop-drop, drop-cons}
 use Rattle.rules.specs.Bytes.{cut, records, littleEndian, twoBytes}
 use Rattle.rules.specs.Tree.{treeRecords, kind, weight, kinds, weights, kindAt}

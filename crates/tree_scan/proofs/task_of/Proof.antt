@@ -12,7 +12,8 @@ use mathlib.Core.Logic.{⊎-elim}
 use Rattle.rules.specs.Tree.{kinds}
 use Rattle.tree_scan.specs.Contract.{taskOf}
 use Rattle.tree.specs.Laws.Records.{length-kinds, kind-at}
-use Rattle.tree_scan.specs.Laws.Scans.{Backward, backward-start, backward-start-past, backward-turn, backward-end, backward-found, backward-child, backward-inner, backward-done}
+use Rattle.tree_scan.specs.Laws.Scans.{Backward, backward-start, backward-start-past, backward-turn, backward-end}
+use Rattle.tree_scan.specs.Laws.Scans.{backward-found, backward-child, backward-inner, backward-done}
 use Rattle.tree_scan.proofs.task_of.Statement.{statement}
 use Rattle.tree_scan.proofs.task_of.Tie as tie
 

@@ -11,12 +11,15 @@ use lib.Seq.{drop-cons, drop-drop}
 use lib.Dec.{eqb}
 use borrow.Author.Tests.{eq-eqb, ne-eqb, eqb-false}
 use Rattle.rules.specs.Bytes.{Verdict, Walked, walk}
-use Rattle.rules.specs.Tree.{treeRecords, kind, isEnd, kinds, kindAt, Task, leave, enter, openTasks, openAfter, afterEnds, taskEnd, cont, judgeTreeRecord, nextOpen, treeWalk, wrongLength, treeVerdict}
+use Rattle.rules.specs.Tree.{treeRecords, kind, isEnd, kinds, kindAt, Task, leave, enter, openTasks, openAfter, afterEnds}
+use Rattle.rules.specs.Tree.{taskEnd, cont, judgeTreeRecord, nextOpen, treeWalk, wrongLength, treeVerdict}
 use Rattle.tree.specs.Laws.Records.{length-kinds}
 use Rattle.tree_scan.specs.Laws.Scans.{after-none, after-one, openAt, open-step}
-use Rattle.tree.specs.Laws.Acceptance.{judged-open, judged-kind, wrong-empty, wrong-part, wrong-long, verdict-wrong, verdict-stop, verdict-open}
+use Rattle.tree.specs.Laws.Acceptance.{judged-open, judged-kind, wrong-empty, wrong-part, wrong-long, verdict-wrong, verdict-stop}
+use Rattle.tree.specs.Laws.Acceptance.{verdict-open}
 use Rattle.tree_scan.specs.Laws.Shape.{after, At, Shape}
-use Rattle.tree_scan.specs.Laws.Balance.{Balanced, spawned, after-sum, after-short, after-drop, balanced-after, balanced-drop, balanced-kind, balanced-none, balanced-some, balanced-count}
+use Rattle.tree_scan.specs.Laws.Balance.{Balanced, spawned, after-sum, after-short, after-drop, balanced-after}
+use Rattle.tree_scan.specs.Laws.Balance.{balanced-drop, balanced-kind, balanced-none, balanced-some, balanced-count}
 
 -- ---- the shape of balanced kinds
 

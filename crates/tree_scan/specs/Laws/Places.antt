@@ -9,9 +9,11 @@ use mathlib.Core.Option.{none, some}
 use native.Mathlib.Decide.{ℕ-discrete}
 use native.Mathlib.Omega.{arith}
 use lib.ListN.{length}
-use Rattle.rules.specs.Tree.{isFinish, kindAt, Task, innermost, leave, enter, taskAt, task, ordinal, cont, finishChild, finishBefore, root, openTasks}
+use Rattle.rules.specs.Tree.{isFinish, kindAt, Task, innermost, leave, enter, taskAt, task, ordinal, cont, finishChild}
+use Rattle.rules.specs.Tree.{finishBefore, root, openTasks}
 use Rattle.tree_scan.specs.Laws.Scans.{openAt, open-step}
-use Rattle.tree_scan.specs.Laws.Shape.{after, Inside, Shape, child-inside, after-end, tree-ind, inside-end, inside-parts, inside-first}
+use Rattle.tree_scan.specs.Laws.Shape.{after, Inside, Shape, child-inside, after-end, tree-ind, inside-end, inside-parts}
+use Rattle.tree_scan.specs.Laws.Shape.{inside-first}
 use Rattle.tree_scan.specs.Laws.Frames.{endAt, sizeAt, cont-after}
 
 -- Step j is a part of an opening step: its child or its continuation.

@@ -9,7 +9,8 @@ use native.Mathlib.Omega.{arith}
 use lib.ListN.{length, take, drop, getD, length-drop, length-reverse, drop-of-length-le}
 use lib.Seq.{drop-cons, take-suc, take-all, length-take-le}
 use borrow.Author.Tests.{ne-eqb}
-use Rattle.rules.specs.Tree.{isEnd, kindAt, Task, root, innermost, leave, enter, openTasks, taskAt, task, ordinal, openAfter, afterEnds, taskEnd, cont}
+use Rattle.rules.specs.Tree.{isEnd, kindAt, Task, root, innermost, leave, enter, openTasks, taskAt, task, ordinal, openAfter}
+use Rattle.rules.specs.Tree.{afterEnds, taskEnd, cont}
 
 -- ---- forward
 

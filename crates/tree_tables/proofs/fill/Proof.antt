@@ -8,7 +8,8 @@ use lib.ListN.{length, getD, length-set}
 use Rattle.rules.specs.Tree.{kinds, kindAt, cont}
 use Rattle.tree.specs.Laws.Records.{length-kinds, kind-at}
 use Rattle.tree_scan.specs.Laws.Frames.{Frame, endAt, accepted-frame}
-use Rattle.tree_tables.specs.Laws.Filling.{Filled, end-kind, open-kind, fill-start, fill-turn, fill-end, fill-after, fill-inside, fill-open, filled-ends, filled-openers}
+use Rattle.tree_tables.specs.Laws.Filling.{Filled, end-kind, open-kind, fill-start, fill-turn, fill-end, fill-after}
+use Rattle.tree_tables.specs.Laws.Filling.{fill-inside, fill-open, filled-ends, filled-openers}
 use Rattle.tree_tables.proofs.fill.Statement.{statement}
 use Rattle.tree_tables.proofs.fill.Tie as tie
 

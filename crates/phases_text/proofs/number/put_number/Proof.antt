@@ -6,7 +6,8 @@ use native.Mathlib.Omega.{arith}
 use lib.ListN.{length, set, length-append, length-set}
 use borrow.Author.Needs.{needs}
 use Rattle.rules.specs.Program.{decimal}
-use Rattle.phases_text.specs.Number.Laws.Numbers.{decimal-most, Writing, writing-start, writing-turn, writing-done, behind-number}
+use Rattle.phases_text.specs.Number.Laws.Numbers.{decimal-most, Writing, writing-start, writing-turn, writing-done}
+use Rattle.phases_text.specs.Number.Laws.Numbers.{behind-number}
 use Rattle.phases_text.proofs.number.put_number.Statement.{statement}
 use Rattle.phases_text.proofs.number.put_number.Tie as tie
 

@@ -7,7 +7,8 @@ use lib.ListN.{length}
 use borrow.Author.Needs.{needs}
 use Rattle.rules.specs.Tree.{kinds}
 use Rattle.buffers.specs.Laws.Records.{put-length}
-use Rattle.replay_spec.specs.Laws.Stacks.{Writing, writing-start, record-fits, phase-done, step-popped, step-dropped, push-fits, step-pushed, pushed-inside}
+use Rattle.replay_spec.specs.Laws.Stacks.{Writing, writing-start, record-fits, phase-done, step-popped, step-dropped, push-fits}
+use Rattle.replay_spec.specs.Laws.Stacks.{step-pushed, pushed-inside}
 use Rattle.replay_list.proofs.phase.write_phase.Statement.{statement}
 use Rattle.replay_list.proofs.phase.write_phase.Tie as tie
 

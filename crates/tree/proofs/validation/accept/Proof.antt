@@ -10,7 +10,9 @@ use borrow.Author.Needs.{needs}
 use Rattle.rules.specs.Bytes.{Verdict}
 use Rattle.rules.specs.Tree.{treeRecords, judgeTreeRecord, wrongLength}
 use Rattle.tree.specs.Laws.Records.{length-kinds}
-use Rattle.tree.specs.Laws.Acceptance.{Walking, walking-start, walking-end, walking-open, walking-stop, walking-done, verdict-wrong, verdict-stop, verdict-open, verdict-accepted, answered-refused, answered-accepted}
+use Rattle.tree.specs.Laws.Acceptance.{Walking, walking-start, walking-end, walking-open, walking-stop, walking-done}
+use Rattle.tree.specs.Laws.Acceptance.{verdict-wrong, verdict-stop, verdict-open, verdict-accepted, answered-refused}
+use Rattle.tree.specs.Laws.Acceptance.{answered-accepted}
 use Rattle.tree.proofs.validation.accept.Statement.{statement}
 use Rattle.tree.proofs.validation.accept.Tie as tie
 

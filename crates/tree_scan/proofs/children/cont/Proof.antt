@@ -6,7 +6,8 @@ use Prim.Native.Nat.{_-_}
 use native.Mathlib.Omega.{arith}
 use Rattle.rules.specs.Tree.{kinds}
 use Rattle.tree.specs.Laws.Records.{length-kinds, kind-at}
-use Rattle.tree_scan.specs.Laws.Scans.{Forward, forward-start, forward-end, forward-open, forward-done, forward-past, cont-past}
+use Rattle.tree_scan.specs.Laws.Scans.{Forward, forward-start, forward-end, forward-open, forward-done, forward-past}
+use Rattle.tree_scan.specs.Laws.Scans.{cont-past}
 use Rattle.tree_scan.proofs.children.cont.Statement.{statement}
 use Rattle.tree_scan.proofs.children.cont.Tie as tie
 

@@ -5,7 +5,8 @@ use mathlib.Core.Path.{_≡_, _∙_, sym, ap}
 use Rattle.rules.specs.Tree.{kinds, task}
 use Rattle.tree_scan.specs.declared.Task.{Task}
 use Rattle.tree_scan.specs.Contract.{taskOf}
-use Rattle.tree_scan.specs.Laws.Steps.{child-none, child-some, finish-first, finish-open, finish-root, finish-async, finish-found}
+use Rattle.tree_scan.specs.Laws.Steps.{child-none, child-some, finish-first, finish-open, finish-root, finish-async}
+use Rattle.tree_scan.specs.Laws.Steps.{finish-found}
 use borrow.Author.Needs.{needs}
 use Rattle.tree_scan.proofs.children.finish_before.Statement.{statement}
 use Rattle.tree_scan.proofs.children.finish_before.Tie as tie
