@@ -14,6 +14,13 @@ pub const RECORD: usize = 4;
 // Bytes of an event.
 pub const EVENT: usize = 2;
 
+// Two bytes as a number, the lower first (document 01: "little-endian and unsigned").
+pub fn two_bytes(low: u8, high: u8) -> u16
+    ensures { λ r. ⌜ r ≡ low + 256 * high ⌝ }
+{
+    low as u16 + 256 * (high as u16)
+}
+
 // Whether bytes are whole records of a width, and not too many.
 pub fn whole_records(bytes: &[u8], width: usize, most: usize) -> bool
     requires { ⌜ 1 ≤ width ⌝ }

@@ -3,8 +3,9 @@
 ghost use mathlib.Core.Path.{_≡_};
 ghost use Prim.Native.Nat.{_<_};
 ghost use lib.ListN.{length};
+ghost use lib.Dec.{leb};
 ghost use Rattle.rules.specs.Tree.{kinds};
-ghost use Rattle.rules.specs.Scheduling.{pushesChild, holds, pushes};
+ghost use Rattle.rules.specs.Scheduling.{mostWorkers, pushesChild, holds, pushes};
 ghost use Rattle.policy.specs.Contract.{runningOf};
 ghost use Rattle.tree_tables.specs.Terms.{Ends};
 use tree::ASYNC;
@@ -32,6 +33,13 @@ pub const MOST_PHASES: usize = 2048;
 pub enum Running {
     Opens { hold: Step, push: Step },
     Ends,
+}
+
+// Whether a byte names no worker of a run.
+pub fn no_worker(worker: u8) -> bool
+    ensures { λ r. ⌜ r ≡ leb mostWorkers worker ⌝ }
+{
+    WORKERS <= worker as usize
 }
 
 // Whether running an opening step of this kind pushes the child and goes on with the parent.

@@ -9,13 +9,6 @@ use policy::WORKERS;
 use replay_spec::NO_PHASE;
 use replay_spec::TraceRecord;
 
-// A number of two bytes.
-fn two_bytes(low: u8, high: u8) -> u16
-    ensures { λ r. ⌜ r ≡ low + 256 * high ⌝ }
-{
-    low as u16 + 256 * (high as u16)
-}
-
 // Reads record k.
 pub fn record_at(trace: &[u8], k: usize) -> TraceRecord
     requires { ⌜ k < length (now trace) / 4 ⌝ }
@@ -25,7 +18,7 @@ pub fn record_at(trace: &[u8], k: usize) -> TraceRecord
     TraceRecord {
         thief: trace[at],
         victim: trace[at + 1],
-        number: two_bytes(trace[at + 2], trace[at + 3]),
+        number: buffers::two_bytes(trace[at + 2], trace[at + 3]),
     }
 }
 

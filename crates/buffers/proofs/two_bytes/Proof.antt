@@ -1,8 +1,8 @@
--- `entries::two_bytes` meets its contract: two bytes give a number below 65,536. Assumes nothing.
+-- `buffers::two_bytes` meets its contract: two bytes give a number below 65,536. Assumes nothing.
 use mathlib.Core.Path.{refl}
 use borrow.Author.Needs.{needs}
-use Rattle.replay_steal.proofs.entry.two_bytes.Statement.{statement}
-use Rattle.replay_steal.proofs.entry.two_bytes.Tie as tie
+use Rattle.buffers.proofs.two_bytes.Statement.{statement}
+use Rattle.buffers.proofs.two_bytes.Tie as tie
 
 mul-result : tie.Need-mul-result
 mul-result c = search needs
