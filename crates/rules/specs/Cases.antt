@@ -62,7 +62,16 @@ idleAnswer ks s = idle (finished ks s) (idleSet (s .workers)) (idleCount (s .wor
 
 -- Whoever unfolds it unfolds all the rules.
 unfoldable pub answer : Case → Answer
-unfolding idleAnswer replayAnswer recordAnswer stepsOf ifAccepted littleEndian twoBytes cut records wholeRecords count all any sum accepted refusedIf firstRefused walk treeRecords kind isAsync isFinish isEnd weight kinds weights kindAt root innermost leave enter openTasks taskAt task ordinal openAfter afterEnds taskEnd cont finishChild finishBefore wellFormed judgeTreeRecord nextOpen treeWalk wrongLength treeVerdict pushesChild holds pushes pop afterRun firstPhases phaseAt begin idleWorker start workerAt hasRun waits isRun judgeRun runStep holdsStep judgeSteal oldest steal judgeEvent nextRun idleSet idleCount idleLowest traceNumber traceBytes entryBytes fromStep covers latestPhase lastStolen frontier childCount taskStep ordinalAllowed startsAsync followsFinish serialAllowed numberAllowed stolenStep recordNumber judgeRead judgeTraceRecord nextPhases replayWalk runAlone runningOrder runList phaseLoad workerLoad loads largest firstAt heaviest startVerdict eventCall written recordWalk recordVerdict finished recordOf recordRefused recordCall replayVerdict replayOf replayRefused replayCall flatten zipWith
+unfolding idleAnswer replayAnswer recordAnswer stepsOf ifAccepted littleEndian twoBytes cut records wholeRecords count all any
+    sum accepted refusedIf firstRefused walk treeRecords kind isAsync isFinish isEnd weight kinds weights kindAt root
+    innermost leave enter openTasks taskAt task ordinal openAfter afterEnds taskEnd cont finishChild finishBefore wellFormed
+    judgeTreeRecord nextOpen treeWalk wrongLength treeVerdict pushesChild holds pushes pop afterRun firstPhases phaseAt begin
+    idleWorker start workerAt hasRun waits isRun judgeRun runStep holdsStep judgeSteal oldest steal judgeEvent nextRun idleSet
+    idleCount idleLowest traceNumber traceBytes entryBytes fromStep covers latestPhase lastStolen frontier childCount taskStep
+    ordinalAllowed startsAsync followsFinish serialAllowed numberAllowed stolenStep recordNumber judgeRead judgeTraceRecord
+    nextPhases replayWalk runAlone runningOrder runList phaseLoad workerLoad loads largest firstAt heaviest startVerdict
+    eventCall written recordWalk recordVerdict finished recordOf recordRefused recordCall replayVerdict replayOf replayRefused
+    replayCall flatten zipWith
 answer (recording p tree events) =
     recordAnswer
     (recordCall mostWorkers p tree events (replicate (4 * length (kinds tree)) 0) (replicate (2 * (length (kinds tree) - 1)) 0))

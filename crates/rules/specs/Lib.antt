@@ -7,8 +7,8 @@
 --     Program      what program `phases` prints
 -- Proved from these, so not to be believed:
 --     Cases        "Tree S and its schedules": P1 to P12, one theorem
---     NearMisses   cases that tell the rules from near misses, one theorem
---     Listing      the worked example of program `phases`, and refusals that it prints
+--     NearMisses   cases that tell the rules from near misses, a theorem for each table
+--     Listing      the worked example of program `phases`, and refusals and numbers that it prints
 pub mod Bytes
 pub mod Tree
 pub mod Scheduling

@@ -1,4 +1,5 @@
--- Document 01's worked example of program `phases`, and refusals that it prints, one theorem closed by computation.
+-- Document 01's worked example of program `phases`, and refusals that it prints, one theorem closed by computation; numbers of
+-- one to five digits, another.
 use Prim.Native.Nat.{ℕ}
 use mathlib.Core.Path.{_≡_, refl}
 use mathlib.Core.List.{List, [], _∷_, _++_, map, flatten}
@@ -38,5 +39,20 @@ texts =
     ∷ []
 
 printed-as-shown : map (printed mostWorkers) inputs ≡ texts
-unfolding answer bytes ofKinds S fed inputs texts inputPolicy inputCount inputTree inputTrace digits decimal line heading phaseLines refusedLine phasesText printed flatten
+unfolding answer bytes ofKinds S fed inputs texts inputPolicy inputCount inputTree inputTrace digits decimal line heading
+    phaseLines refusedLine phasesText printed flatten
 printed-as-shown = refl
+
+-- Numbers of one to five digits, in ASCII.
+numbers-as-shown :
+    map decimal (0 ∷ 9 ∷ 10 ∷ 98 ∷ 100 ∷ 4095 ∷ 65535 ∷ [])
+    ≡ bytes 1 0x30
+    ∷ bytes 1 0x39
+    ∷ bytes 2 0x3130
+    ∷ bytes 2 0x3938
+    ∷ bytes 3 0x3130_30
+    ∷ bytes 4 0x3430_3935
+    ∷ bytes 5 0x3635_3533_35
+    ∷ []
+unfolding answer bytes digits decimal
+numbers-as-shown = refl

@@ -1,14 +1,16 @@
 -- Cases that tell the rules from near misses which P1 to P12 let pass: document 01's "Misreadings" first, then the order of
--- refusals, the limits, lent bytes and loads. Each table is one theorem, closed by computation.
+-- refusals, the limits, lent bytes and loads. Each table is one theorem, closed by computation; the longest lists are judged by
+-- their length alone.
 use Prim.Native.Nat.{ℕ}
 use mathlib.Core.Path.{_≡_, refl}
 use mathlib.Core.Bool.{Bool, true, false}
 use mathlib.Core.List.{List, [], _∷_, _++_, map, flatten}
-use lib.ListN.{replicate, take}
-use Rattle.rules.specs.Bytes.{count, Verdict, accepted}
-use Rattle.rules.specs.Tree.{kinds, treeVerdict}
-use Rattle.rules.specs.Scheduling.{workFirst, helpFirst, mostWorkers, start}
-use Rattle.rules.specs.Calls.{eventCall, Recorded, recordCall, Replayed, replayCall}
+use lib.ListN.{length, replicate, take}
+use Rattle.rules.specs.Bytes.{count, wholeRecords, Verdict, accepted}
+use Rattle.rules.specs.Tree.{kinds, wrongLength, treeVerdict}
+use Rattle.rules.specs.Scheduling.{workFirst, helpFirst, mostWorkers, firstPhases, phaseAt, start}
+use Rattle.rules.specs.Traces.{serialAllowed}
+use Rattle.rules.specs.Calls.{mostEvents, mostTraceRecords, eventCall, Recorded, recordCall, Replayed, replayCall}
 use Rattle.rules.specs.Cases.{recording, replaying, idling, ran, phases, idle, refused, answer, Row, row, bytes, ofKinds, S}
 
 -- ---- schedules and traces
@@ -21,7 +23,7 @@ nested = ofKinds (2 ∷ 2 ∷ 3 ∷ 3 ∷ 3 ∷ [])
 unfoldable asyncs : List ℕ
 asyncs = ofKinds (1 ∷ 1 ∷ 3 ∷ 3 ∷ 3 ∷ [])
 
--- The same, and one more in the root.
+-- Two asyncs, one inside the other, and one more in the root.
 unfoldable three : List ℕ
 three = ofKinds (1 ∷ 1 ∷ 3 ∷ 3 ∷ 1 ∷ 3 ∷ 3 ∷ [])
 
@@ -67,19 +69,28 @@ schedules =
     ∷ row (replaying helpFirst S (bytes 4 0x0100_0200)) (refused 15 0)
     ∷ row (replaying helpFirst S (bytes 4 0x0100_0000)) (refused 15 0)
     ∷ row (replaying helpFirst S (bytes 4 0x0100_0700)) (refused 15 0)
-    -- work-first numbers: 0, one more than the root's children, and the frontier's next child
+    -- work-first numbers: 0, 1 with its bytes exchanged, one more than the root's children, and the frontier's next child
     ∷ row (replaying workFirst S (bytes 4 0x0100_0000)) (refused 15 0)
+    ∷ row (replaying workFirst S (bytes 4 0x0100_0001)) (refused 15 0)
     ∷ row (replaying workFirst S (bytes 4 0x0100_0300)) (refused 15 0)
     ∷ row (replaying workFirst S (bytes 8 0x0100_0200_0200_0100))
     (phases ((0 ∷ 1 ∷ 2 ∷ 3 ∷ 4 ∷ []) ∷ (6 ∷ []) ∷ (5 ∷ []) ∷ []))
-    -- equal workers are 13, of 16 and above 8
+    -- equal workers are 13, with and without a phase; a thief, a victim or both of 16 and above are 8
+    ∷ row (replaying workFirst S (bytes 4 0x0000_0100)) (refused 13 0)
     ∷ row (replaying workFirst S (bytes 4 0x0505_0100)) (refused 13 0)
+    ∷ row (replaying workFirst S (bytes 4 0x1000_0100)) (refused 8 0)
+    ∷ row (replaying workFirst S (bytes 4 0x0010_0100)) (refused 8 0)
     ∷ row (replaying workFirst S (bytes 4 0x1010_0100)) (refused 8 0)
     ∷ []
 
 schedules-as-stated : map (λ r. answer (r .given)) schedules ≡ map (λ r. r .says) schedules
 unfolding answer bytes schedules row nested asyncs three flat allSteal ofKinds S flatten
 schedules-as-stated = refl
+
+-- Help-first, the number n names no step, though the last kind of this list, which is no tree, opens an async.
+number-n : serialAllowed (1 ∷ []) (phaseAt firstPhases 0) 1 ≡ false
+unfolding answer
+number-n = refl
 
 -- A refused event hands back the state it got, at position 0: on S, a steal from worker 0 before anything was pushed.
 refused-event :
@@ -114,8 +125,13 @@ trees =
     ∷ tree (3 ∷ []) (bad 2 0)
     ∷ tree (ofKinds (3 ∷ [])) accepted
     ∷ tree (ofKinds (4 ∷ [])) (bad 3 0)
+    ∷ tree (ofKinds (8 ∷ [])) (bad 3 0)
+    ∷ tree (ofKinds (255 ∷ [])) (bad 3 0)
     ∷ tree (ofKinds (0 ∷ [])) (bad 3 0)
+    -- byte 1, byte 2, byte 3
+    ∷ tree (bytes 8 0x0301_0000_0000_0000) (bad 3 0)
     ∷ tree (unclean 3) (bad 3 0)
+    ∷ tree (bytes 8 0x0300_0001_0000_0000) (bad 3 0)
     -- the root's end, then one record more; 3 goes before 5 in one record
     ∷ tree (ofKinds (3 ∷ 3 ∷ [])) (bad 5 1)
     ∷ tree (ofKinds (3 ∷ []) ++ unclean 3) (bad 3 1)
@@ -133,6 +149,35 @@ trees =
 trees-as-stated : map (λ t. treeVerdict (t .tree)) trees ≡ map (λ t. t .says) trees
 unfolding answer bytes trees tree bad unclean deep ofKinds flatten
 trees-as-stated = refl
+
+-- ---- the longest lists, by their length alone
+
+-- 4,095 tree records pass, whatever their bytes, and 4,096 do not.
+steps-4095 : (t : List ℕ) → length t ≡ 32760 → wrongLength t ≡ false
+unfolding answer
+steps-4095 t e = rw e refl
+
+steps-4096 : (t : List ℕ) → length t ≡ 32768 → wrongLength t ≡ true
+unfolding answer
+steps-4096 t e = rw e refl
+
+-- 8,192 events pass, and 8,193 do not.
+events-8192 : (es : List ℕ) → length es ≡ 16384 → wholeRecords 2 mostEvents es ≡ true
+unfolding answer
+events-8192 es e = rw e refl
+
+events-8193 : (es : List ℕ) → length es ≡ 16386 → wholeRecords 2 mostEvents es ≡ false
+unfolding answer
+events-8193 es e = rw e refl
+
+-- 2,047 trace records pass, and 2,048 do not.
+trace-2047 : (rs : List ℕ) → length rs ≡ 8188 → wholeRecords 4 mostTraceRecords rs ≡ true
+unfolding answer
+trace-2047 rs e = rw e refl
+
+trace-2048 : (rs : List ℕ) → length rs ≡ 8192 → wholeRecords 4 mostTraceRecords rs ≡ false
+unfolding answer
+trace-2048 rs e = rw e refl
 
 -- ---- whole calls: the order of refusals, every lent byte, loads
 
@@ -156,7 +201,7 @@ unfoldable recordRow : ℕ → List ℕ → List ℕ → List ℕ → Recorded �
 recordRow policy events log trace says =
     record { policy = policy; events = events; log = log; trace = trace; says = says }
 
--- A refused one: the number and the position, the other answers 0, the buffers as they were.
+-- A refused recording: the number and the position, the other answers 0, the buffers as they were.
 unfoldable recordRefusal : ℕ → List ℕ → List ℕ → List ℕ → ℕ → ℕ → RecordRow
 recordRefusal policy events log trace number position =
     recordRow policy events log trace
@@ -171,7 +216,7 @@ recordRefusal policy events log trace number position =
       trace = trace;
     })
 
--- An accepted one in which worker 5 takes step 2: how many steps have run, whether all have, and the buffers.
+-- An accepted recording in which worker 5 takes step 2: how many steps have run, whether all have, and the buffers.
 unfoldable recordTaken : List ℕ → List ℕ → List ℕ → ℕ → Bool → List ℕ → List ℕ → RecordRow
 recordTaken events log trace steps whole log′ trace′ =
     recordRow workFirst events log trace
@@ -191,7 +236,7 @@ recordings =
     -- buffers one byte longer than asked; worker 5 has not run its step, and its load counts
     recordTaken (bytes 6 0x0000_0500_0000) (replicate 13 7) (replicate 5 9) 2 false (bytes 13 0x0000_0000_0000_0100_0707_0707_07)
     (bytes 5 0x0500_0100_09)
-    -- the same and the step run: finished
+    -- worker 5 runs its step too: finished
     ∷ recordTaken (bytes 8 0x0000_0500_0000_0505) (replicate 12 7) (replicate 4 9) 3 true (bytes 12 0x0000_0000_0000_0100_0100_0200)
     (bytes 4 0x0500_0100)
     -- 1 before 6, 6 before 7, 7 for either buffer, 7 before 9
@@ -245,6 +290,13 @@ replays =
             heaviest = 0;
             list = bytes 20 0x0000_0000_0000_0100_0100_0200_0100_0300_0200_0400;
           };
+    }
+    -- a trace of three bytes, before a list one byte short
+    ∷ record {
+      tree = weighted;
+      trace = bytes 3 0x0100_01;
+      list = replicate 11 7;
+      says = record { verdict = bad 6 0; phaseCount = 0; loads = sixteenLoads []; heaviest = 0; list = replicate 11 7 };
     }
     -- a list one byte short
     ∷ record {
