@@ -1,5 +1,5 @@
-// Whether a tree may be read (document 01, "Refusals"): its length, each of its records while some
-// tasks are open, and the whole of it.
+// Whether a tree may be read (document 01, "Refusals" 2 to 5): its length, each of its records while some tasks are open, and the
+// whole of it.
 ghost use mathlib.Core.Path.{_≡_};
 ghost use mathlib.Core.List.{[]};
 ghost use Prim.Native.Nat.{_<_};
@@ -45,7 +45,7 @@ fn well_formed(tree: &[u8], i: usize) -> bool
 }
 
 // The refusal of a record while so many tasks are open, 0 for none.
-pub fn judge(tree: &[u8], i: usize, depth: usize) -> u8
+fn judge_record(tree: &[u8], i: usize, depth: usize) -> u8
     requires { ⌜ i < length (kinds (now tree)) ⌝ }
     ensures { λ r. ⌜ r ≡ judgeTreeRecord depth (getD (treeRecords (now (tree .entry))) i []) ⌝ }
 {
@@ -79,7 +79,7 @@ pub fn accept(tree: &[u8]) -> Accepted
     let mut i = 0;
     let mut depth: usize = 1;
     while i < n {
-        let number = judge(tree, i, depth);
+        let number = judge_record(tree, i, depth);
         if number != 0 {
             return Accepted {
                 number,

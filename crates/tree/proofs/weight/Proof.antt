@@ -1,4 +1,5 @@
--- `tree::weight` meets its contract: the four bytes are those of the law of a step's weight. Assumes nothing.
+-- `tree::weight` meets its contract: a step's weight is the number that bytes 4 to 7 of its record make, and 0 past the last record.
+-- Assumes nothing.
 use Prim.Native.Nat.{_+_, _*_}
 use mathlib.Core.Path.{_≡_, sym}
 use native.Mathlib.Omega.{arith}

@@ -63,7 +63,9 @@ module _ (k a b c head : ℕ) (number : head ≡ k + 256 * a + 65536 * b + 16777
   pub head-most : 1 ≤ head → leb head 3 ≡ formed k a b c
   head-most l =
       elim (decLe head 3) [
-        | yes h ↦ le-leb head 3 h ∙ sym (formed-last k a b c (omega arith) (omega arith) (omega arith) (omega arith) ∙ eq-eqb c 0 (omega arith))
+        | yes h ↦
+            let last = formed-last k a b c (omega arith) (omega arith) (omega arith) (omega arith) in
+            le-leb head 3 h ∙ sym (last ∙ eq-eqb c 0 (omega arith))
         | no n ↦ lt-leb head 3 (omega arith) ∙ sym (elim (ℕ-discrete a 0) [
           | no m ↦ formed-first k a b c m
           | yes x ↦ elim (ℕ-discrete b 0) [

@@ -67,7 +67,13 @@ kind-past tree i h = List·getD-eq-default (kinds tree) 0 (rw length-kinds h)
 -- The last four of eight bytes.
 last-four : (r : List ℕ) → length r ≡ 8 → drop 4 r ≡ getD r 4 0 ∷ getD r 5 0 ∷ getD r 6 0 ∷ getD r 7 0 ∷ []
 last-four r e =
-    rw (drop-cons r 4 0 (omega arith), drop-cons r 5 0 (omega arith), drop-cons r 6 0 (omega arith), drop-cons r 7 0 (omega arith), drop-of-length-le r {i = 8} (omega arith)) refl
+    rw (
+      drop-cons r 4 0 (omega arith),
+      drop-cons r 5 0 (omega arith),
+      drop-cons r 6 0 (omega arith),
+      drop-cons r 7 0 (omega arith),
+      drop-of-length-le r {i = 8} (omega arith),
+    ) refl
 
 -- A step's weight is bytes 4 to 7 of its record, and 0 past the last.
 pub weight-at : (tree : List ℕ) (i : ℕ) → i < length tree / 8

@@ -1,5 +1,5 @@
--- `validation::accept` meets its contract: the loop is the walk over the records, and each return is a law of the verdict.
--- Assumes nothing.
+-- `tree::validation::accept` meets its contract: the loop is the rules' walk over the records with the number of open tasks, so where
+-- it stops the verdict is the walk's, and at its end the root is open or not. Assumes nothing.
 use Prim.Native.Nat.{ℕ, _-_, _/_}
 use native.Mathlib.Omega.{arith}
 use mathlib.Core.Path.{_≡_, _∙_, sym, ap}
@@ -28,8 +28,10 @@ whole c = sym (c .before .wrong-length .ensures) ∙ c .if1 .left
 
 -- The record is not refused.
 fine : (c : tie.Else2 Inv-loop μ-loop)
-    → judgeTreeRecord (c .before .before .before .loop .depth) (getD (treeRecords (c .before .before .before .before .before .before .before .args .tree .now)) (c .before .before .before .loop .i) []) ≡ 0
-fine c = sym (c .before .judge .ensures) ∙ c .if2 .left
+    → let tree = c .before .before .before .before .before .before .before .args .tree .now in
+    let loop = c .before .before .before .loop in
+    judgeTreeRecord (loop .depth) (getD (treeRecords tree) (loop .i) []) ≡ 0
+fine c = sym (c .before .judge-record .ensures) ∙ c .if2 .left
 
 wrong-length-requires : tie.Need-wrong-length-requires Inv-loop μ-loop
 wrong-length-requires c κs = search needs
@@ -43,20 +45,21 @@ returns c =
 loop-holds : tie.Need-loop-holds Inv-loop μ-loop
 loop-holds c = walking-start (c .before .before .before .args .tree .now)
 
-judge-requires : tie.Need-judge-requires Inv-loop μ-loop
-judge-requires c κs = omega (arith, length-kinds (c .before .before .before .before .before .args .tree .now))
+judge-record-requires : tie.Need-judge-record-requires Inv-loop μ-loop
+judge-record-requires c κs = omega (arith, length-kinds (c .before .before .before .before .before .args .tree .now))
 
 returns-2 : tie.Need-returns-2 Inv-loop μ-loop
 returns-2 c =
     let tree = c .before .before .before .before .before .before .before .args .tree .now in
     let loop = c .before .before .before .loop in
-    let number = c .before .judge .result in
-    let same = c .before .judge .ensures in
+    let number = c .before .judge-record .result in
+    let same = c .before .judge-record .ensures in
     let refused : judgeTreeRecord (loop .depth) (getD (treeRecords tree) (loop .i) []) ≡ 0 → ⊥ = λ e. c .if2 .taken (same ∙ e) in
     let stop = walking-stop tree (loop .i) (loop .depth) (loop .inv) (omega (arith, length-kinds tree)) refused in
     let at = ap {B = Verdict} (λ (x : ℕ). record { number = x; position = loop .i }) (sym same) in
-    answered-refused tree (record { number = number; position = loop .i })
-    (verdict-stop tree (whole (c .before .before .before .before)) (record { number = number; position = loop .i }) (stop ∙ at) (c .if2 .taken)) (c .if2 .taken)
+    let verdict : Verdict = record { number = number; position = loop .i } in
+    let long = whole (c .before .before .before .before) in
+    answered-refused tree verdict (verdict-stop tree long verdict (stop ∙ at) (c .if2 .taken)) (c .if2 .taken)
 
 mul-k : tie.Need-mul-k Inv-loop μ-loop
 mul-k c = omega arith
@@ -118,7 +121,7 @@ accept-spec =
     wrong-length-requires
     returns
     loop-holds
-    judge-requires
+    judge-record-requires
     returns-2
     mul-k
     shared-slice-read-k

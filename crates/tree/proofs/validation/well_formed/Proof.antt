@@ -1,4 +1,5 @@
--- `validation::well_formed` meets its contract: a law says what the four tested bytes are as one number. Assumes nothing.
+-- `tree::validation::well_formed` meets its contract: a record's first four bytes, read as one number, are 1 to 3 exactly where the
+-- kind is one of the three and bytes 1 to 3 are zero. Assumes nothing.
 use mathlib.Core.Path.{sym, _∙_}
 use native.Mathlib.Omega.{arith}
 use Rattle.tree.specs.Laws.Records.{length-kinds}
