@@ -1,4 +1,4 @@
--- What a record or a replay call is given.
+-- What a call is given.
 --     Terms     what is answered of it, by the rules
 --     Laws      each answer
 pub mod Terms

@@ -1,5 +1,5 @@
--- What is answered of what a record or a replay call is given, before its records are walked: the events of the one, the trace of
--- the other.
+-- What is answered of what a call is given, before its records are walked: the policy and the tree of each call, the events of a
+-- record call and the trace of a replay call, the room of the lent outputs.
 use Prim.Native.Nat.{ℕ, _-_, _*_}
 use mathlib.Core.Bool.{Bool, cond, not, _||_}
 use mathlib.Core.List.{List, [], _∷_}
@@ -42,7 +42,7 @@ recordAdmitted p tree events log trace =
 unfoldable pub replayAdmitted : ℕ → List ℕ → List ℕ → ℕ → Accepted
 replayAdmitted p tree trace list = admitted p tree (wholeRecords 4 mostTraceRecords trace) (ltb list (4 * length (kinds tree)))
 
--- The same from the answer on policy and tree.
+-- Refusals 6 and 7 behind the answer on policy and tree.
 unfoldable pub judged : Accepted → Bool → Bool → Accepted
 judged start whole short =
     let six : Accepted = record { number = 6; position = 0; steps = 0 } in

@@ -1,8 +1,8 @@
-// What a call is given, judged before any event or trace record is looked at (document 01, "Refusals"): policy and tree, the length
-// of the events or the trace, and the room of the lent outputs.
-
+// What a call is given, judged before any event or trace record is looked at (document 01, "Refusals" 1 to 7): policy and tree, the
+// length of the events or the trace, and the room of the lent outputs.
 ghost use mathlib.Core.Path.{_≡_};
 ghost use Prim.Native.Nat.{_≤_};
+ghost use Rattle.rules.specs.Tree.{mostSteps};
 ghost use Rattle.tree.specs.declared.Accepted.{Accepted};
 ghost use Rattle.arguments.specs.Terms.{admission, judged, tooShort, recordAdmitted, replayAdmitted};
 use buffers::EVENT;
@@ -64,7 +64,7 @@ fn judge(start: Accepted, whole: bool, short: bool) -> Accepted
 
 // Whether a lent output is short, for so many steps and by the lengths of log and trace. No steps, as of a refused tree, need no room.
 fn too_short(steps: usize, log: usize, trace: usize) -> bool
-    requires { ⌜ steps ≤ 4095 ⌝ }
+    requires { ⌜ steps ≤ mostSteps ⌝ }
     ensures { λ r. ⌜ r ≡ tooShort steps log trace ⌝ }
 {
     if steps == 0 {

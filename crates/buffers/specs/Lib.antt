@@ -1,5 +1,5 @@
--- What recording and replay write and answer beside their rules.
---     Terms     what the functions leave in the arrays that they are lent (to be believed)
---     Laws      records of four bytes, copies (proved)
+-- Bytes read and written.
+--     Terms     what storing a record leaves in an array
+--     Laws      records of four bytes, copies, a buffer written piece by piece (proved)
 pub mod Terms
 pub mod Laws

@@ -1,4 +1,4 @@
--- What the functions leave in the arrays that they are lent.
+-- What storing a record leaves in an array.
 use Prim.Native.Nat.{ℕ, _+_, _*_, _/_, _%_}
 use mathlib.Core.List.{List}
 use lib.ListN.{set}

@@ -1,5 +1,5 @@
-// What recording and replay share beside their rules: whether what they are given is whole records, the records of four bytes
-// that they write, and the bytes that are copied out (document 01, "Trace, log, run list" and "Refusals").
+// Bytes as all layers read and write them: numbers of two bytes, whole records, the records of four bytes of a log, a trace or a
+// run list, and bytes copied to a lent buffer (document 01, "Trace, log, run list" and "Refusals").
 
 ghost use mathlib.Core.Path.{_≡_};
 ghost use Prim.Native.Nat.{_+_, _*_, _≤_};

@@ -9,7 +9,7 @@ use Rattle.rules.specs.Scheduling.{holds, pushes}
 use Rattle.policy.specs.declared.Running.{Running}
 use Rattle.policy.specs.declared.Running.the-variants.{Opens, Ends}
 
--- What running a step holds and pushes. An end pushes nothing, and so does a step that the tree has not.
+-- What running a step holds and pushes. An end pushes nothing, and so does a step beyond the tree.
 unfoldable pub runningOf : ℕ → List ℕ → ℕ → Running
 runningOf p ks i =
     cond (leb (length ks) i || isEnd (kindAt ks i)) Ends (Opens (record { 0 = holds p ks i }) (record { 0 = pushes p ks i }))

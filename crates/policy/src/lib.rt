@@ -1,5 +1,5 @@
-// What running a step holds next and what it pushes, under a policy (document 01, "Scheduling"). `pushes_child` is the one place
-// where the policies differ.
+// What a run is set up with, its policies and workers, and what running a step holds next and pushes under a policy (document 01,
+// "Scheduling"). `pushes_child` is the one place where the policies differ.
 ghost use mathlib.Core.Path.{_≡_};
 ghost use Prim.Native.Nat.{_<_};
 ghost use lib.ListN.{length};
@@ -54,7 +54,7 @@ pub fn pushes_child(policy: u8, kind: u8) -> bool
 
 // The step that running an opening step holds next.
 pub fn held_after(tree: &[u8], ends: &[u16], policy: u8, step: Step) -> Step
-    requires { ⌜ (step .0 < length (kinds (now tree))) × Ends (kinds (now tree)) (now ends) (length (now ends)) ⌝ }
+    requires { let ks = kinds (now tree) in ⌜ (step .0 < length ks) × Ends ks (now ends) (length (now ends)) ⌝ }
     ensures { λ r. ⌜ r .0 ≡ holds policy (kinds (now (tree .entry))) (step .0) ⌝ }
 {
     let i = step.0;
@@ -66,7 +66,7 @@ pub fn held_after(tree: &[u8], ends: &[u16], policy: u8, step: Step) -> Step
 
 // The step that running an opening step pushes.
 pub fn pushed_by(tree: &[u8], ends: &[u16], policy: u8, step: Step) -> Step
-    requires { ⌜ (step .0 < length (kinds (now tree))) × Ends (kinds (now tree)) (now ends) (length (now ends)) ⌝ }
+    requires { let ks = kinds (now tree) in ⌜ (step .0 < length ks) × Ends ks (now ends) (length (now ends)) ⌝ }
     ensures { λ r. ⌜ r .0 ≡ pushes policy (kinds (now (tree .entry))) (step .0) ⌝ }
 {
     let i = step.0;
@@ -76,7 +76,7 @@ pub fn pushed_by(tree: &[u8], ends: &[u16], policy: u8, step: Step) -> Step
     cont_by(tree, ends, step)
 }
 
-// What running a step does to its worker. A step that the tree has not is taken as an end.
+// What running a step does to its worker. A step beyond the tree is taken as an end.
 pub fn running_of(tree: &[u8], policy: u8, step: Step) -> Running
     ensures { λ r. ⌜ r ≡ runningOf policy (kinds (now (tree .entry))) (step .0) ⌝ }
 {

@@ -36,7 +36,7 @@ pub fn steps(tree: &[u8]) -> usize
     tree.len() / TREE_RECORD
 }
 
-// The kind of a step's record, 0 where the tree has no such step.
+// The kind of a step's record, 0 where it is beyond the tree.
 pub fn kind(tree: &[u8], step: Step) -> u8
     ensures { λ r. ⌜ r ≡ kindAt (kinds (now (tree .entry))) (step .0) ⌝ }
 {
@@ -55,7 +55,7 @@ pub struct Accepted {
     pub steps: usize,
 }
 
-// The weight of a step, 0 where the tree has no such step.
+// The weight of a step, 0 where it is beyond the tree.
 pub fn weight(tree: &[u8], step: Step) -> u32
     ensures { λ r. ⌜ r ≡ getD (weights (now (tree .entry))) (step .0) 0 ⌝ }
 {

@@ -25,8 +25,8 @@ pub fn fill(tree: &[u8], ends: &mut [u16], openers: &mut [u16])
     requires { ⌜ treeVerdict (now tree) .number ≡ 0 ⌝ }
     requires { ⌜ length (kinds (now tree)) ≤ length (now ends) ⌝ }
     requires { ⌜ length (kinds (now tree)) ≤ length (now openers) ⌝ }
-    ensures ends { λ r. ⌜ Ends (kinds (now (tree .entry))) (now (ends .exit)) (length (kinds (now (tree .entry)))) ⌝ }
-    ensures openers { λ r. ⌜ Openers (kinds (now (tree .entry))) (now (openers .exit)) (length (kinds (now (tree .entry)))) ⌝ }
+    ensures ends { λ r. let ks = kinds (now (tree .entry)) in ⌜ Ends ks (now (ends .exit)) (length ks) ⌝ }
+    ensures openers { λ r. let ks = kinds (now (tree .entry)) in ⌜ Openers ks (now (openers .exit)) (length ks) ⌝ }
 {
     let mut j = tree.len() / TREE_RECORD;
     while 0 < j {

@@ -1,8 +1,7 @@
-// The table of what all steps before each weigh (document 01, "The tree file").
-
+// The table of what all steps before each step weigh (document 01, "The tree file").
 ghost use Prim.Native.Nat.{_≤_, _<_};
 ghost use lib.ListN.{length};
-ghost use Rattle.rules.specs.Tree.{kinds, weights};
+ghost use Rattle.rules.specs.Tree.{mostSteps, kinds, weights};
 ghost use Rattle.tree_tables.specs.Terms.{Sums};
 use tree::MOST_STEPS;
 use tree::Step;
@@ -12,11 +11,13 @@ use tree::weight;
 // Entries of the table: one more than there are steps, since the last has what all weigh.
 pub const SUMS: usize = MOST_STEPS + 1;
 
-// Adds up the weights.
+// Adds the weights up, from the first step to the last.
 pub fn add_up(tree: &[u8], sums: &mut [u64])
-    requires { ⌜ length (kinds (now tree)) ≤ 4095 ⌝ }
+    requires { ⌜ length (kinds (now tree)) ≤ mostSteps ⌝ }
     requires { ⌜ length (kinds (now tree)) < length (now sums) ⌝ }
-    ensures { λ r. ⌜ Sums (weights (now (tree .entry))) (now (sums .exit)) (length (kinds (now (tree .entry)))) ⌝ }
+    ensures { λ r.
+        let file = now (tree .entry) in
+        ⌜ Sums (weights file) (now (sums .exit)) (length (kinds file)) ⌝ }
 {
     let n = tree.len() / TREE_RECORD;
     sums[0] = 0;

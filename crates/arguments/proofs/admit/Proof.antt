@@ -1,4 +1,5 @@
--- `calls::admit` meets its contract: each return is a law of its answer. Assumes nothing.
+-- `arguments::admit` meets its contract: a policy below 1 or above 2 is refused, and for the two others the tree decides. Assumes
+-- nothing.
 use native.Mathlib.Omega.{arith}
 use Rattle.arguments.specs.Laws.Starts.{admission-policy, admission-tree}
 use borrow.Author.Needs.{needs}

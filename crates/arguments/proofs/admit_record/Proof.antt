@@ -1,4 +1,5 @@
--- `calls::admit_record` meets its contract: a law says what the judged answer is. Assumes nothing.
+-- `arguments::admit_record` meets its contract: a refused start decides whatever the other tests say; for an accepted one the count of
+-- steps is the tree's, so the outputs are judged by it. Assumes nothing.
 use Prim.Native.Nat.{ℕ}
 use mathlib.Core.Path.{_∙_}
 use borrow.Author.Needs.{needs}
@@ -28,7 +29,8 @@ returns c =
     let whole = short .before in
     let start = whole .before in
     let a = start .before .before .before .args in
-    let is = judged-is (a .policy) (a .tree .now) (start .admit .result) (start .admit .ensures) _ (λ (n : ℕ). tooShort n (a .log) (a .trace)) in
+    let judged = judged-is (a .policy) (a .tree .now) (start .admit .result) (start .admit .ensures) in
+    let is = judged _ (λ (n : ℕ). tooShort n (a .log) (a .trace)) in
     c .judge .ensures ∙ rw (short .too-short .ensures, whole .whole-records .ensures) is
 
 pub admit-record-spec : {M : Type 1} → statement M

@@ -1,4 +1,5 @@
--- `calls::admit_replay` meets its contract: a law says what the judged answer is. Assumes nothing.
+-- `arguments::admit_replay` meets its contract: a refused start decides whatever the other tests say; for an accepted one the count of
+-- steps is the tree's, so the outputs are judged by it. Assumes nothing.
 use Prim.Native.Nat.{ℕ, _*_}
 use mathlib.Core.Path.{_∙_}
 use native.Mathlib.Omega.{arith}

@@ -1,4 +1,4 @@
--- `calls::judge` meets its contract: a return for each of its tests. Assumes nothing.
+-- `arguments::judge` meets its contract: it asks in rising number, as `judged` does, and the first refusal decides. Assumes nothing.
 use mathlib.Core.Path.{refl}
 use borrow.Author.Tests.{eq-eqb, ne-eqb, not-true, not-false}
 use Rattle.arguments.specs.Terms.{judged}

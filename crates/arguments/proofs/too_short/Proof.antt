@@ -1,4 +1,5 @@
--- `calls::too_short` meets its contract: no steps need no room; else it tests the log's length, then the trace's. Assumes nothing.
+-- `arguments::too_short` meets its contract: no steps need no room; for some steps it tests the log's length, then the trace's.
+-- Assumes nothing.
 use Prim.Native.Nat.{_-_, _*_}
 use mathlib.Core.Path.{_≡_, refl}
 use native.Mathlib.Omega.{arith}

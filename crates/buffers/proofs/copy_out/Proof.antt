@@ -1,5 +1,5 @@
--- `outputs::copy_out` meets its contract: the loop holds what is copied so far, and a law says what a turn does to that. Assumes
--- nothing.
+-- `buffers::copy_out` meets its contract: after i turns the first i bytes stand over the front of the buffer and its old bytes behind
+-- them, so at the end all are copied. Assumes nothing.
 use Prim.Native.Nat.{_-_, _≤_}
 use mathlib.Core.Path.{_≡_}
 use native.Mathlib.Omega.{arith}

@@ -1,4 +1,5 @@
--- `outputs::put_record` meets its contract: it is four stores. Assumes nothing.
+-- `buffers::put_record` meets its contract: it makes the four stores that `recordPut` names, and the record ends within the array.
+-- Assumes nothing.
 use mathlib.Core.Path.{refl}
 use native.Mathlib.Omega.{arith}
 use lib.ListN.{length-set}

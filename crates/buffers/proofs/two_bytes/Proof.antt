@@ -1,4 +1,4 @@
--- `buffers::two_bytes` meets its contract: two bytes give a number below 65,536. Assumes nothing.
+-- `buffers::two_bytes` meets its contract: two bytes give a number below 65,536, so no sum is too large for 16 bits. Assumes nothing.
 use mathlib.Core.Path.{refl}
 use borrow.Author.Needs.{needs}
 use Rattle.buffers.proofs.two_bytes.Statement.{statement}

@@ -1,4 +1,4 @@
--- `outputs::whole_records` meets its contract: it tests both halves of the rule. Assumes nothing.
+-- `buffers::whole_records` meets its contract: it tests the remainder and then the count, as the rule does. Assumes nothing.
 use Prim.Native.Nat.{_%_}
 use mathlib.Core.Path.{refl}
 use lib.ListN.{length}

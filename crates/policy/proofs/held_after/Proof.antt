@@ -1,4 +1,5 @@
--- `policy::held_after` meets its contract: it takes the branch that `pushesChild` takes. Assumes nothing.
+-- `policy::held_after` meets its contract: of the child's first step and the continuation the code takes by `pushes_child` the one that
+-- `holds` takes by `pushesChild`. Assumes nothing.
 use mathlib.Core.Path.{sym, _∙_}
 use native.Mathlib.Omega.{arith}
 use Rattle.rules.specs.Tree.{kinds}
@@ -20,8 +21,9 @@ cont-by-requires c κs = search needs
 returns : tie.Need-returns
 returns c =
     let a = c .before .before .before .before .before .before .args in
-    c .cont-by .ensures
-    ∙ holds-cont (a .policy) (kinds (a .tree .now)) (a .step .0) (rw (c .before .before .before .kind .ensures) at (sym (c .before .before .pushes-child .ensures) ∙ c .before .if1 .taken))
+    let pushed = sym (c .before .before .pushes-child .ensures) ∙ c .before .if1 .taken in
+    let child = rw (c .before .before .before .kind .ensures) at pushed in
+    c .cont-by .ensures ∙ holds-cont (a .policy) (kinds (a .tree .now)) (a .step .0) child
 
 add-t8 : tie.Need-add-t8
 add-t8 c =
@@ -30,7 +32,8 @@ add-t8 c =
 returns-2 : tie.Need-returns-2
 returns-2 c =
     let a = c .before .before .before .before .before .args in
-    holds-next (a .policy) (kinds (a .tree .now)) (a .step .0) (rw (c .before .before .kind .ensures) at (sym (c .before .pushes-child .ensures) ∙ c .if1 .left))
+    let other = sym (c .before .pushes-child .ensures) ∙ c .if1 .left in
+    holds-next (a .policy) (kinds (a .tree .now)) (a .step .0) (rw (c .before .before .kind .ensures) at other)
 
 pub held-after-spec : {M : Type 1} → statement M
 held-after-spec =

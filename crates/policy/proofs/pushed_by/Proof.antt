@@ -1,4 +1,5 @@
--- `policy::pushed_by` meets its contract: it takes the branch that `pushesChild` takes. Assumes nothing.
+-- `policy::pushed_by` meets its contract: of the child's first step and the continuation the code takes by `pushes_child` the one that
+-- `pushes` takes by `pushesChild`. Assumes nothing.
 use mathlib.Core.Path.{sym, _∙_}
 use native.Mathlib.Omega.{arith}
 use Rattle.rules.specs.Tree.{kinds}
@@ -21,7 +22,8 @@ add-t8 c =
 returns : tie.Need-returns
 returns c =
     let a = c .before .before .before .before .before .args in
-    pushes-next (a .policy) (kinds (a .tree .now)) (a .step .0) (rw (c .before .before .kind .ensures) at (sym (c .before .pushes-child .ensures) ∙ c .if1 .taken))
+    let pushed = sym (c .before .pushes-child .ensures) ∙ c .if1 .taken in
+    pushes-next (a .policy) (kinds (a .tree .now)) (a .step .0) (rw (c .before .before .kind .ensures) at pushed)
 
 cont-by-requires : tie.Need-cont-by-requires
 cont-by-requires c κs = search needs
@@ -29,8 +31,9 @@ cont-by-requires c κs = search needs
 returns-2 : tie.Need-returns-2
 returns-2 c =
     let a = c .before .before .before .before .before .before .args in
-    c .cont-by .ensures
-    ∙ pushes-cont (a .policy) (kinds (a .tree .now)) (a .step .0) (rw (c .before .before .before .kind .ensures) at (sym (c .before .before .pushes-child .ensures) ∙ c .before .if1 .left))
+    let other = sym (c .before .before .pushes-child .ensures) ∙ c .before .if1 .left in
+    let kept = rw (c .before .before .before .kind .ensures) at other in
+    c .cont-by .ensures ∙ pushes-cont (a .policy) (kinds (a .tree .now)) (a .step .0) kept
 
 pub pushed-by-spec : {M : Type 1} → statement M
 pushed-by-spec =

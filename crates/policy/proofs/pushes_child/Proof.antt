@@ -1,4 +1,4 @@
--- `policy::pushes_child` meets its contract: it takes the branch that `pushesChild` takes. Assumes nothing.
+-- `policy::pushes_child` meets its contract: only help-first pushes a child, and only that of an async. Assumes nothing.
 use borrow.Author.Tests.{eq-eqb, ne-eqb}
 use Rattle.rules.specs.Scheduling.{pushesChild}
 use Rattle.rules.specs.Tree.{isAsync}

@@ -1,4 +1,5 @@
--- `policy::running_of` meets its contract: each return is a law of what running a step holds and pushes. Assumes nothing.
+-- `policy::running_of` meets its contract: a step beyond the tree and an end hold nothing, and an opening step holds and pushes what
+-- `held_after` and `pushed_by` answer. Assumes nothing.
 use Prim.Native.Nat.{_<_}
 use mathlib.Core.Path.{_∙_, sym}
 use native.Mathlib.Omega.{arith}

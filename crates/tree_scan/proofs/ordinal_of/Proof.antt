@@ -1,4 +1,4 @@
--- `tasks::ordinal_of` meets its contract: it is a part of what `task_of` answers. Assumes nothing.
+-- `tree_scan::ordinal_of` meets its contract: `task_of` answers the ordinal beside the task. Assumes nothing.
 use mathlib.Core.Path.{ap}
 use borrow.Author.Needs.{needs}
 use Rattle.tree_scan.specs.declared.Task.{Task}

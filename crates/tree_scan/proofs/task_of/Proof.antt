@@ -1,15 +1,13 @@
+-- `tree_scan::task_of` meets its contract: going back, the scan counts the ends whose openings are still to come; an opening that no
+-- end matches opens the step's task, and the openings that bring the count to 0 are the task's children. Assumes nothing.
 use Prim.Native.Nat.{ℕ, _+_, _-_, _*_}
+use mathlib.Core.Path.{_≡_, _∙_, sym}
 use mathlib.Core.List.{List}
-use lib.ListN.{getD}
-use Rattle.rules.specs.Tree.{kindAt, task, ordinal}
-use Rattle.tree_scan.specs.declared.Task.{Task}
-use mathlib.Core.Path.{_≡_}
--- `tasks::task_of` meets its contract: the loop is the backward scan, whose laws say what holds at its start, after each
--- record and at its end. Assumes nothing.
-use native.Mathlib.Omega.{arith}
-use mathlib.Core.Path.{_∙_, sym}
 use mathlib.Core.Logic.{⊎-elim}
-use Rattle.rules.specs.Tree.{kinds}
+use native.Mathlib.Omega.{arith}
+use lib.ListN.{getD}
+use Rattle.rules.specs.Tree.{kinds, kindAt, task, ordinal}
+use Rattle.tree_scan.specs.declared.Task.{Task}
 use Rattle.tree_scan.specs.Contract.{taskOf}
 use Rattle.tree.specs.Laws.Records.{length-kinds, kind-at}
 use Rattle.tree_scan.specs.Laws.Scans.{Backward, backward-start, backward-start-past, backward-turn, backward-end}
@@ -25,18 +23,30 @@ abbrev μ-loop : tie.MeasureT-loop
 
 -- The invariant one record back.
 back : (c : tie.After-row-known Inv-loop μ-loop)
-    → Backward (kinds (c .before .before .before .before .args .tree .now)) (c .before .before .before .before .args .step .0) (c .before .before .loop .j - 1 + 1) (c .before .before .loop .ended) (c .before .before .loop .children)
-back c =
+    → let a = c .before .before .before .before .args in
     let loop = c .before .before .loop in
-    backward-turn (kinds (c .before .before .before .before .args .tree .now)) (c .before .before .before .before .args .step .0) (loop .j) (loop .ended) (loop .children) (loop .inv) (omega arith)
+    Backward (kinds (a .tree .now)) (a .step .0) (loop .j - 1 + 1) (loop .ended) (loop .children)
+back c =
+    let a = c .before .before .before .before .args in
+    let ks = kinds (a .tree .now) in
+    let loop = c .before .before .loop in
+    backward-turn ks (a .step .0) (loop .j) (loop .ended) (loop .children) (loop .inv) (omega arith)
 
 -- Its kind, as the slice has it.
 kind-back : (c : tie.After-row-known Inv-loop μ-loop)
-    → kindAt (kinds (c .before .before .before .before .args .tree .now)) (c .before .before .loop .j - 1) ≡ getD (c .before .before .before .before .args .tree .now) (8 * (c .before .before .loop .j - 1)) 0
-kind-back c = kind-at (c .before .before .before .before .args .tree .now) (c .before .before .loop .j - 1) (omega (arith, length-kinds (c .before .before .before .before .args .tree .now)))
+    → let tree = c .before .before .before .before .args .tree .now in
+    let j = c .before .before .loop .j - 1 in
+    kindAt (kinds tree) j ≡ getD tree (8 * j) 0
+kind-back c =
+    let a = c .before .before .before .before .args in
+    let ks = kinds (a .tree .now) in
+    kind-at (a .tree .now) (c .before .before .loop .j - 1) (omega (arith, length-kinds (a .tree .now)))
 
 -- It opens a task.
-opens : (c : tie.Else2 Inv-loop μ-loop) → kindAt (kinds (c .before .before .before .before .before .before .args .tree .now)) (c .before .before .before .before .loop .j - 1) ≡ 3 → ⊥
+opens : (c : tie.Else2 Inv-loop μ-loop)
+    → let tree = c .before .before .before .before .before .before .args .tree .now in
+    kindAt (kinds tree) (c .before .before .before .before .loop .j - 1) ≡ 3
+    → ⊥
 opens c e = c .if2 .left (sym (kind-back (c .before .before)) ∙ e)
 
 -- The answer from its parts.
@@ -47,10 +57,11 @@ answer ks i f o first count = λ k. record { first = record { 0 = sym first k };
 
 loop-holds : tie.Need-loop-holds Inv-loop μ-loop
 loop-holds c =
-    let tree = c .before .args .tree .now in
+    let a = c .before .args in
+    let tree = a .tree .now in
     ⊎-elim
-    (λ w. rw (w .1) (backward-start (kinds tree) (c .before .args .step .0) (omega (arith, length-kinds tree))))
-    (λ w. rw (w .1, ← length-kinds tree) (backward-start-past (kinds tree) (c .before .args .step .0) (omega (arith, length-kinds tree, w .0 .left))))
+    (λ w. rw (w .1) (backward-start (kinds tree) (a .step .0) (omega (arith, length-kinds tree))))
+    (λ w. rw (w .1, ← length-kinds tree) (backward-start-past (kinds tree) (a .step .0) (omega (arith, length-kinds tree, w .0 .left))))
     (c .if1 .came)
 
 sub-j : tie.Need-sub-j Inv-loop μ-loop
@@ -70,8 +81,10 @@ loop-less c = omega arith
 
 loop-again : tie.Need-loop-again Inv-loop μ-loop
 loop-again c =
+    let a = c .before .before .before .before .before .before .args in
+    let ks = kinds (a .tree .now) in
     let loop = c .before .before .before .before .loop in
-    backward-end (kinds (c .before .before .before .before .before .before .args .tree .now)) (c .before .before .before .before .before .before .args .step .0) (loop .j - 1) (loop .ended) (loop .children) (back (c .before .before))
+    backward-end ks (a .step .0) (loop .j - 1) (loop .ended) (loop .children) (back (c .before .before))
     (kind-back (c .before .before) ∙ c .if2 .taken)
 
 add-t15 : tie.Need-add-t15 Inv-loop μ-loop
@@ -79,10 +92,12 @@ add-t15 c = omega (arith, length-kinds (c .before .before .before .before .befor
 
 returns : tie.Need-returns Inv-loop μ-loop
 returns c =
-    let tree = c .before .before .before .before .before .before .before .args .tree .now in
+    let a = c .before .before .before .before .before .before .before .args in
+    let tree = a .tree .now in
     let loop = c .before .before .before .before .before .loop in
-    let found = backward-found (kinds tree) (c .before .before .before .before .before .before .before .args .step .0) (loop .j - 1) (loop .children) (rw (c .if3 .taken) at (back (c .before .before .before))) (opens (c .before)) in
-    answer (kinds tree) (c .before .before .before .before .before .before .before .args .step .0) (loop .j - 1 + 1) (loop .children) (found .0) (found .1)
+    let none = rw (c .if3 .taken) at (back (c .before .before .before)) in
+    let found = backward-found (kinds tree) (a .step .0) (loop .j - 1) (loop .children) none (opens (c .before)) in
+    answer (kinds tree) (a .step .0) (loop .j - 1 + 1) (loop .children) (found .0) (found .1)
 
 sub-ended : tie.Need-sub-ended Inv-loop μ-loop
 sub-ended c = omega arith
@@ -95,11 +110,13 @@ loop-less-2 c = omega arith
 
 loop-again-2 : tie.Need-loop-again-2 Inv-loop μ-loop
 loop-again-2 c =
+    let a = c .before .before .before .before .before .before .before .before .args in
+    let ks = kinds (a .tree .now) in
     let loop = c .before .before .before .before .before .before .loop in
     let one : loop .ended ≡ 1 = omega arith in
     let none : loop .ended - 1 ≡ 0 = omega arith in
     rw none
-    (backward-child (kinds (c .before .before .before .before .before .before .before .before .args .tree .now)) (c .before .before .before .before .before .before .before .before .args .step .0) (loop .j - 1) (loop .children) (rw one at (back (c .before .before .before .before)))
+    (backward-child ks (a .step .0) (loop .j - 1) (loop .children) (rw one at (back (c .before .before .before .before)))
     (opens (c .before .before)))
 
 loop-less-3 : tie.Need-loop-less-3 Inv-loop μ-loop
@@ -107,18 +124,21 @@ loop-less-3 c = omega arith
 
 loop-again-3 : tie.Need-loop-again-3 Inv-loop μ-loop
 loop-again-3 c =
+    let a = c .before .before .before .before .before .before .before .before .args in
+    let ks = kinds (a .tree .now) in
     let loop = c .before .before .before .before .before .before .loop in
     let same : loop .ended ≡ loop .ended - 1 + 1 = omega arith in
-    backward-inner (kinds (c .before .before .before .before .before .before .before .before .args .tree .now)) (c .before .before .before .before .before .before .before .before .args .step .0) (loop .j - 1) (loop .ended - 1) (loop .children)
+    backward-inner ks (a .step .0) (loop .j - 1) (loop .ended - 1) (loop .children)
     (rw same at (back (c .before .before .before .before))) (omega arith) (opens (c .before .before))
 
 returns-2 : tie.Need-returns-2 Inv-loop μ-loop
 returns-2 c =
-    let tree = c .before .before .before .args .tree .now in
+    let a = c .before .before .before .args in
+    let tree = a .tree .now in
     let loop = c .before .loop in
     let start : loop .j ≡ 0 = omega arith in
-    let found = backward-done (kinds tree) (c .before .before .before .args .step .0) (loop .ended) (loop .children) (rw start at (loop .inv)) in
-    answer (kinds tree) (c .before .before .before .args .step .0) 0 (loop .children) (found .0) (found .1)
+    let found = backward-done (kinds tree) (a .step .0) (loop .ended) (loop .children) (rw start at (loop .inv)) in
+    answer (kinds tree) (a .step .0) 0 (loop .children) (found .0) (found .1)
 
 pub task-of-spec : {M : Type 1} → statement M
 task-of-spec =

@@ -53,8 +53,10 @@ after-drop (k ∷ ks) zero =
     let none : suc (length ks) - suc (length ks) ≡ 0 = omega arith in
     rw none refl
 after-drop (k ∷ ks) (suc d) =
-    let one : suc (length ks) - length (afterEnds ks (openAfter k (suc d))) ≡ suc (length ks - length (afterEnds ks (openAfter k (suc d)))) = omega (arith, after-short ks (openAfter k (suc d))) in
-    rw one (after-drop ks (openAfter k (suc d)))
+    let left = openAfter k (suc d) in
+    let one : suc (length ks) - length (afterEnds ks left) ≡ suc (length ks - length (afterEnds ks left)) =
+    omega (arith, after-short ks left) in
+    rw one (after-drop ks left)
 
 -- ---- balanced lists
 

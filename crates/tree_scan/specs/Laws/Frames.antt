@@ -48,8 +48,9 @@ module _ (ks : List ℕ) where
   unfolding taskEnd
   end-drop i h =
       let short = after-short (drop i ks) 1 in
-      let at : length ks - length (afterEnds (drop i ks) 1) ≡ i + (length (drop i ks) - length (afterEnds (drop i ks) 1)) = omega (arith, length-drop i ks) in
-      rw (at, ← drop-drop (length (drop i ks) - length (afterEnds (drop i ks) 1)) i ks) (after-drop (drop i ks) 1)
+      let left = length (afterEnds (drop i ks) 1) in
+      let at : length ks - left ≡ i + (length (drop i ks) - left) = omega (arith, length-drop i ks) in
+      rw (at, ← drop-drop (length (drop i ks) - left) i ks) (after-drop (drop i ks) 1)
 
   -- An end's task ends with it.
   end-of-end : (i : ℕ) → i < length ks → endAt ks i ≡ true → taskEnd ks i ≡ suc i

@@ -1,5 +1,5 @@
--- `tables::fill` meets its contract: the loop is the fill, whose laws say what holds at its start, after each step and at
--- its end. Assumes nothing.
+-- `tree_tables::fill` meets its contract: from the last step down, an end's task ends behind it, and an opening step finds its
+-- continuation where its child's task ends and its own end where the continuation's is, both filled before. Assumes nothing.
 use Prim.Native.Nat.{suc, _+_, _-_, _*_, _≤_, _<_}
 use mathlib.Core.Path.{_≡_, sym, _∙_}
 use mathlib.Core.Bool.{false}
@@ -25,10 +25,10 @@ frame c = accepted-frame (c .before .before .before .before .args .tree .now) (c
 
 -- How far the steps reach.
 reach : (c : tie.At-loop Inv-loop μ-loop)
-    → (c .loop .j ≤ 4095) × (c .loop .j ≤ length (kinds (c .before .before .before .before .args .tree .now)))
-    × (8 * length (kinds (c .before .before .before .before .args .tree .now)) ≡ length (c .before .before .before .before .args .tree .now))
-    × (length (kinds (c .before .before .before .before .args .tree .now)) ≤ length (c .loop .ends))
-    × (length (kinds (c .before .before .before .before .args .tree .now)) ≤ length (c .loop .openers))
+    → let tree = c .before .before .before .before .args .tree .now in
+    let n = length (kinds tree) in
+    let loop = c .loop in
+    (loop .j ≤ 4095) × (loop .j ≤ n) × (8 * n ≡ length tree) × (n ≤ length (loop .ends)) × (n ≤ length (loop .openers))
 reach c =
     let f = c .loop .inv in
     let a = frame c in
@@ -36,46 +36,65 @@ reach c =
 
 -- The tables one step back.
 back : (c : tie.In-loop Inv-loop μ-loop)
-    → Filled (kinds (c .before .before .before .before .before .args .tree .now)) (c .before .before .before .before .before .args .ends .now) (c .before .before .before .before .before .args .openers .now) (c .before .loop .ends) (c .before .loop .openers) (suc (c .before .loop .j - 1))
+    → let a = c .before .before .before .before .before .args in
+    let loop = c .before .loop in
+    Filled (kinds (a .tree .now)) (a .ends .now) (a .openers .now) (loop .ends) (loop .openers) (suc (loop .j - 1))
 back c =
     let a = c .before .before .before .before .before .args in
     let loop = c .before .loop in
-    fill-turn (kinds (a .tree .now)) (frame (c .before) .shape) (a .ends .now) (a .openers .now) (loop .ends) (loop .openers) (loop .j) (loop .inv) (omega arith)
+    let sh = frame (c .before) .shape in
+    fill-turn (kinds (a .tree .now)) sh (a .ends .now) (a .openers .now) (loop .ends) (loop .openers) (loop .j) (loop .inv) (omega arith)
 
 -- Its kind, as the slice has it.
 kind-back : (c : tie.In-loop Inv-loop μ-loop)
-    → kindAt (kinds (c .before .before .before .before .before .args .tree .now)) (c .before .loop .j - 1) ≡ getD (c .before .before .before .before .before .args .tree .now) (8 * (c .before .loop .j - 1)) 0
+    → let tree = c .before .before .before .before .before .args .tree .now in
+    let j = c .before .loop .j - 1 in
+    kindAt (kinds tree) j ≡ getD tree (8 * j) 0
 kind-back c =
     let tree = c .before .before .before .before .before .args .tree .now in
     kind-at tree (c .before .loop .j - 1) (omega (arith, length-kinds tree, reach (c .before)))
 
 -- It opens a task.
-opens : (c : tie.Else1 Inv-loop μ-loop) → endAt (kinds (c .before .before .before .before .before .before .before .args .tree .now)) (c .before .before .before .loop .j - 1) ≡ false
-opens c = open-kind (kinds (c .before .before .before .before .before .before .before .args .tree .now)) (c .before .before .before .loop .j - 1) (λ e. c .if1 .left (sym (kind-back (c .before .before)) ∙ e))
+opens : (c : tie.Else1 Inv-loop μ-loop)
+    → let tree = c .before .before .before .before .before .before .before .args .tree .now in
+    endAt (kinds tree) (c .before .before .before .loop .j - 1) ≡ false
+opens c =
+    let tree = c .before .before .before .before .before .before .before .args .tree .now in
+    let j = c .before .before .before .loop .j - 1 in
+    open-kind (kinds tree) j (λ e. c .if1 .left (sym (kind-back (c .before .before)) ∙ e))
 
 -- Its child and its continuation are steps,
 inside : (c : tie.Else1 Inv-loop μ-loop)
-    → (c .before .before .before .loop .j - 1 + 1 < length (kinds (c .before .before .before .before .before .before .before .args .tree .now)))
-    × (cont (kinds (c .before .before .before .before .before .before .before .args .tree .now)) (c .before .before .before .loop .j - 1) < length (kinds (c .before .before .before .before .before .before .before .args .tree .now)))
+    → let ks = kinds (c .before .before .before .before .before .before .before .args .tree .now) in
+    let j = c .before .before .before .loop .j - 1 in
+    (j + 1 < length ks) × (cont ks j < length ks)
 inside c =
     let a = c .before .before .before .before .before .before .before .args in
     let loop = c .before .before .before .loop in
-    fill-inside (kinds (a .tree .now)) (frame (c .before .before .before) .shape) (a .ends .now) (a .openers .now) (loop .ends) (loop .openers) (loop .j - 1) (back (c .before .before)) (opens c)
+    let sh = frame (c .before .before .before) .shape in
+    let filled = back (c .before .before) in
+    fill-inside (kinds (a .tree .now)) sh (a .ends .now) (a .openers .now) (loop .ends) (loop .openers) (loop .j - 1) filled (opens c)
 
 -- and the continuation is the one that is read.
 next : (c : tie.After-wide Inv-loop μ-loop)
-    → c .wide .result ≡ cont (kinds (c .before .before .before .before .before .before .before .before .before .args .tree .now)) (c .before .before .before .before .before .loop .j - 1)
+    → let tree = c .before .before .before .before .before .before .before .before .before .args .tree .now in
+    c .wide .result ≡ cont (kinds tree) (c .before .before .before .before .before .loop .j - 1)
 next c =
     let a = c .before .before .before .before .before .before .before .before .before .args in
     let loop = c .before .before .before .before .before .loop in
+    let sh = frame (c .before .before .before .before .before) .shape in
+    let filled = back (c .before .before .before .before) in
+    let opening = opens (c .before .before) in
     c .wide .ensures
-    ∙ fill-after (kinds (a .tree .now)) (frame (c .before .before .before .before .before) .shape) (a .ends .now) (a .openers .now) (loop .ends) (loop .openers) (loop .j - 1) (back (c .before .before .before .before)) (opens (c .before .before))
+    ∙ fill-after (kinds (a .tree .now)) sh (a .ends .now) (a .openers .now) (loop .ends) (loop .openers) (loop .j - 1) filled opening
 
 loop-holds : tie.Need-loop-holds Inv-loop μ-loop
 loop-holds c =
     let a = c .before .before .before .args in
     let pre = c .before .before .before .pre in
-    rw (← length-kinds (a .tree .now)) (fill-start (kinds (a .tree .now)) (accepted-frame (a .tree .now) (pre .0) .shape) (a .ends .now) (a .openers .now) (pre .1 .0) (pre .1 .1))
+    let sh = accepted-frame (a .tree .now) (pre .0) .shape in
+    rw (← length-kinds (a .tree .now))
+    (fill-start (kinds (a .tree .now)) sh (a .ends .now) (a .openers .now) (pre .1 .0) (pre .1 .1))
 
 sub-j : tie.Need-sub-j Inv-loop μ-loop
 sub-j c = omega arith
@@ -105,7 +124,9 @@ loop-again : tie.Need-loop-again Inv-loop μ-loop
 loop-again c =
     let a = c .before .before .before .before .before .before .before .args in
     let loop = c .before .before .before .loop in
-    fill-end (kinds (a .tree .now)) (frame (c .before .before .before) .shape) (a .ends .now) (a .openers .now) (loop .ends) (loop .openers) (loop .j - 1) (back (c .before .before))
+    let sh = frame (c .before .before .before) .shape in
+    let filled = back (c .before .before) in
+    fill-end (kinds (a .tree .now)) sh (a .ends .now) (a .openers .now) (loop .ends) (loop .openers) (loop .j - 1) filled
     (end-kind (kinds (a .tree .now)) (loop .j - 1) (kind-back (c .before .before) ∙ c .if1 .taken))
 
 add-wide : tie.Need-add-wide Inv-loop μ-loop
@@ -124,7 +145,8 @@ mul-ends-2 : tie.Need-mul-ends-2 Inv-loop μ-loop
 mul-ends-2 c = omega (arith, next c, frame (c .before .before .before .before .before) .most, inside (c .before .before))
 
 slice-read-ends : tie.Need-slice-read-ends Inv-loop μ-loop
-slice-read-ends c = omega (arith, next (c .before), reach (c .before .before .before .before .before .before), inside (c .before .before .before))
+slice-read-ends c =
+    omega (arith, next (c .before), reach (c .before .before .before .before .before .before), inside (c .before .before .before))
 
 mul-ends-3 : tie.Need-mul-ends-3 Inv-loop μ-loop
 mul-ends-3 c = omega (arith, reach (c .before .before .before .before .before .before))
@@ -148,10 +170,14 @@ cast-openers-2 : tie.Need-cast-openers-2 Inv-loop μ-loop
 cast-openers-2 c = omega (arith, reach (c .before .before .before .before .before .before))
 
 mul-openers-2 : tie.Need-mul-openers-2 Inv-loop μ-loop
-mul-openers-2 c = omega (arith, next (c .before), frame (c .before .before .before .before .before .before) .most, inside (c .before .before .before))
+mul-openers-2 c =
+    let most = frame (c .before .before .before .before .before .before) .most in
+    omega (arith, next (c .before), most, inside (c .before .before .before))
 
 slice-write-openers-2 : tie.Need-slice-write-openers-2 Inv-loop μ-loop
-slice-write-openers-2 c = simp length-set (omega (arith, next (c .before), reach (c .before .before .before .before .before .before), inside (c .before .before .before)))
+slice-write-openers-2 c =
+    let far = reach (c .before .before .before .before .before .before) in
+    simp length-set (omega (arith, next (c .before), far, inside (c .before .before .before)))
 
 loop-less-2 : tie.Need-loop-less-2 Inv-loop μ-loop
 loop-less-2 c = omega arith
@@ -160,7 +186,11 @@ loop-again-2 : tie.Need-loop-again-2 Inv-loop μ-loop
 loop-again-2 c =
     let a = c .before .before .before .before .before .before .before .before .before .before .args in
     let loop = c .before .before .before .before .before .before .loop in
-    fill-open (kinds (a .tree .now)) (frame (c .before .before .before .before .before .before) .shape) (a .ends .now) (a .openers .now) (loop .ends) (loop .openers) (loop .j - 1) (back (c .before .before .before .before .before)) (opens (c .before .before .before)) (c .before .wide .result) (next (c .before))
+    let sh = frame (c .before .before .before .before .before .before) .shape in
+    let filled = back (c .before .before .before .before .before) in
+    let opening = opens (c .before .before .before) in
+    fill-open (kinds (a .tree .now)) sh (a .ends .now) (a .openers .now) (loop .ends) (loop .openers) (loop .j - 1) filled opening
+    (c .before .wide .result) (next (c .before))
 
 same-length : tie.Need-same-length Inv-loop μ-loop
 same-length c = c .before .loop .inv .same-ends

@@ -19,7 +19,8 @@ module _ (ks table : List ℕ) (n : ℕ) (count : n ≡ length ks) (long : n ≤
   length-prefix = length-take-le n table long ∙ count
 
   pub ends-prefix : Ends ks table (length ks) → (length (take n table) ≡ length ks) × Ends ks (take n table) (length (take n table))
-  ends-prefix ends = (length-prefix, λ i h. rw (getD-take n table i 0 (omega (arith, length-prefix))) (ends i (omega (arith, length-prefix))))
+  ends-prefix ends =
+      (length-prefix, λ i h. rw (getD-take n table i 0 (omega (arith, length-prefix))) (ends i (omega (arith, length-prefix))))
 
   pub openers-prefix : Openers ks table (length ks)
       → (length (take n table) ≡ length ks) × Openers ks (take n table) (length (take n table))

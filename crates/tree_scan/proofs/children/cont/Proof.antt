@@ -1,8 +1,7 @@
-use mathlib.Core.Path.{_≡_}
-use mathlib.Core.Path.{_∙_, sym}
--- `children::cont` meets its contract: the loop is the forward scan, whose laws say what holds at its start, after each record
--- and at its end. Assumes nothing.
+-- `tree_scan::children::cont` meets its contract: the scan counts the tasks that are open in the child, so it ends just behind the
+-- record that ends the child, or with the tree. Assumes nothing.
 use Prim.Native.Nat.{_-_}
+use mathlib.Core.Path.{_≡_, _∙_, sym}
 use native.Mathlib.Omega.{arith}
 use Rattle.rules.specs.Tree.{kinds}
 use Rattle.tree.specs.Laws.Records.{length-kinds, kind-at}
@@ -18,19 +17,27 @@ abbrev μ-loop : tie.MeasureT-loop
 μ-loop tree n i j₀ left₀ j left = n - j
 
 returns : tie.Need-returns Inv-loop μ-loop
-returns c = omega (arith, length-kinds (c .before .args .tree .now), cont-past (kinds (c .before .args .tree .now)) (c .before .args .step .0) (omega (arith, length-kinds (c .before .args .tree .now))))
+returns c =
+    let a = c .before .args in
+    let ks = kinds (a .tree .now) in
+    omega (arith, length-kinds (a .tree .now), cont-past ks (a .step .0) (omega (arith, length-kinds (a .tree .now))))
 
 add-j : tie.Need-add-j Inv-loop μ-loop
 add-j c = omega arith
 
 loop-holds : tie.Need-loop-holds Inv-loop μ-loop
-loop-holds c = forward-start (kinds (c .before .args .tree .now)) (c .before .args .step .0) (omega (arith, length-kinds (c .before .args .tree .now)))
+loop-holds c =
+    let a = c .before .args in
+    let ks = kinds (a .tree .now) in
+    forward-start ks (a .step .0) (omega (arith, length-kinds (a .tree .now)))
 
 returns-2 : tie.Need-returns-2 Inv-loop μ-loop
 returns-2 c =
-    let tree = c .before .before .before .before .args .tree .now in
+    let a = c .before .before .before .before .args in
+    let tree = a .tree .now in
     let loop = c .before .before .loop in
-    omega (arith, length-kinds tree, forward-past (kinds tree) (c .before .before .before .before .args .step .0) (loop .j) (loop .left) (loop .inv) (omega (arith, length-kinds tree)))
+    let past = forward-past (kinds tree) (a .step .0) (loop .j) (loop .left) (loop .inv) (omega (arith, length-kinds tree)) in
+    omega (arith, length-kinds tree, past)
 
 mul-k : tie.Need-mul-k Inv-loop μ-loop
 mul-k c = omega arith
@@ -49,9 +56,10 @@ loop-less c = omega arith
 
 loop-again : tie.Need-loop-again Inv-loop μ-loop
 loop-again c =
-    let tree = c .before .before .before .before .before .before .args .tree .now in
+    let a = c .before .before .before .before .before .before .args in
+    let tree = a .tree .now in
     let loop = c .before .before .before .before .loop in
-    forward-end (kinds tree) (c .before .before .before .before .before .before .args .step .0) (loop .j) (loop .left) (loop .inv) (omega (arith, length-kinds tree)) (omega arith)
+    forward-end (kinds tree) (a .step .0) (loop .j) (loop .left) (loop .inv) (omega (arith, length-kinds tree)) (omega arith)
     (kind-at tree (loop .j) (omega arith) ∙ c .if3 .taken)
 
 add-left : tie.Need-add-left Inv-loop μ-loop
@@ -62,16 +70,19 @@ loop-less-2 c = omega arith
 
 loop-again-2 : tie.Need-loop-again-2 Inv-loop μ-loop
 loop-again-2 c =
-    let tree = c .before .before .before .before .before .before .args .tree .now in
+    let a = c .before .before .before .before .before .before .args in
+    let tree = a .tree .now in
     let loop = c .before .before .before .before .loop in
-    forward-open (kinds tree) (c .before .before .before .before .before .before .args .step .0) (loop .j) (loop .left) (loop .inv) (omega (arith, length-kinds tree)) (omega arith)
+    forward-open (kinds tree) (a .step .0) (loop .j) (loop .left) (loop .inv) (omega (arith, length-kinds tree)) (omega arith)
     (λ e. c .if3 .left (sym (kind-at tree (loop .j) (omega arith)) ∙ e))
 
 returns-3 : tie.Need-returns-3 Inv-loop μ-loop
 returns-3 c =
+    let a = c .before .before .before .args in
+    let ks = kinds (a .tree .now) in
     let loop = c .before .loop in
     let none : loop .left ≡ 0 = omega arith in
-    sym (forward-done (kinds (c .before .before .before .args .tree .now)) (c .before .before .before .args .step .0) (loop .j) (rw none at (loop .inv)))
+    sym (forward-done ks (a .step .0) (loop .j) (rw none at (loop .inv)))
 
 pub cont-spec : {M : Type 1} → statement M
 cont-spec =

@@ -1,4 +1,5 @@
--- `lookup::cont_by` meets its contract: past the table's end it scans, else it reads where the child's task ends. Assumes nothing.
+-- `tree_tables::lookup::cont_by` meets its contract: the continuation stands where the child's task ends, which the table has; past
+-- the table's end it scans. Assumes nothing.
 use mathlib.Core.Path.{_∙_}
 use native.Mathlib.Omega.{arith}
 use lib.ListN.{length}

@@ -1,4 +1,5 @@
--- `lookup::finish_by` meets its contract: past the table's end it scans, else a law of the opener says what is found. Assumes nothing.
+-- `tree_tables::lookup::finish_by` meets its contract: where an end stands just before the step, the task that it ends is the child of
+-- the step's opener; past the table's end it scans. Assumes nothing.
 use Prim.Native.Nat.{_-_}
 use mathlib.Core.Path.{sym, _∙_}
 use native.Mathlib.Omega.{arith}
@@ -12,7 +13,8 @@ use Rattle.tree_tables.proofs.lookup.finish_by.Tie as tie
 
 -- What the table has of the step.
 opener : (c : tie.After-wide)
-    → Opener (kinds (c .before .before .before .before .before .before .before .before .args .tree .now)) (c .wide .result) (c .before .before .before .before .before .before .before .before .args .step .0)
+    → let a = c .before .before .before .before .before .before .before .before .args in
+    Opener (kinds (a .tree .now)) (c .wide .result) (a .step .0)
 opener c =
     let start = c .before .before .before .before .before .before .before .before in
     rw (c .wide .ensures) (start .pre (start .args .step .0) (omega arith) (omega arith))

@@ -1,5 +1,5 @@
--- `weights::add_up` meets its contract: the loop is the sums' own, whose laws say what holds at its start, after each step
--- and at its end. Assumes nothing.
+-- `tree_tables::sums::add_up` meets its contract: each turn adds one step's weight to the sum before it, and 4,095 weights of 32 bits
+-- stay below 64 bits. Assumes nothing.
 use Prim.Native.Nat.{_-_}
 use mathlib.Core.Path.{_∙_}
 use native.Mathlib.Omega.{arith}
@@ -20,7 +20,9 @@ slice-write-sums : tie.Need-slice-write-sums Inv-loop μ-loop
 slice-write-sums c = omega (arith, c .before .before .pre .1)
 
 loop-holds : tie.Need-loop-holds Inv-loop μ-loop
-loop-holds c = add-start (weights (c .before .before .args .tree .now)) (length (kinds (c .before .before .args .tree .now))) (c .before .before .args .sums .now) (c .before .before .pre .1)
+loop-holds c =
+    let a = c .before .before .args in
+    add-start (weights (a .tree .now)) (length (kinds (a .tree .now))) (a .sums .now) (c .before .before .pre .1)
 
 weight-requires : tie.Need-weight-requires Inv-loop μ-loop
 weight-requires c κs = tt
@@ -38,25 +40,30 @@ mul-sums : tie.Need-mul-sums Inv-loop μ-loop
 mul-sums c = omega (arith, length-kinds (c .before .before .before .before .before .args .tree .now))
 
 slice-write-sums-2 : tie.Need-slice-write-sums-2 Inv-loop μ-loop
-slice-write-sums-2 c = omega (arith, length-kinds (c .before .before .before .before .before .args .tree .now), c .before .before .loop .inv .room)
+slice-write-sums-2 c =
+    omega (arith, length-kinds (c .before .before .before .before .before .args .tree .now), c .before .before .loop .inv .room)
 
 loop-less : tie.Need-loop-less Inv-loop μ-loop
 loop-less c = omega arith
 
 loop-again : tie.Need-loop-again Inv-loop μ-loop
 loop-again c =
-    let tree = c .before .before .before .before .before .args .tree .now in
+    let a = c .before .before .before .before .before .args in
+    let tree = a .tree .now in
     let loop = c .before .before .loop in
-    add-turn (weights tree) (length (kinds tree)) (set (c .before .before .before .before .before .args .sums .now) 0 0) (loop .sums) (loop .j) (loop .total) (loop .inv) (omega (arith, length-kinds tree)) (c .weight .result) (c .weight .ensures) (omega arith)
+    add-turn (weights tree) (length (kinds tree)) (set (a .sums .now) 0 0) (loop .sums) (loop .j) (loop .total) (loop .inv)
+    (omega (arith, length-kinds tree)) (c .weight .result) (c .weight .ensures) (omega arith)
 
 same-length : tie.Need-same-length Inv-loop μ-loop
 same-length c = c .before .loop .inv .same ∙ length-set (c .before .before .before .before .args .sums .now) 0 0
 
 returns : tie.Need-returns Inv-loop μ-loop
 returns c =
-    let tree = c .before .before .before .before .args .tree .now in
+    let a = c .before .before .before .before .args in
+    let tree = a .tree .now in
     let loop = c .before .loop in
-    added-all (weights tree) (length (kinds tree)) (set (c .before .before .before .before .args .sums .now) 0 0) (loop .sums) (loop .j) (loop .total) (loop .inv) (omega (arith, length-kinds tree))
+    added-all (weights tree) (length (kinds tree)) (set (a .sums .now) 0 0) (loop .sums) (loop .j) (loop .total) (loop .inv)
+    (omega (arith, length-kinds tree))
 
 pub add-up-spec : {M : Type 1} → statement M
 add-up-spec =
