@@ -1,5 +1,4 @@
-//! Compiles the tuned baseline, and links it with the proved library's archives, which `rt staticlib` makes of the crates `frame`
-//! and `recorder`.
+//! Compiles the tuned baseline, and links it with the proved library, `target/libframe.a`, which `bin/library` makes.
 
 use std::path::Path;
 use std::process::Command;
@@ -16,15 +15,13 @@ fn main() {
     let object = Path::new(&out).join("tuned.o");
     let tuned = Path::new(&out).join("libtuned.a");
     let [source, object, tuned] = [&source, &object, &tuned].map(|path| path.to_str().expect("a name in UTF-8"));
-    // The library's archives are for any x86-64, so this is too.
+    // The library is for any x86-64, so this is too.
     let words = ["-std=c11", "-O3", "-march=x86-64", "-g", "-Wall", "-Wextra", "-Werror", "-c", source, "-o", object];
     run("gcc", &words);
     run("ar", &["rcs", tuned, object]);
     println!("cargo:rerun-if-changed={source}");
     println!("cargo:rustc-link-arg={tuned}");
-    for name in ["libframe.a", "librecorder.a"] {
-        let archive = Path::new(&here).join("../target/staticlib").join(name);
-        println!("cargo:rerun-if-changed={}", archive.display());
-        println!("cargo:rustc-link-arg={}", archive.display());
-    }
+    let archive = Path::new(&here).join("../target/libframe.a");
+    println!("cargo:rerun-if-changed={}", archive.display());
+    println!("cargo:rustc-link-arg={}", archive.display());
 }

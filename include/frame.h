@@ -1,5 +1,5 @@
-/* The C interface of the library, for C11 and C++11 or later on x86-64 Linux: link libframe.a for a run event by event, librecorder.a
- * to record and to replay, libviewer.a for the questions about a tree at the end. Each needs memcpy and memset alone.
+/* The C interface of the library, for C11 and C++11 or later on x86-64 Linux: a run event by event, recording and replay, and at
+ * the end the questions about a tree. Link libframe.a, which bin/library makes; it needs memcpy and memset alone.
  * docs/FORMAT.md has the formats of tree, events, trace, log and run list, and the rules; examples/frame.c is an example.
  *
  * What holds of every call:
@@ -191,7 +191,7 @@ typedef struct FrameRunning {
 /* The count of steps. Refuses with 2 to 5. */
 FrameTree frame_tree(const uint8_t *tree, size_t tree_len);
 
-/* The kind of a step's record, and its weight; 0 for a step that the tree has not. */
+/* The kind of a step's record, and its weight; 0 for a step beyond the tree. */
 uint8_t frame_kind(const uint8_t *tree, size_t tree_len, size_t step);
 uint32_t frame_weight(const uint8_t *tree, size_t tree_len, size_t step);
 
@@ -207,7 +207,7 @@ size_t frame_finish_before(const uint8_t *tree, size_t tree_len, size_t step);
 /* What running a step does under a policy. */
 FrameRunning frame_running(const uint8_t *tree, size_t tree_len, uint8_t policy, size_t step);
 
-/* Where this fails the structs are not those of the archives: another machine, or packed by a pragma. */
+/* Where this fails the structs are not those of the library: another machine, or packed by a pragma. */
 static_assert(sizeof(FrameState) == 4228 && sizeof(FrameEvent) == 4280 && sizeof(FrameRecord) == 176,
               "frame.h is for x86-64 Linux and structs that are not packed");
 

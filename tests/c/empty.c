@@ -29,7 +29,7 @@ int main(void)
     EXPECT(frame_task(NULL, 0, 0).first == 0 && frame_finish_before(NULL, 0, 0) == 0);
     EXPECT(frame_running(NULL, 0, FRAME_HELP_FIRST, 0).opens == 0);
 
-    /* A step that the tree has not is none: the worker is idle. */
+    /* A step beyond the tree is none: the worker is idle. */
     FrameState state = frame_start(one, sizeof one, FRAME_WORK_FIRST).state;
     EXPECT(frame_event(state, NULL, 0, 0, 0).outcome.number == FRAME_REFUSED_IDLE);
     EXPECT(frame_event_in_place(&state, NULL, 0, 0, 0).number == FRAME_REFUSED_IDLE);

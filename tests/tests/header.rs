@@ -19,11 +19,14 @@ use library::{
 
 const HEADER: &str = "include/frame.h";
 const RUST: &str = "tests/tests/library/mod.rs";
-/// The crates whose functions the archives export.
-const SOURCES: [&str; 3] = ["crates/frame/src/lib.rt", "crates/recorder/src/lib.rt", "crates/viewer/src/lib.rt"];
-/// The crate of the structs that `frame` and `recorder` answer.
-const SOURCE_OF_ANSWERS: &str = "crates/flat/src/lib.rt";
-const SOURCE_OF_STATE: &str = "crates/state/src/lib.rt";
+/// The crates whose functions the library exports.
+const SOURCES: [&str; 3] =
+    ["crates/frame_run/src/lib.rt", "crates/frame_traces/src/lib.rt", "crates/frame_tree/src/lib.rt"];
+/// The crate of the structs that `frame_run` and `frame_traces` answer.
+const SOURCE_OF_ANSWERS: &str = "crates/frame_answers/src/lib.rt";
+const SOURCE_OF_STATE: &str = "crates/run_state/src/lib.rt";
+/// The crates of the constants that are lengths of arrays in these structs.
+const SOURCES_OF_LENGTHS: [&str; 2] = ["crates/policy/src/lib.rt", "crates/tree/src/lib.rt"];
 
 fn path(name: &str) -> PathBuf {
     Path::new(env!("CARGO_MANIFEST_DIR")).join("..").join(name)
@@ -156,12 +159,23 @@ fn rust_structs(name: &str) -> BTreeMap<String, Vec<String>> {
     structs
 }
 
+/// A field of Rattle's text, with the number for a constant that is the length of an array.
+fn with_length(field: &str) -> String {
+    let Some((before, name)) = field.strip_suffix(']').and_then(|array| array.split_once("; ")) else { return field.to_owned() };
+    let constants = SOURCES_OF_LENGTHS.map(rust_text).concat();
+    let value = constants.split_once(&format!("pub const {name}: usize = ")).unwrap_or_else(|| panic!("what is {name}?")).1;
+    format!("{before}; {}]", value.split_once(';').expect("a constant ends").0)
+}
+
 #[test]
 fn the_same_structs() {
     let sources = SOURCES.into_iter().chain([SOURCE_OF_ANSWERS]);
     let mut exported: BTreeMap<_, _> = sources.flat_map(rust_structs).collect();
     let state = rust_structs(SOURCE_OF_STATE).remove_entry("RunState").expect("the state is a struct of C");
     exported.extend([state]);
+    for fields in exported.values_mut() {
+        *fields = fields.iter().map(|field| with_length(field)).collect();
+    }
     assert_eq!(rust_structs(RUST), exported);
 }
 

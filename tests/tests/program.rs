@@ -1,5 +1,5 @@
-//! The output of program `phases`: the proved program and the simulator's, on the stored examples of the folder `examples/` and
-//! on random bytes. A failure names its seed.
+//! The output of program `phases`: the proved program and the simulator's, on the stored examples of the folder
+//! `examples/phases/` and on random bytes. A failure names its seed.
 
 use std::collections::BTreeSet;
 use std::fs::{self, File};
@@ -177,11 +177,16 @@ fn stored() -> Vec<Stored> {
     [listings(), refusals(), cuts()].concat()
 }
 
-/// The folder holds these examples and no others, but for the one in C, and both programs print what stands there.
+/// The folder of the stored examples.
+fn folder() -> PathBuf {
+    root().join("examples/phases")
+}
+
+/// The folder holds these examples and no others, and both programs print what stands there.
 #[test]
 fn stored_examples() {
-    let folder = root().join("examples");
-    let mut names = BTreeSet::from(["frame.c", "frame.txt"].map(str::to_owned));
+    let folder = folder();
+    let mut names = BTreeSet::new();
     for (name, input, text) in stored() {
         let read = |end: &str| {
             let file = format!("{name}.{end}");
@@ -201,9 +206,9 @@ fn stored_examples() {
 
 /// Writes them: `cargo test --test program -- --ignored`.
 #[test]
-#[ignore = "writes the folder examples/"]
+#[ignore = "writes the folder examples/phases/"]
 fn write_stored_examples() {
-    let folder = root().join("examples");
+    let folder = folder();
     for (name, input, text) in stored() {
         fs::write(folder.join(format!("{name}.bin")), input).expect("the file can be written");
         fs::write(folder.join(format!("{name}.txt")), text).expect("the file can be written");

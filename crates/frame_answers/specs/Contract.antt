@@ -1,4 +1,4 @@
--- The answers as the host's flat structs of numbers.
+-- The library's answers as C's flat structs of numbers.
 use mathlib.Core.Bool.{cond}
 use Rattle.run_spec.specs.declared.Outcome.{Outcome}
 use Rattle.run_spec.specs.declared.Outcome.the-variants.{Ran, Stole, Refused}
@@ -15,6 +15,7 @@ use Rattle.frame_answers.specs.declared.FrameIdle.{FrameIdle}
 use Rattle.frame_answers.specs.declared.FrameRecord.{FrameRecord}
 use Rattle.frame_answers.specs.declared.FrameReplay.{FrameReplay}
 
+-- A start's refusal and position, and the state.
 abbrev pub flatStart : Started → FrameStart
 flatStart a = record { number = a .number; position = a .position; state = a .state }
 
@@ -24,12 +25,15 @@ flatOutcome (Ran phase step) = record { number = 0; position = 0; what = 1; phas
 flatOutcome (Stole number) = record { number = 0; position = 0; what = 2; phase = 0; step = 0; trace = numberValue number }
 flatOutcome (Refused number) = record { number = number; position = 0; what = 0; phase = 0; step = 0; trace = 0 }
 
+-- An event by value: its outcome, and the next state.
 abbrev pub flatEvent : Answer → FrameEvent
 flatEvent a = record { outcome = flatOutcome (a .outcome); state = a .state }
 
+-- The idle workers; the state that they are told with is left out.
 abbrev pub flatIdle : Idle → FrameIdle
 flatIdle a = record { set = a .set; count = a .count; lowest = a .lowest }
 
+-- A recording's answer; a truth value is 1 or 0.
 abbrev pub flatRecord : Recorded → FrameRecord
 flatRecord a =
     record {
@@ -42,6 +46,7 @@ flatRecord a =
       heaviest = a .heaviest;
     }
 
+-- A replay's answer.
 abbrev pub flatReplay : Replayed → FrameReplay
 flatReplay a =
     record { number = a .number; position = a .position; phases = a .phases; loads = a .loads; heaviest = a .heaviest }

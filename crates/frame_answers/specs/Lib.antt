@@ -1,2 +1,3 @@
--- The answers as C's flat structs of numbers (to be believed).
+-- The library's answers for C.
+--     Contract  each as a flat struct of numbers (to be believed)
 pub mod Contract

@@ -1,5 +1,6 @@
 // The library's answers as C's flat structs of numbers: each function takes an answer by value and writes its parts into the
-// fields of a struct. Most wrong answers to shut out are of a field, so this is apart from the calls, which are dear to prove.
+// fields of a struct. Most wrong answers of a function for C are of a field, so this is apart from the calls, which are dear to
+// prove.
 
 ghost use mathlib.Core.Path.{_≡_};
 ghost use Rattle.frame_answers.specs.Contract.{flatStart, flatOutcome, flatEvent, flatIdle, flatRecord, flatReplay};
@@ -20,6 +21,7 @@ pub struct FrameStart {
     pub state: RunState,
 }
 
+// A start's answer for C.
 pub fn flat_start(started: Started) -> FrameStart
     ensures { λ r. ⌜ r ≡ flatStart started ⌝ }
 {
@@ -43,6 +45,7 @@ pub struct FrameOutcome {
     pub trace: usize,
 }
 
+// An outcome for C.
 pub fn flat_outcome(outcome: Outcome) -> FrameOutcome
     ensures { λ r. ⌜ r ≡ flatOutcome outcome ⌝ }
 {
@@ -81,6 +84,7 @@ pub struct FrameEvent {
     pub state: RunState,
 }
 
+// An event's answer for C.
 pub fn flat_event(answer: Answer) -> FrameEvent
     ensures { λ r. ⌜ r ≡ flatEvent answer ⌝ }
 {
@@ -100,6 +104,7 @@ pub struct FrameIdle {
     pub lowest: usize,
 }
 
+// The idle workers for C, without the state that they are told with.
 pub fn flat_idle(idle: Idle) -> FrameIdle
     ensures { λ r. ⌜ r ≡ flatIdle idle ⌝ }
 {
@@ -123,6 +128,7 @@ pub struct FrameRecord {
     pub heaviest: usize,
 }
 
+// A recording's answer for C.
 pub fn flat_record(recorded: Recorded) -> FrameRecord
     ensures { λ r. ⌜ r ≡ flatRecord recorded ⌝ }
 {
@@ -149,6 +155,7 @@ pub struct FrameReplay {
     pub heaviest: usize,
 }
 
+// A replay's answer for C.
 pub fn flat_replay(replayed: Replayed) -> FrameReplay
     ensures { λ r. ⌜ r ≡ flatReplay replayed ⌝ }
 {

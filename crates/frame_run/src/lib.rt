@@ -1,5 +1,5 @@
-// A run event by event as a host in C sees it: answers as flat structs of numbers, and a slice as a pointer and a length. Every
-// function takes any bytes and any numbers.
+// A run event by event as C sees it: answers are flat structs of numbers, and a slice is a pointer and a length. Every function
+// takes any bytes and any numbers.
 
 ghost use mathlib.Core.Path.{_≡_};
 ghost use Rattle.run_state.specs.Contract.{startAnswer, eventAnswer, idleAnswer};
@@ -18,7 +18,7 @@ pub extern "C" fn frame_start(tree: &[u8], policy: u8) -> FrameStart
     frame_answers::flat_start(run_state::start::start(tree, policy))
 }
 
-// Equal bytes: that worker runs its step. Different bytes: the first steals from the second.
+// One event: with equal bytes that worker runs its step, with different ones the first steals from the second.
 #[no_mangle]
 pub extern "C" fn frame_event(state: RunState, tree: &[u8], first: u8, second: u8) -> FrameEvent
     ensures { λ r. ⌜ r ≡ flatEvent (eventAnswer state (now (tree .entry)) first second) ⌝ }
@@ -26,7 +26,7 @@ pub extern "C" fn frame_event(state: RunState, tree: &[u8], first: u8, second: u
     frame_answers::flat_event(state.event(tree, first, second))
 }
 
-// The same on a state that the host lends: it is the next state then, and after a refusal it is as it was.
+// One event on a state that the host lends: it is the next state then, and after a refusal it is as it was.
 #[no_mangle]
 pub extern "C" fn frame_event_in_place(
     state: &mut RunState,
@@ -34,8 +34,12 @@ pub extern "C" fn frame_event_in_place(
     first: u8,
     second: u8,
 ) -> FrameOutcome
-    ensures answers { λ r. ⌜ r ≡ flatOutcome (eventAnswer (now (state .entry)) (now (tree .entry)) first second .outcome) ⌝ }
-    ensures state { λ r. ⌜ now (state .exit) ≡ eventAnswer (now (state .entry)) (now (tree .entry)) first second .state ⌝ }
+    ensures answers { λ r.
+        let answer = eventAnswer (now (state .entry)) (now (tree .entry)) first second in
+        ⌜ r ≡ flatOutcome (answer .outcome) ⌝ }
+    ensures state { λ r.
+        let answer = eventAnswer (now (state .entry)) (now (tree .entry)) first second in
+        ⌜ now (state .exit) ≡ answer .state ⌝ }
 {
     let a = RunState::event(*state, tree, first, second);
     *state = a.state;

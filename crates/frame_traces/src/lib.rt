@@ -1,9 +1,10 @@
-// Recording and replay as C sees them: answers as flat structs of numbers, and a slice as a pointer and a length. Every function
-// takes any bytes and any numbers.
+// Recording and replay as C sees them: a whole list of events becomes a log and a trace, a trace becomes a run list. Answers are
+// flat structs of numbers, and a slice is a pointer and a length. Every function takes any bytes and any numbers.
 
 ghost use mathlib.Core.Path.{_≡_};
+ghost use Rattle.rules.specs.Scheduling.{mostWorkers};
 ghost use Rattle.rules.specs.Calls.{recordCall, replayCall};
-ghost use Rattle.record.specs.Contract.{answers};
+ghost use Rattle.record.specs.Contract.{answers as recordAnswers};
 ghost use Rattle.replay.specs.Contract.{answers as replayAnswers};
 ghost use Rattle.frame_answers.specs.Contract.{flatRecord, flatReplay};
 use frame_answers::FrameRecord;
@@ -19,9 +20,15 @@ pub extern "C" fn frame_record(
     log: &mut [u8],
     trace: &mut [u8],
 ) -> FrameRecord
-    ensures answers { λ r. ⌜ r ≡ flatRecord (answers (recordCall 16 policy (now (tree .entry)) (now (events .entry)) (now (log .entry)) (now (trace .entry)))) ⌝ }
-    ensures log { λ r. ⌜ now (log .exit) ≡ recordCall 16 policy (now (tree .entry)) (now (events .entry)) (now (log .entry)) (now (trace .entry)) .log ⌝ }
-    ensures trace { λ r. ⌜ now (trace .exit) ≡ recordCall 16 policy (now (tree .entry)) (now (events .entry)) (now (log .entry)) (now (trace .entry)) .trace ⌝ }
+    ensures answers { λ r.
+        let call = recordCall mostWorkers policy (now (tree .entry)) (now (events .entry)) (now (log .entry)) (now (trace .entry)) in
+        ⌜ r ≡ flatRecord (recordAnswers call) ⌝ }
+    ensures log { λ r.
+        let call = recordCall mostWorkers policy (now (tree .entry)) (now (events .entry)) (now (log .entry)) (now (trace .entry)) in
+        ⌜ now (log .exit) ≡ call .log ⌝ }
+    ensures trace { λ r.
+        let call = recordCall mostWorkers policy (now (tree .entry)) (now (events .entry)) (now (log .entry)) (now (trace .entry)) in
+        ⌜ now (trace .exit) ≡ call .trace ⌝ }
 {
     frame_answers::flat_record(record::record(tree, policy, events, log, trace))
 }
@@ -35,8 +42,12 @@ pub extern "C" fn frame_replay(
     trace: &[u8],
     list: &mut [u8],
 ) -> FrameReplay
-    ensures answers { λ r. ⌜ r ≡ flatReplay (replayAnswers (replayCall 16 policy (now (tree .entry)) (now (trace .entry)) (now (list .entry)))) ⌝ }
-    ensures list { λ r. ⌜ now (list .exit) ≡ replayCall 16 policy (now (tree .entry)) (now (trace .entry)) (now (list .entry)) .list ⌝ }
+    ensures answers { λ r.
+        let call = replayCall mostWorkers policy (now (tree .entry)) (now (trace .entry)) (now (list .entry)) in
+        ⌜ r ≡ flatReplay (replayAnswers call) ⌝ }
+    ensures list { λ r.
+        let call = replayCall mostWorkers policy (now (tree .entry)) (now (trace .entry)) (now (list .entry)) in
+        ⌜ now (list .exit) ≡ call .list ⌝ }
 {
     frame_answers::flat_replay(replay::replay(tree, policy, trace, list))
 }

@@ -1,3 +1,3 @@
--- What a viewer in C asks about a tree.
+-- What C asks about a tree.
 --     Contract  the flat structs that are answered (to be believed)
 pub mod Contract

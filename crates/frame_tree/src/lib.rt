@@ -1,5 +1,5 @@
-// What a viewer in C asks about a tree, beside the host's functions: flat structs of numbers, and a slice as a pointer and a
-// length. Every function takes any bytes and any numbers.
+// What C asks about a tree, for a program that shows one: answers are numbers or flat structs of them, and a slice is a pointer and
+// a length. Every function takes any bytes and any numbers.
 
 ghost use mathlib.Core.Path.{_≡_};
 ghost use lib.ListN.{getD};
@@ -10,7 +10,7 @@ ghost use Rattle.tree_scan.specs.Contract.{taskOf, childOf};
 ghost use Rattle.frame_tree.specs.Contract.{flatTree, flatTask, flatChild, flatRunning};
 use tree::Step;
 
-// A tree's refusal and position, or its count of steps.
+// A tree's refusal and position, or its count of steps. What is not answered is 0.
 #[repr(C)]
 pub struct FrameTree {
     pub number: usize,
@@ -18,6 +18,7 @@ pub struct FrameTree {
     pub steps: usize,
 }
 
+// Whether bytes are a tree.
 #[no_mangle]
 pub extern "C" fn frame_tree(tree: &[u8]) -> FrameTree
     ensures { λ r. ⌜ r ≡ flatTree (acceptance (now (tree .entry))) ⌝ }
@@ -30,7 +31,7 @@ pub extern "C" fn frame_tree(tree: &[u8]) -> FrameTree
     }
 }
 
-// The kind of a step's record, 0 where the tree has no such step.
+// The kind of a step's record, 0 for a step beyond the tree.
 #[no_mangle]
 pub extern "C" fn frame_kind(tree: &[u8], step: usize) -> u8
     ensures { λ r. ⌜ r ≡ kindAt (kinds (now (tree .entry))) step ⌝ }
@@ -38,7 +39,7 @@ pub extern "C" fn frame_kind(tree: &[u8], step: usize) -> u8
     tree::kind(tree, Step(step))
 }
 
-// The weight of a step, 0 where the tree has no such step.
+// The weight of a step, 0 for a step beyond the tree.
 #[no_mangle]
 pub extern "C" fn frame_weight(tree: &[u8], step: usize) -> u32
     ensures { λ r. ⌜ r ≡ getD (weights (now (tree .entry))) step 0 ⌝ }
@@ -55,13 +56,14 @@ pub extern "C" fn frame_cont(tree: &[u8], step: usize) -> usize
     after.0
 }
 
-// A step's task, by its first step, and the step's ordinal.
+// A step's task, named by the task's first step, and the step's ordinal in it.
 #[repr(C)]
 pub struct FrameTask {
     pub first: usize,
     pub ordinal: usize,
 }
 
+// The task that a step belongs to.
 #[no_mangle]
 pub extern "C" fn frame_task(tree: &[u8], step: usize) -> FrameTask
     ensures { λ r. ⌜ r ≡ flatTask (taskOf (kinds (now (tree .entry))) step) ⌝ }
@@ -84,7 +86,8 @@ pub extern "C" fn frame_finish_before(tree: &[u8], step: usize) -> usize
     }
 }
 
-// What running a step holds and pushes: `opens` is 1, or all is 0 for an end.
+// The step that running a step holds next and the one that it pushes, and 1 in `opens`; for an end, or a step beyond the tree, all
+// three are 0.
 #[repr(C)]
 pub struct FrameRunning {
     pub opens: usize,
@@ -92,6 +95,7 @@ pub struct FrameRunning {
     pub push: usize,
 }
 
+// What running a step does under a policy.
 #[no_mangle]
 pub extern "C" fn frame_running(tree: &[u8], policy: u8, step: usize) -> FrameRunning
     ensures { λ r. ⌜ r ≡ flatRunning (runningOf policy (kinds (now (tree .entry))) step) ⌝ }

@@ -6,22 +6,29 @@ pub mod number;
 pub mod report;
 
 ghost use mathlib.Core.Path.{_≡_};
-ghost use Prim.Native.Nat.{_≤_};
+ghost use Prim.Native.Nat.{_+_, _*_, _≤_};
 ghost use lib.ListN.{length};
-ghost use Rattle.rules.specs.Program.{phasesText};
+ghost use Rattle.rules.specs.Tree.{mostSteps};
+ghost use Rattle.rules.specs.Scheduling.{mostWorkers};
 ghost use Rattle.rules.specs.Calls.{written};
+ghost use Rattle.rules.specs.Program.{phasesText};
 use report::put_listing;
 use report::put_refusal;
 
 // Bytes of the longest run list.
 const LIST_BYTES: usize = buffers::RECORD * tree::MOST_STEPS;
 
-// Replays the tree and the trace of an input, and writes the text. Gives its length. A heading and 4,095 lines, of three numbers of
-// five digits and a byte each, have at most 73,728 bytes.
+// Bytes of the longest line: three numbers of five digits, and a byte behind each. The heading is as long.
+const LINE_BYTES: usize = 18;
+
+// Bytes of the longest text: the heading and a line for each step.
+pub const TEXT_BYTES: usize = LINE_BYTES + LINE_BYTES * tree::MOST_STEPS;
+
+// Replays the tree and the trace of an input, and writes the text. Gives its length. There is room for the longest text.
 pub fn list_phases(input: &[u8], text: &mut [u8]) -> usize
-    requires { ⌜ 73728 ≤ length (now text) ⌝ }
-    ensures counts { λ r. ⌜ r ≡ length (phasesText 16 (now (input .entry))) ⌝ }
-    ensures text { λ r. ⌜ now (text .exit) ≡ written (phasesText 16 (now (input .entry))) (now (text .entry)) ⌝ }
+    requires { ⌜ 18 + 18 * mostSteps ≤ length (now text) ⌝ }
+    ensures counts { λ r. ⌜ r ≡ length (phasesText mostWorkers (now (input .entry))) ⌝ }
+    ensures text { λ r. ⌜ now (text .exit) ≡ written (phasesText mostWorkers (now (input .entry))) (now (text .entry)) ⌝ }
 {
     let parts = input::parts_of(input);
     let policy = parts.policy;

@@ -7,12 +7,12 @@ ghost use Rattle.rules.specs.Calls.{written};
 ghost use Rattle.phases_text.specs.Line.Terms.{numberAt, workerBy, linesOf, Phased};
 use super::number::put_line;
 
-// The number of two bytes of a record.
+// The number of the two bytes at a place.
 fn number_at(bytes: &[u8], at: usize) -> usize
     requires { ⌜ at + 2 ≤ length (now bytes) ⌝ }
     ensures { λ r. ⌜ r ≡ numberAt (now (bytes .entry)) at ⌝ }
 {
-    bytes[at] as usize + 256 * (bytes[at + 1] as usize)
+    buffers::two_bytes(bytes[at], bytes[at + 1]) as usize
 }
 
 // The worker of a phase: worker 0 of phase 0, of a later one the thief of the trace record that began it.
@@ -26,11 +26,16 @@ fn worker_of(trace: &[u8], phase: usize) -> usize
     trace[buffers::RECORD * (phase - 1)] as usize
 }
 
-// Writes a line for each of the first records of a run list. Gives the count of all bytes.
+// Writes a line for each of the first records of a run list. Gives the count of all bytes. A line has at most 18 of them.
 pub fn put_lines(text: &mut [u8], trace: &[u8], list: &[u8], records: usize) -> usize
-    requires { ⌜ (4 * records ≤ length (now list)) × (18 * records ≤ length (now text)) × Phased (now trace) (now list) records ⌝ }
-    ensures counts { λ r. ⌜ r ≡ length (linesOf (now (trace .entry)) (now (list .entry)) records) ⌝ }
-    ensures text { λ r. ⌜ now (text .exit) ≡ written (linesOf (now (trace .entry)) (now (list .entry)) records) (now (text .entry)) ⌝ }
+    requires { ⌜ (4 * records ≤ length (now list)) × (18 * records ≤ length (now text))
+        × Phased (now trace) (now list) records ⌝ }
+    ensures counts { λ r.
+        let lines = linesOf (now (trace .entry)) (now (list .entry)) records in
+        ⌜ r ≡ length lines ⌝ }
+    ensures text { λ r.
+        let lines = linesOf (now (trace .entry)) (now (list .entry)) records in
+        ⌜ now (text .exit) ≡ written lines (now (text .entry)) ⌝ }
 {
     let mut k = 0;
     let mut at = 0;

@@ -7,10 +7,14 @@ ghost use lib.ListN.{length};
 ghost use Rattle.rules.specs.Program.{decimal, line};
 ghost use Rattle.rules.specs.Calls.{written};
 
-// Between numbers, and after the last.
+// Stands between two numbers.
 pub const SPACE: u8 = 32;
 
+// Ends a line.
 pub const LINE_FEED: u8 = 10;
+
+// The digit 0; the others follow it.
+const ZERO: usize = 48;
 
 // How many decimal digits are printed of a number, at most five.
 fn places(number: usize) -> usize
@@ -31,7 +35,7 @@ fn places(number: usize) -> usize
     5
 }
 
-// Writes a number in decimal digits, and a byte behind it. Gives the count of both.
+// Writes a number in at most five decimal digits, and a byte behind it. Gives the count of both.
 pub fn put_number(text: &mut [u8], number: usize, end: u8) -> usize
     requires { ⌜ 6 ≤ length (now text) ⌝ }
     ensures counts { λ r. ⌜ r ≡ length (decimal number ++ (end ∷ [])) ⌝ }
@@ -43,13 +47,13 @@ pub fn put_number(text: &mut [u8], number: usize, end: u8) -> usize
     let mut rest = number;
     while 0 < i {
         i -= 1;
-        text[i] = (48 + rest % 10) as u8;
+        text[i] = (ZERO + rest % 10) as u8;
         rest /= 10;
     }
     count + 1
 }
 
-// Writes a line of three numbers. Gives its length.
+// Writes a line of three numbers. Gives its length, which is at most 18.
 pub fn put_line(text: &mut [u8], first: usize, second: usize, third: usize) -> usize
     requires { ⌜ 18 ≤ length (now text) ⌝ }
     ensures counts { λ r. ⌜ r ≡ length (line (first ∷ second ∷ third ∷ [])) ⌝ }

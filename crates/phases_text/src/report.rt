@@ -1,4 +1,5 @@
 // What program `phases` prints of a replay: the heading and the lines of an accepted one, the refusal of another.
+
 ghost use mathlib.Core.Path.{_≡_};
 ghost use mathlib.Core.List.{_++_};
 ghost use Prim.Native.Nat.{_+_, _*_, _≤_};
@@ -22,7 +23,7 @@ fn put_bytes(text: &mut [u8], bytes: &[u8]) -> usize
     bytes.len()
 }
 
-// Writes a refusal. Gives its length.
+// Writes a refusal. Gives its length, which is at most 20: a word of eight bytes, and two numbers with a byte behind each.
 pub fn put_refusal(text: &mut [u8], number: usize, position: usize) -> usize
     requires { ⌜ 20 ≤ length (now text) ⌝ }
     ensures counts { λ r. ⌜ r ≡ length (refusalText number position) ⌝ }
@@ -35,9 +36,14 @@ pub fn put_refusal(text: &mut [u8], number: usize, position: usize) -> usize
 
 // Writes the heading, and a line for each of the first records of a run list. Gives the count of all bytes.
 pub fn put_listing(text: &mut [u8], trace: &[u8], list: &[u8], records: usize) -> usize
-    requires { ⌜ (4 * records ≤ length (now list)) × (18 + 18 * records ≤ length (now text)) × Phased (now trace) (now list) records ⌝ }
-    ensures counts { λ r. ⌜ r ≡ length (heading ++ linesOf (now (trace .entry)) (now (list .entry)) records) ⌝ }
-    ensures text { λ r. ⌜ now (text .exit) ≡ written (heading ++ linesOf (now (trace .entry)) (now (list .entry)) records) (now (text .entry)) ⌝ }
+    requires { ⌜ (4 * records ≤ length (now list)) × (18 + 18 * records ≤ length (now text))
+        × Phased (now trace) (now list) records ⌝ }
+    ensures counts { λ r.
+        let lines = linesOf (now (trace .entry)) (now (list .entry)) records in
+        ⌜ r ≡ length (heading ++ lines) ⌝ }
+    ensures text { λ r.
+        let lines = linesOf (now (trace .entry)) (now (list .entry)) records in
+        ⌜ now (text .exit) ≡ written (heading ++ lines) (now (text .entry)) ⌝ }
 {
     let at = put_bytes(text, b"phase worker step\n");
     at + put_lines(&mut text[at..], trace, list, records)

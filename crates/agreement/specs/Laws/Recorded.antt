@@ -12,6 +12,7 @@ use Rattle.rules.specs.Bytes.{wholeRecords, Verdict, accepted, refusedIf, first
 use Rattle.rules.specs.Tree.{kinds}
 use Rattle.rules.specs.Scheduling.{mostWorkers, Run, start, judgeEvent}
 use Rattle.rules.specs.Calls.{startVerdict, afterEvents, Recorded, recordWalk, recordVerdict, recordOf, recordRefused, recordCall}
+use Rattle.rules.specs.Calls.{mostEvents}
 use Rattle.tree_scan.specs.Laws.Starts.{start-tree-accepts}
 use Rattle.tree_scan.specs.Laws.Frames.{Frame, accepted-frame}
 use Rattle.run_invariant.specs.Laws.Moves.{map-one}
@@ -30,11 +31,11 @@ unfolding eventBytes flatten
 bytes-length [] = refl
 bytes-length (e ∷ es) = omega (arith, bytes-length es)
 
-bytes-whole : (es : List Event) → length es ≤ 8192 → wholeRecords 2 8192 (eventBytes es) ≡ true
+bytes-whole : (es : List Event) → length es ≤ mostEvents → wholeRecords 2 mostEvents (eventBytes es) ≡ true
 unfolding wholeRecords
 bytes-whole es h =
     let bytes = bytes-length es in
-    rw (eq-eqb (length (eventBytes es) % 2) 0 (omega arith), le-leb (length (eventBytes es) / 2) 8192 (omega arith)) refl
+    rw (eq-eqb (length (eventBytes es) % 2) 0 (omega arith), le-leb (length (eventBytes es) / 2) mostEvents (omega arith)) refl
 
 -- ---- the walk
 
@@ -77,7 +78,7 @@ module _ (p : ℕ) (tree : List ℕ) (starts : startVerdict p tree .number ≡ 0
   runOf es = afterEvents p (kinds tree) (start mostWorkers) (map pair es)
 
   -- There are at most n runs and (n - 1) / 2 steals, and n is at most 4,095.
-  few : (es : List Event) → Fine es → suc (length es) ≤ 8192
+  few : (es : List Event) → Fine es → suc (length es) ≤ mostEvents
   few es fine =
       let frame : Frame tree = accepted-frame tree (start-tree-accepts p tree starts) in
       let inv = always p (kinds tree) (frame .some) (frame .shape) mostWorkers (omega arith) (map pair es) in
@@ -92,18 +93,18 @@ module _ (p : ℕ) (tree : List ℕ) (starts : startVerdict p tree .number ≡ 0
       )
 
   module _ (log trace : List ℕ) where
-    short-number : (es : List Event) → length es ≤ 8192 → shortOutputs tree log trace ≡ true
+    short-number : (es : List Event) → length es ≤ mostEvents → shortOutputs tree log trace ≡ true
         → recordCall mostWorkers p tree (eventBytes es) log trace .verdict .number ≡ 7
     unfolding recordCall recordVerdict recordRefused firstRefused refusedIf accepted shortOutputs
     short-number es h short = rw (eq-eqb (startVerdict p tree .number) 0 starts, bytes-whole es h, short) refl
 
     -- Past the lent outputs, the rules decide.
     module _ (room : shortOutputs tree log trace ≡ false) where
-      ready : (es : List Event) → length es ≤ 8192 → Ready p tree (eventBytes es) log trace
+      ready : (es : List Event) → length es ≤ mostEvents → Ready p tree (eventBytes es) log trace
       unfolding shortOutputs tooShort
       ready es h = record { started = starts; listed = bytes-whole es h; room = room }
 
-      by-walk : (es : List Event) → length es ≤ 8192
+      by-walk : (es : List Event) → length es ≤ mostEvents
           → recordCall mostWorkers p tree (eventBytes es) log trace .verdict .number
           ≡ recordWalk mostWorkers p (kinds tree) (map pair es) .verdict .number
       unfolding recordOf recordRefused accepted

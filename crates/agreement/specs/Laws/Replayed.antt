@@ -12,6 +12,7 @@ use Rattle.rules.specs.Tree.{kinds}
 use Rattle.rules.specs.Scheduling.{mostWorkers, Phase, Steal, Run, start}
 use Rattle.rules.specs.Traces.{traceBytes, replayWalk}
 use Rattle.rules.specs.Calls.{startVerdict, afterEvents, Replayed, replayVerdict, replayOf, replayRefused, replayCall}
+use Rattle.rules.specs.Calls.{mostTraceRecords}
 use Rattle.tree_scan.specs.Laws.Starts.{start-tree-accepts, admitted-policy}
 use Rattle.tree_scan.specs.Laws.Frames.{Frame, accepted-frame}
 use Rattle.run_invariant.specs.Laws.Always.{always}
@@ -22,18 +23,18 @@ use Rattle.agreement.specs.Agreement.{shortList}
 
 -- ---- bytes
 
-bytes-whole : (p : ℕ) (ks : List ℕ) (steals : List Steal) → length steals ≤ 2047
-    → wholeRecords 4 2047 (traceBytes p ks steals) ≡ true
+bytes-whole : (p : ℕ) (ks : List ℕ) (steals : List Steal) → length steals ≤ mostTraceRecords
+    → wholeRecords 4 mostTraceRecords (traceBytes p ks steals) ≡ true
 unfolding wholeRecords
 bytes-whole p ks steals h =
     let bytes = length (traceBytes p ks steals) in
     let four = length-trace p ks steals in
-    rw (eq-eqb (bytes % 4) 0 (omega arith), le-leb (bytes / 4) 2047 (omega arith)) refl
+    rw (eq-eqb (bytes % 4) 0 (omega arith), le-leb (bytes / 4) mostTraceRecords (omega arith)) refl
 
 -- ---- the call
 
 module _ (p : ℕ) (tree trace list : List ℕ) (starts : startVerdict p tree .number ≡ 0)
-    (listed : wholeRecords 4 2047 trace ≡ true) where
+    (listed : wholeRecords 4 mostTraceRecords trace ≡ true) where
   fine : eqb (startVerdict p tree .number) 0 ≡ true
   fine = eq-eqb (startVerdict p tree .number) 0 starts
 
@@ -60,7 +61,7 @@ module _ (p : ℕ) (tree : List ℕ) (starts : startVerdict p tree .number ≡ 0
   frame : Frame tree
   frame = accepted-frame tree (start-tree-accepts p tree starts)
 
-  listed : wholeRecords 4 2047 trace ≡ true
+  listed : wholeRecords 4 mostTraceRecords trace ≡ true
   listed =
       let inv = always p (kinds tree) (frame .some) (frame .shape) mostWorkers (omega arith) es in
       bytes-whole p (kinds tree) (run .steals)

@@ -1,4 +1,5 @@
--- `flat::flat_event` meets its contract: it flattens the outcome, and copies the state. Assumes nothing.
+-- `frame_answers::flat_event` meets its contract: the outcome is what `flat_outcome` promises, and the state is copied whole.
+-- Assumes nothing.
 use mathlib.Core.Path.{refl}
 use borrow.Author.Needs.{needs}
 use Rattle.frame_answers.proofs.flat_event.Statement.{statement}

@@ -1,4 +1,5 @@
--- `flat::flat_outcome` meets its contract: it flattens an outcome, case by case. Assumes nothing.
+-- `frame_answers::flat_outcome` meets its contract: each of the three outcomes fills the fields that belong to it, and the others
+-- with 0; a steal's number has the value that `run_event::number::number_of` promises. Assumes nothing.
 use mathlib.Core.Path.{ap, sym, _∙_}
 use Prim.Native.Nat.{ℕ}
 use Rattle.frame_answers.specs.declared.FrameOutcome.{FrameOutcome}

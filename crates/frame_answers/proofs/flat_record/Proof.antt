@@ -1,4 +1,5 @@
--- `flat::flat_record` meets its contract: it copies each part of the answer, the truth value as a number. Assumes nothing.
+-- `frame_answers::flat_record` meets its contract: each field is the part of the answer that it is named for, and a truth value as a
+-- number is 1 or 0. Assumes nothing.
 use mathlib.Core.Path.{_≡_, refl}
 use mathlib.Core.Bool.{Bool, true, false, cond}
 use mir.Val.{boolByte}

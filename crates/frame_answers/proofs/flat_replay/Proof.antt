@@ -1,4 +1,5 @@
--- `flat::flat_replay` meets its contract: it copies each part of the answer. Assumes nothing.
+-- `frame_answers::flat_replay` meets its contract: each field is the part of the answer that it is named for, and a wider number has
+-- the same value. Assumes nothing.
 use mathlib.Core.Path.{refl}
 use borrow.Author.Needs.{needs}
 use Rattle.frame_answers.proofs.flat_replay.Statement.{statement}

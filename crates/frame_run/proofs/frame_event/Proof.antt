@@ -1,4 +1,5 @@
--- `frame::frame_event` meets its contract: it flattens what `event` answers. Assumes nothing.
+-- `frame_run::frame_event` meets its contract: it hands what `RunState::event` answers to `flat_event`, and each of the two promises
+-- its half of the equation. Assumes nothing.
 use mathlib.Core.Path.{ap, _∙_}
 use Rattle.frame_answers.specs.declared.FrameEvent.{FrameEvent}
 use Rattle.frame_answers.specs.Contract.{flatEvent}

@@ -1,5 +1,6 @@
--- `frame::frame_event_in_place` meets its contract: the lent state is read whole, `event` answers for it, the state of its answer
--- is stored whole, and the outcome of its answer is returned flat. A walk of the MIR, by hand. Assumes nothing.
+-- `frame_run::frame_event_in_place` meets its contract: the lent state is read whole before it is written, `RunState::event` answers
+-- for what was read, the state of that answer is stored whole, and its outcome is returned flat. So state and outcome are of one
+-- answer. A walk of the compiled code, by hand. Assumes nothing.
 use mathlib.Core.Path.{_≡_, refl, ap, _∙_}
 use Prim.Native.Nat.{ℕ, _<_, _^_}
 use mathlib.Core.List.{[], _∷_, List}
@@ -58,7 +59,7 @@ use Rattle.run_state.proofs.Answer as N
 use Rattle.run_state.proofs.Answer.Laws as N′
 use Rattle.run_state.proofs.RunState.event as event
 use Rattle.run_state.proofs.RunState.event.Symbol as event-def
-use Rattle.run_state.proofs.RunState.event.Symbol.{name as #state·RunState·event}
+use Rattle.run_state.proofs.RunState.event.Symbol.{name as #run-state·RunState·event}
 use Rattle.run_state.proofs.RunState.event.Met as event-thm
 use Rattle.frame_answers.specs.declared.FrameOutcome.{FrameOutcome}
 use Rattle.frame_answers.specs.Contract.{flatOutcome}
@@ -66,9 +67,9 @@ use Rattle.frame_answers.proofs.FrameOutcome as R
 use Rattle.frame_answers.proofs.FrameOutcome.Laws as R′
 use Rattle.frame_answers.proofs.flat_outcome as flat
 use Rattle.frame_answers.proofs.flat_outcome.Symbol as flat-def
-use Rattle.frame_answers.proofs.flat_outcome.Symbol.{name as #flat·flat-outcome}
+use Rattle.frame_answers.proofs.flat_outcome.Symbol.{name as #frame-answers·flat-outcome}
 use Rattle.frame_answers.proofs.flat_outcome.Met as flat-thm
-use Rattle.frame_run.proofs.frame_event_in_place.Key.{name as #frame·frame-event-in-place}
+use Rattle.frame_run.proofs.frame_event_in_place.Key.{name as #frame-run·frame-event-in-place}
 use Rattle.frame_run.proofs.frame_event_in_place as in-place
 use Rattle.frame_run.proofs.frame_event_in_place.Statement as stated
 use Rattle.frame_run.proofs.frame_event_in_place.Code as code
@@ -179,7 +180,7 @@ module _ {M : Type 1} (𝓤 : URA M) (H : Heap 𝓤) (A : Atoms 𝓤) (W : Given
       says-both ! answers state $ move ! (3 ∷ 4 ∷ []) $ join ! $ frame ! $ move ! (1 ∷ 2 ∷ []) $ feqI ! (List Val) (vptr b o ∷ []) (vptr b o ∷ []) refl $ fjoin3 ! $
       use0 W (‵ Bytes) bytes $ move ! (3 ∷ 0 ∷ []) $ fjoin ! $ move ! (1 ∷ 0 ∷ []) $ fjoin ! $ done !
 
-  module _ (C : Calls 𝓤 H) (Λ : Loops 𝓤 H) (fm : FmC 𝓤 H (W .laws) C) (known-event : Triple 𝓤 (C #state·RunState·event) E) (known-flat : Triple 𝓤 (C #flat·flat-outcome) F) where
+  module _ (C : Calls 𝓤 H) (Λ : Loops 𝓤 H) (fm : FmC 𝓤 H (W .laws) C) (known-event : Triple 𝓤 (C #run-state·RunState·event) E) (known-flat : Triple 𝓤 (C #frame-answers·flat-outcome) F) where
     walk : Is (ShrSlice (named 1) κ′ u8) tree (t ∷ [])
         → ent 𝓤 (onEntry 𝓤 H A in-place.signature (κ, (κ′, tt)) (q, (q′, tt)) x at) (WpFn 𝓤 H C Λ code.function (vptr b o ∷ t ∷ vint w8 m ∷ vint w8 n ∷ []) Post)
     walk p =
@@ -226,7 +227,7 @@ module _ {M : Type 1} (𝓤 : URA M) (H : Heap 𝓤) (A : Atoms 𝓤) (W : Given
         keep ! (0 ∷ 1 ∷ 2 ∷ 3 ∷ 5 ∷ 6 ∷ []) $ by ! (exits (a .state) r u (e′ ∙ ap (λ (c : Answer). flatOutcome (c .outcome)) e) (ap (λ (c : Answer). c .state) e)))))))))))))))))))))
 
 in-place-meets : {M : Type 1} (𝓤 : URA M) (H : Heap 𝓤) (A : Atoms 𝓤) (W : Given 𝓤 H A) (at-mem : Memory → SProp 𝓤) (run : Routine → Fun 𝓤) (𝓣 : Tables 𝓤 H)
-    → Triple 𝓤 (𝓣 .C #state·RunState·event) (Event 𝓤 H A at-mem run) → Triple 𝓤 (𝓣 .C #flat·flat-outcome) (Flat 𝓤 H A at-mem run)
+    → Triple 𝓤 (𝓣 .C #run-state·RunState·event) (Event 𝓤 H A at-mem run) → Triple 𝓤 (𝓣 .C #frame-answers·flat-outcome) (Flat 𝓤 H A at-mem run)
     → Meets 𝓤 H A in-place.signature (WpFn 𝓤 H (𝓣 .C) (𝓣 .Λ) code.function) (in-place.spec 𝓤 H A at-mem run)
 in-place-meets 𝓤 H A W at-mem run 𝓣 known-event known-flat =
     walk-meets 𝓤 H A in-place.ended stayed W
@@ -241,7 +242,7 @@ pub frame-event-in-place-spec : {M : Type 1} → stated.statement M
 unfolding code.routine tablesOf
 frame-event-in-place-spec 𝓤 H 𝓜 𝓖 𝓡 =
     entered 𝓤 H (tripleOf 𝓤 H (𝓖 .A) in-place.signature (in-place.spec 𝓤 H (𝓖 .A) (𝓜 .mem) (𝓡 .run)))
-    (tables 𝓤 H 𝓜 𝓡 code.env .C) (tables 𝓤 H 𝓜 𝓡 code.env .Λ) #frame·frame-event-in-place code.function (code.unfolded 𝓤 H 𝓜 𝓡)
+    (tables 𝓤 H 𝓜 𝓡 code.env .C) (tables 𝓤 H 𝓜 𝓡 code.env .Λ) #frame-run·frame-event-in-place code.function (code.unfolded 𝓤 H 𝓜 𝓡)
     (in-place-meets 𝓤 H (𝓖 .A) (givenOf 𝓤 H 𝓜 𝓖) (𝓜 .mem) (𝓡 .run) (tablesOf 𝓤 H 𝓜 (tables 𝓤 H 𝓜 𝓡 code.env))
-    (cited 𝓤 H (Event 𝓤 H (𝓖 .A) (𝓜 .mem) (𝓡 .run)) 𝓜 𝓡 code.env #state·RunState·event event-def.routine code.calls-run-state·RunState·event (event-thm.met 𝓤 H 𝓜 𝓖 𝓡))
-    (cited 𝓤 H (Flat 𝓤 H (𝓖 .A) (𝓜 .mem) (𝓡 .run)) 𝓜 𝓡 code.env #flat·flat-outcome flat-def.routine code.calls-frame-answers·flat-outcome (flat-thm.met 𝓤 H 𝓜 𝓖 𝓡)))
+    (cited 𝓤 H (Event 𝓤 H (𝓖 .A) (𝓜 .mem) (𝓡 .run)) 𝓜 𝓡 code.env #run-state·RunState·event event-def.routine code.calls-run-state·RunState·event (event-thm.met 𝓤 H 𝓜 𝓖 𝓡))
+    (cited 𝓤 H (Flat 𝓤 H (𝓖 .A) (𝓜 .mem) (𝓡 .run)) 𝓜 𝓡 code.env #frame-answers·flat-outcome flat-def.routine code.calls-frame-answers·flat-outcome (flat-thm.met 𝓤 H 𝓜 𝓖 𝓡)))

@@ -1,4 +1,5 @@
--- `frame::frame_idle` meets its contract: it flattens what `idle` answers. Assumes nothing.
+-- `frame_run::frame_idle` meets its contract: it hands what `RunState::idle` answers to `flat_idle`, and each of the two promises its
+-- half of the equation. Assumes nothing.
 use mathlib.Core.Path.{ap, _∙_}
 use Rattle.frame_answers.specs.declared.FrameIdle.{FrameIdle}
 use Rattle.frame_answers.specs.Contract.{flatIdle}

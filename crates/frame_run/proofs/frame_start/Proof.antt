@@ -1,4 +1,5 @@
--- `frame::frame_start` meets its contract: it flattens what `start` answers. Assumes nothing.
+-- `frame_run::frame_start` meets its contract: it hands what `run_state::start::start` answers to `flat_start`, and each of the two
+-- promises its half of the equation. Assumes nothing.
 use mathlib.Core.Path.{ap, _∙_}
 use Rattle.frame_answers.specs.declared.FrameStart.{FrameStart}
 use Rattle.frame_answers.specs.Contract.{flatStart}

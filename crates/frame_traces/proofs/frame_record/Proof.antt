@@ -1,4 +1,5 @@
--- `recorder::frame_record` meets its contract: it flattens what `record` answers. Assumes nothing.
+-- `frame_traces::frame_record` meets its contract: `record::record` gets all arguments as they are and promises the rules' answer,
+-- log and trace; the buffers are its own, and `flat_record` tells the answer. Assumes nothing.
 use mathlib.Core.Path.{ap, _∙_}
 use Rattle.frame_answers.specs.declared.FrameRecord.{FrameRecord}
 use Rattle.frame_answers.specs.Contract.{flatRecord}

@@ -1,4 +1,5 @@
--- `recorder::frame_replay` meets its contract: it flattens what `replay` answers. Assumes nothing.
+-- `frame_traces::frame_replay` meets its contract: `replay::replay` gets all arguments as they are and promises the rules' answer and
+-- run list; the buffer is its own, and `flat_replay` tells the answer. Assumes nothing.
 use mathlib.Core.Path.{ap, _∙_}
 use Rattle.frame_answers.specs.declared.FrameReplay.{FrameReplay}
 use Rattle.frame_answers.specs.Contract.{flatReplay}

@@ -1,4 +1,5 @@
--- `viewer::frame_cont` meets its contract: it answers what `cont` answers. Assumes nothing.
+-- `frame_tree::frame_cont` meets its contract: `tree_scan::children::cont` promises the rules' continuation, and the number of
+-- that step is handed on. Assumes nothing.
 use borrow.Author.Needs.{needs}
 use Rattle.frame_tree.proofs.frame_cont.Statement.{statement}
 use Rattle.frame_tree.proofs.frame_cont.Tie as tie

@@ -1,4 +1,5 @@
--- `viewer::frame_finish_before` meets its contract: it flattens what `finish_before` answers, case by case. Assumes nothing.
+-- `frame_tree::frame_finish_before` meets its contract: `tree_scan::children::finish_before` promises the rules' finish child, and
+-- each of its two answers is told as the contract has it: a child by its first step, none by 0. Assumes nothing.
 use mathlib.Core.Path.{ap, sym, _∙_}
 use Rattle.frame_tree.specs.Contract.{flatChild}
 use borrow.Author.Needs.{needs}

@@ -1,4 +1,5 @@
--- `viewer::frame_kind` meets its contract: it answers what `kind` answers. Assumes nothing.
+-- `frame_tree::frame_kind` meets its contract: `tree::kind` promises the rules' kind of any step, and its answer is handed on.
+-- Assumes nothing.
 use borrow.Author.Needs.{needs}
 use Rattle.frame_tree.proofs.frame_kind.Statement.{statement}
 use Rattle.frame_tree.proofs.frame_kind.Tie as tie

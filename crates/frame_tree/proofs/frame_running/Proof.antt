@@ -1,4 +1,5 @@
--- `viewer::frame_running` meets its contract: it flattens what `running_of` answers, case by case. Assumes nothing.
+-- `frame_tree::frame_running` meets its contract: `policy::running_of` promises what the rules hold and push, and each of its two
+-- answers is told as the contract has it: an opening step by a 1 and two steps, an end by zeros. Assumes nothing.
 use mathlib.Core.Path.{ap, sym, _∙_}
 use Rattle.frame_tree.specs.Contract.{flatRunning}
 use borrow.Author.Needs.{needs}

@@ -1,4 +1,5 @@
--- `viewer::frame_task` meets its contract: it flattens what `task_of` answers. Assumes nothing.
+-- `frame_tree::frame_task` meets its contract: `tree_scan::task_of` promises the rules' task and ordinal, and the two numbers go
+-- into two fields unchanged. Assumes nothing.
 use mathlib.Core.Path.{ap}
 use Rattle.frame_tree.specs.Contract.{flatTask}
 use borrow.Author.Needs.{needs}

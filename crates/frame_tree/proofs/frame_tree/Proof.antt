@@ -1,4 +1,5 @@
--- `viewer::frame_tree` meets its contract: it flattens what `accept` answers. Assumes nothing.
+-- `frame_tree::frame_tree` meets its contract: the three parts of what `tree::validation::accept` answers go into three fields
+-- unchanged, and that function promises the rules' verdict. Assumes nothing.
 use mathlib.Core.Path.{ap}
 use Rattle.frame_tree.specs.Contract.{flatTree}
 use borrow.Author.Needs.{needs}

@@ -1,4 +1,5 @@
--- `viewer::frame_weight` meets its contract: it answers what `weight` answers. Assumes nothing.
+-- `frame_tree::frame_weight` meets its contract: `tree::weight` promises the rules' weight of any step, and its answer is handed
+-- on. Assumes nothing.
 use borrow.Author.Needs.{needs}
 use Rattle.frame_tree.proofs.frame_weight.Statement.{statement}
 use Rattle.frame_tree.proofs.frame_weight.Tie as tie

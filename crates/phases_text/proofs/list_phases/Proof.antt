@@ -1,5 +1,6 @@
--- `listing::list_phases` meets its contract: laws say what the parts of the input are, and what is printed of a refused and of
--- an accepted replay. Assumes nothing.
+-- `phases_text::list_phases` meets its contract: the parts that it cuts an input into are the rules' policy, tree and trace; its own
+-- run list has room for every tree, so replay's verdict is the one that the rules print; and either text, of a refusal or of a run
+-- list, is the rules' text. Assumes nothing.
 use Prim.Native.Nat.{ℕ}
 use mathlib.Core.Path.{_≡_, refl, ap, _∙_}
 use mathlib.Core.List.{List}

@@ -43,17 +43,17 @@ module _ (input : List ℕ) (n start end : ℕ) (s : start ≡ min 3 (length inp
             rw (drop-drop (8 * n) 3 input, none, past, take-nil) refl
       ]
 
-pub input-parts : (input : List ℕ) (policy low high start end : ℕ) → policy ≡ getD input 0 0 → low ≡ getD input 1 0
-    → high ≡ getD input 2 0 → start ≡ min 3 (length input) → end ≡ min (3 + 8 * (low + 256 * high)) (length input)
-    → Parts input policy start end
+-- A policy, and a tree of n records between two places.
+pub input-parts : (input : List ℕ) (policy n start end : ℕ) → policy ≡ getD input 0 0 → n ≡ getD input 1 0 + 256 * getD input 2 0
+    → start ≡ min 3 (length input) → end ≡ min (3 + 8 * n) (length input) → Parts input policy start end
 unfolding inputPolicy inputCount inputTree inputTrace
-input-parts input policy low high start end p l h s e =
-    let n = getD input 1 0 + 256 * getD input 2 0 in
-    let at : end ≡ min (3 + 8 * n) (length input) = rw (l, h) at e in
+input-parts input policy n start end p many s e =
+    let count = getD input 1 0 + 256 * getD input 2 0 in
+    let at : end ≡ min (3 + 8 * count) (length input) = rw many at e in
     record {
       policy-is = p;
       ordered = omega arith;
       within = omega arith;
-      tree-is = tree-by input n start end s at;
-      trace-is = trace-by input n start end s at;
+      tree-is = tree-by input count start end s at;
+      trace-is = trace-by input count start end s at;
     }

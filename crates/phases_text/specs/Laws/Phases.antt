@@ -5,8 +5,9 @@ use mathlib.Core.List.{List, _++_}
 use native.Mathlib.Omega.{arith}
 use lib.ListN.{length, take, drop, replicate, length-replicate}
 use borrow.Author.Tests.{eq-eqb, ne-eqb}
+use Rattle.rules.specs.Scheduling.{mostWorkers}
 use Rattle.rules.specs.Bytes.{Verdict}
-use Rattle.rules.specs.Tree.{kinds}
+use Rattle.rules.specs.Tree.{mostSteps, kinds}
 use Rattle.rules.specs.Traces.{entryBytes}
 use Rattle.rules.specs.Calls.{written, replayVerdict, replayOf, replayRefused, replayCall, Replayed as Call}
 use Rattle.rules.specs.Program.{inputPolicy, inputTree, inputTrace, heading, phaseLines, refusedLine, phasesText}
@@ -23,14 +24,14 @@ use Rattle.phases_text.specs.Laws.Lists.{runOf, listed-lines, listed-pha
 -- What is known once replay is called: what it answers, and what it leaves in the run list that it is lent.
 pub record Called (input : List ℕ) (r : Replayed) (out : List ℕ) : Type 0 where
   pub list : List ℕ
-  pub room : length list ≡ 16380
-  pub answered : r ≡ answers (replayCall 16 (inputPolicy input) (inputTree input) (inputTrace input) list)
-  pub left : out ≡ replayCall 16 (inputPolicy input) (inputTree input) (inputTrace input) list .list
+  pub room : length list ≡ 4 * mostSteps
+  pub answered : r ≡ answers (replayCall mostWorkers (inputPolicy input) (inputTree input) (inputTrace input) list)
+  pub left : out ≡ replayCall mostWorkers (inputPolicy input) (inputTree input) (inputTrace input) list .list
 
 pub parts-called : {input : List ℕ} {policy start end : ℕ} → Parts input policy start end
     → (list : List ℕ) (r : Replayed) (out : List ℕ)
-    → let call = replayCall 16 policy (take (end - start) (drop start input)) (take (length input - end) (drop end input)) list in
-    r ≡ answers call → out ≡ call .list → length list ≡ 16380 → Called input r out
+    → let call = replayCall mostWorkers policy (take (end - start) (drop start input)) (take (length input - end) (drop end input)) list in
+    r ≡ answers call → out ≡ call .list → length list ≡ 4 * mostSteps → Called input r out
 parts-called {input} {policy} {start} {end} parts list r out a l room =
     record {
       list = list;
@@ -53,35 +54,35 @@ module _ {input : List ℕ} {r : Replayed} {out : List ℕ} (called : Called inp
   trace = inputTrace input
 
   verdict : Verdict
-  verdict = replayVerdict 16 p tree trace list
+  verdict = replayVerdict mostWorkers p tree trace list
 
   -- The rules' run list has room too.
-  same : replayVerdict 16 p tree trace (replicate (4 * length (kinds tree)) 0) ≡ verdict
+  same : replayVerdict mostWorkers p tree trace (replicate (4 * length (kinds tree)) 0) ≡ verdict
   unfolding verdict
   same =
-      same-verdict 16 p tree trace (replicate (4 * length (kinds tree)) 0) list
+      same-verdict mostWorkers p tree trace (replicate (4 * length (kinds tree)) 0) list
       (λ z. omega (arith, length-replicate {A = ℕ} (4 * length (kinds tree)) 0))
       (λ z. omega (arith, start-steps p tree z, called .room))
 
   number : r .number ≡ verdict .number
   unfolding answers verdict
-  number = ap (λ (x : Replayed). x .number) (called .answered) ∙ call-number 16 p tree trace list
+  number = ap (λ (x : Replayed). x .number) (called .answered) ∙ call-number mostWorkers p tree trace list
 
-  text-refused : (verdict .number ≡ 0 → ⊥) → phasesText 16 input ≡ refusedLine verdict
+  text-refused : (verdict .number ≡ 0 → ⊥) → phasesText mostWorkers input ≡ refusedLine verdict
   unfolding phasesText
   text-refused n = rw (same, ne-eqb (verdict .number) 0 n) refl
 
   text-accepted : verdict .number ≡ 0
-      → phasesText 16 input ≡ heading ++ phaseLines (phasesOf 16 p tree trace) (runOf 16 p tree trace)
+      → phasesText mostWorkers input ≡ heading ++ phaseLines (phasesOf mostWorkers p tree trace) (runOf mostWorkers p tree trace)
   unfolding phasesText phasesOf
   text-accepted z = rw (same, eq-eqb (verdict .number) 0 z) refl
 
   -- A refused replay's text.
-  pub called-refused : (r .number ≡ 0 → ⊥) → refusalText (r .number) (r .position) ≡ phasesText 16 input
+  pub called-refused : (r .number ≡ 0 → ⊥) → refusalText (r .number) (r .position) ≡ phasesText mostWorkers input
   unfolding refusalText answers replayRefused verdict
   called-refused n =
       let refused : verdict .number ≡ 0 → ⊥ = λ z. n (number ∙ z) in
-      let is = called .answered ∙ ap {B = Replayed} answers (call-refused 16 p tree trace list refused) in
+      let is = called .answered ∙ ap {B = Replayed} answers (call-refused mostWorkers p tree trace list refused) in
       ap (λ (x : Replayed). refusalText (x .number) (x .position)) is ∙ sym (text-refused refused)
 
   -- An accepted replay's.
@@ -89,23 +90,23 @@ module _ {input : List ℕ} {r : Replayed} {out : List ℕ} (called : Called inp
     fine : verdict .number ≡ 0
     fine = sym number ∙ none
 
-    out-is : out ≡ written (entryBytes (runOf 16 p tree trace)) list
+    out-is : out ≡ written (entryBytes (runOf mostWorkers p tree trace)) list
     unfolding verdict replayOf phasesOf
-    out-is = called .left ∙ ap (λ (c : Call). c .list) (call-accepted 16 p tree trace list fine)
+    out-is = called .left ∙ ap (λ (c : Call). c .list) (call-accepted mostWorkers p tree trace list fine)
 
-    pub called-steps : length (kinds (inputTree input)) ≤ 4095
+    pub called-steps : length (kinds (inputTree input)) ≤ mostSteps
     unfolding verdict
-    called-steps = start-steps p tree (accepted-start 16 p tree trace list fine)
+    called-steps = start-steps p tree (accepted-start mostWorkers p tree trace list fine)
 
     pub called-room : 4 * length (kinds (inputTree input)) ≤ length out
     unfolding verdict
-    called-room = rw out-is (listed-room 16 p tree trace list fine)
+    called-room = rw out-is (listed-room mostWorkers p tree trace list fine)
 
     pub called-phases : Phased (inputTrace input) out (length (kinds (inputTree input)))
     unfolding verdict
-    called-phases = rw out-is (listed-phases 16 p tree trace list fine)
+    called-phases = rw out-is (listed-phases mostWorkers p tree trace list fine)
 
-    pub called-listed : heading ++ linesOf (inputTrace input) out (length (kinds (inputTree input))) ≡ phasesText 16 input
+    pub called-listed : heading ++ linesOf (inputTrace input) out (length (kinds (inputTree input))) ≡ phasesText mostWorkers input
     unfolding verdict
     called-listed =
-        rw out-is (ap (λ (l : List ℕ). heading ++ l) (listed-lines 16 p tree trace list fine)) ∙ sym (text-accepted fine)
+        rw out-is (ap (λ (l : List ℕ). heading ++ l) (listed-lines mostWorkers p tree trace list fine)) ∙ sym (text-accepted fine)

@@ -9,16 +9,17 @@ use lib.ListN.{length}
 use lib.Dec.{eqb, leb}
 use borrow.Author.Tests.{eq-eqb, ne-eqb, le-ltb, leb-true}
 use Rattle.rules.specs.Bytes.{records, wholeRecords, accepted, refusedIf, firstRefused}
-use Rattle.rules.specs.Tree.{kinds}
+use Rattle.rules.specs.Tree.{mostSteps, kinds}
 use Rattle.rules.specs.Traces.{replayWalk}
 use Rattle.rules.specs.Calls.{startVerdict, replayVerdict, replayOf, replayRefused, replayCall, Replayed as Call}
+use Rattle.rules.specs.Calls.{mostTraceRecords}
 use Rattle.tree.specs.Laws.Verdicts.{first-accepts}
 use Rattle.tree_scan.specs.Laws.Starts.{start-tree-accepts}
 use Rattle.tree_scan.specs.Laws.Frames.{accepted-frame}
 use Rattle.run_invariant.specs.Laws.Counts.{and-both}
 
--- An accepted start has not too many steps.
-pub start-steps : (p : ℕ) (tree : List ℕ) → startVerdict p tree .number ≡ 0 → length (kinds tree) ≤ 4095
+-- The tree of an accepted start has at most the limit of steps.
+pub start-steps : (p : ℕ) (tree : List ℕ) → startVerdict p tree .number ≡ 0 → length (kinds tree) ≤ mostSteps
 start-steps p tree e = accepted-frame tree (start-tree-accepts p tree e) .most
 
 not-refused : (b : Bool) (k : ℕ) → refusedIf (not b) (1 + k) 0 .number ≡ 0 → b ≡ true
@@ -65,11 +66,12 @@ module _ (w p : ℕ) (tree trace : List ℕ) where
       unfolding replayVerdict
       accepted-start = first-accepts _ _ e .0
 
-      pub accepted-trace : length trace / 4 ≤ 2047
+      pub accepted-trace : length trace / 4 ≤ mostTraceRecords
       unfolding replayVerdict wholeRecords
       accepted-trace =
-          let whole = not-refused (wholeRecords 4 2047 trace) 5 (first-accepts _ _ (first-accepts _ _ e .1) .0) in
-          leb-true (length trace / 4) 2047 (and-both (eqb (length trace % 4) 0) (leb (length trace / 4) 2047) whole .1)
+          let many = length trace / 4 in
+          let whole = not-refused (wholeRecords 4 mostTraceRecords trace) 5 (first-accepts _ _ (first-accepts _ _ e .1) .0) in
+          leb-true many mostTraceRecords (and-both (eqb (length trace % 4) 0) (leb many mostTraceRecords) whole .1)
 
       pub accepted-walk : replayWalk w p (kinds tree) (records 4 trace) .verdict .number ≡ 0
       unfolding replayVerdict

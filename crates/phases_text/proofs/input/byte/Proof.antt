@@ -1,4 +1,4 @@
--- `inputs::byte` meets its contract: past the end there is nothing. Assumes nothing.
+-- `phases_text::input::byte` meets its contract: within the input it is the byte there, and beyond the end it is 0. Assumes nothing.
 use mathlib.Core.Path.{sym}
 use lib.ListN.{List·getD-eq-default}
 use borrow.Author.Needs.{needs}

@@ -1,4 +1,5 @@
--- `inputs::parts_of` meets its contract: a law says what the bytes and places that it takes are of the input. Assumes nothing.
+-- `phases_text::input::parts_of` meets its contract: the first three bytes are the policy and the count, and where an input is cut
+-- short, what is left up to its end is all that the rules take. Assumes nothing.
 use borrow.Author.Needs.{needs}
 use Rattle.phases_text.specs.Input.Laws.{input-parts}
 use Rattle.phases_text.proofs.input.parts_of.Statement.{statement}
@@ -10,20 +11,14 @@ byte-requires c κs = search needs
 byte-requires-2 : tie.Need-byte-requires-2
 byte-requires-2 c κs = search needs
 
-cast-n : tie.Need-cast-n
-cast-n c = search needs
-
 byte-requires-3 : tie.Need-byte-requires-3
 byte-requires-3 c κs = search needs
 
-cast-n-2 : tie.Need-cast-n-2
-cast-n-2 c = search needs
+two-bytes-requires : tie.Need-two-bytes-requires
+two-bytes-requires c κs = search needs
 
-mul-n : tie.Need-mul-n
-mul-n c = search needs
-
-add-n : tie.Need-add-n
-add-n c = search needs
+cast-n : tie.Need-cast-n
+cast-n c = search needs
 
 place-requires : tie.Need-place-requires
 place-requires c κs = search needs
@@ -39,14 +34,16 @@ place-requires-2 c κs = search needs
 
 returns : tie.Need-returns
 returns c =
-    let policy = c .before .before .before .before .byte in
-    let low = c .before .before .before .byte2 in
-    let high = c .before .before .byte3 in
+    let policy = c .before .before .before .before .before .byte in
+    let low = c .before .before .before .before .byte2 in
+    let high = c .before .before .before .byte3 in
+    let count = c .before .before .two-bytes in
     let start = c .before .place in
     let end = c .place2 in
-    let input = c .before .before .before .before .before .before .args .input .now in
-    input-parts input (policy .result) (low .result) (high .result) (start .result) (end .result)
-    (policy .ensures) (low .ensures) (high .ensures) (start .ensures) (end .ensures)
+    let input = c .before .before .before .before .before .before .before .args .input .now in
+    let many = rw (low .ensures, high .ensures) at (count .ensures) in
+    input-parts input (policy .result) (count .result) (start .result) (end .result) (policy .ensures) many (start .ensures)
+    (end .ensures)
 
 pub parts-of-spec : {M : Type 1} → statement M
 parts-of-spec =
@@ -54,11 +51,9 @@ parts-of-spec =
     (tie.spec
     byte-requires
     byte-requires-2
-    cast-n
     byte-requires-3
-    cast-n-2
-    mul-n
-    add-n
+    two-bytes-requires
+    cast-n
     place-requires
     mul-place
     add-place

@@ -1,4 +1,5 @@
--- `inputs::place` meets its contract. Assumes nothing.
+-- `phases_text::input::place` meets its contract: the lesser of two numbers is the one that the test finds to be less. Assumes
+-- nothing.
 use borrow.Author.Needs.{needs}
 use Rattle.phases_text.proofs.input.place.Statement.{statement}
 use Rattle.phases_text.proofs.input.place.Tie as tie

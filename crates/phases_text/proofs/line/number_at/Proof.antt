@@ -1,48 +1,36 @@
--- `lines::number_at` meets its contract. Each byte is below 256. Assumes nothing.
-use Prim.Native.Nat.{_+_}
-use mathlib.Core.Path.{refl}
-use native.Mathlib.Omega.{arith}
+-- `phases_text::line::number_at` meets its contract: both bytes are within the buffer, as is required, and `buffers::two_bytes`
+-- promises their number. Assumes nothing.
 use borrow.Author.Needs.{needs}
 use Rattle.phases_text.specs.Line.Terms.{numberAt}
 use Rattle.phases_text.proofs.line.number_at.Statement.{statement}
 use Rattle.phases_text.proofs.line.number_at.Tie as tie
 
-shared-slice-read-result : tie.Need-shared-slice-read-result
-shared-slice-read-result c = search needs
+shared-slice-read-two-bytes : tie.Need-shared-slice-read-two-bytes
+shared-slice-read-two-bytes c = search needs
+
+add-two-bytes : tie.Need-add-two-bytes
+add-two-bytes c = search needs
+
+shared-slice-read-two-bytes-2 : tie.Need-shared-slice-read-two-bytes-2
+shared-slice-read-two-bytes-2 c = search needs
+
+two-bytes-requires : tie.Need-two-bytes-requires
+two-bytes-requires c κs = search needs
 
 cast-result : tie.Need-cast-result
-cast-result c = omega (arith, c .shared-slice-known .given (c .before .args .at))
-
-add-result : tie.Need-add-result
-add-result c = search needs
-
-shared-slice-read-result-2 : tie.Need-shared-slice-read-result-2
-shared-slice-read-result-2 c = search needs
-
-cast-result-2 : tie.Need-cast-result-2
-cast-result-2 c = omega (arith, c .shared-slice-known2 .given (c .before .before .args .at + 1))
-
-mul-result : tie.Need-mul-result
-mul-result c = omega (arith, c .shared-slice-known2 .given (c .before .before .args .at + 1))
-
-add-result-2 : tie.Need-add-result-2
-add-result-2 c =
-    let at = c .before .before .args .at in
-    omega (arith, c .shared-slice-known2 .given at, c .shared-slice-known2 .given (at + 1))
+cast-result c = search needs
 
 returns : tie.Need-returns
 unfolding numberAt
-returns c = refl
+returns c = c .two-bytes .ensures
 
 pub number-at-spec : {M : Type 1} → statement M
 number-at-spec =
     tie.close
     (tie.spec
-    shared-slice-read-result
+    shared-slice-read-two-bytes
+    add-two-bytes
+    shared-slice-read-two-bytes-2
+    two-bytes-requires
     cast-result
-    add-result
-    shared-slice-read-result-2
-    cast-result-2
-    mul-result
-    add-result-2
     returns)

@@ -1,5 +1,5 @@
--- `lines::put_lines` meets its contract: the loop holds which lines are written, and a law says what a turn does to that.
--- Assumes nothing.
+-- `phases_text::line::put_lines` meets its contract: after k turns the text begins with the lines of the first k records, and a turn
+-- puts the next line behind them. No line has more than 18 bytes, so there is room for each. Assumes nothing.
 use Prim.Native.Nat.{_+_, _-_, _≤_}
 use mathlib.Core.Path.{_≡_, ap}
 use native.Mathlib.Omega.{arith}

@@ -1,5 +1,5 @@
--- `lines::worker_of` meets its contract: phase 0 is worker 0's, and a later phase's thief is a byte of the trace. Assumes
--- nothing.
+-- `phases_text::line::worker_of` meets its contract: phase 0 is worker 0's, and a later phase is that of the thief whose byte the
+-- trace record before it begins with. That record is within the trace, as is required. Assumes nothing.
 use Prim.Native.Nat.{_-_, _*_}
 use native.Mathlib.Omega.{arith}
 use borrow.Author.Needs.{needs}

@@ -1,4 +1,5 @@
--- `text::places` meets its contract: a law for each return. Assumes nothing.
+-- `phases_text::number::places` meets its contract: a number below 10 is printed in one digit, one below 100 in two, and so on; no
+-- number is printed in more than five. Assumes nothing.
 use Rattle.phases_text.specs.Number.Laws.Numbers.{places-1, places-2, places-3, places-4, places-5}
 use Rattle.phases_text.proofs.number.places.Statement.{statement}
 use Rattle.phases_text.proofs.number.places.Tie as tie

@@ -1,4 +1,5 @@
--- `text::put_line` meets its contract: three numbers, each behind the one before it. Assumes nothing.
+-- `phases_text::number::put_line` meets its contract: it puts three numbers one behind the other, with the bytes of the rules' line
+-- behind each, and each takes at most six of the 18 bytes. Assumes nothing.
 use Prim.Native.Nat.{ℕ, _+_, _≤_}
 use mathlib.Core.List.{List, _++_}
 use native.Mathlib.Omega.{arith}

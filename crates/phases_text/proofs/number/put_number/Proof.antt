@@ -1,5 +1,5 @@
--- `text::put_number` meets its contract: the loop holds what is to come before the digits that it has written, and a law
--- says what a turn does to that. Assumes nothing.
+-- `phases_text::number::put_number` meets its contract: the digits go from the last to the first, so at each turn the digits of `rest`
+-- and what stands behind them are the whole number; at the end nothing of `rest` is left to come. Assumes nothing.
 use mathlib.Core.Path.{_≡_, _∙_}
 use mathlib.Core.List.{[], _∷_}
 use native.Mathlib.Omega.{arith}

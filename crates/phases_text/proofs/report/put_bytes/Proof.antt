@@ -1,4 +1,5 @@
--- `report::put_bytes` meets its contract: all bytes are copied. Assumes nothing.
+-- `phases_text::report::put_bytes` meets its contract: `buffers::copy_out` copies as many bytes as it is told, and it is told all of
+-- them. Assumes nothing.
 use Prim.Native.Nat.{ℕ}
 use mathlib.Core.Path.{refl, ap, _∙_}
 use mathlib.Core.List.{List}

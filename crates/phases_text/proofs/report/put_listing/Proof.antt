@@ -1,4 +1,5 @@
--- `report::put_listing` meets its contract: the heading, and the lines behind it. Assumes nothing.
+-- `phases_text::report::put_listing` meets its contract: it puts the 18 bytes of the heading first and the lines behind them.
+-- Assumes nothing.
 use Prim.Native.Nat.{_+_}
 use mathlib.Core.Path.{refl}
 use mathlib.Core.List.{_++_}

@@ -1,4 +1,5 @@
--- `report::put_refusal` meets its contract: a word and two numbers, each behind what is before it. Assumes nothing.
+-- `phases_text::report::put_refusal` meets its contract: it puts a word and two numbers, each behind what is before it, and these are
+-- the rules' line of a refusal. Assumes nothing.
 use Prim.Native.Nat.{ℕ, _+_, _≤_}
 use mathlib.Core.List.{List, _++_}
 use native.Mathlib.Omega.{arith}
