@@ -5,7 +5,7 @@
 
 ghost use mathlib.Core.Path.{_≡_};
 ghost use Prim.Native.Nat.{_≤_, _<_};
-ghost use lib.ListN.{length};
+ghost use lib.ListN.{length, set};
 ghost use Rattle.run_spec.specs.Deques.{newestMark, oldestMark, pusherOf, popped, robbed};
 ghost use Rattle.run_spec.specs.Terms.{Climbs};
 use run_spec::Pusher;
@@ -82,6 +82,15 @@ pub fn oldest(place: &[u8; MOST_STEPS], worker: u8, low: usize, end: usize) -> P
         j += 1;
     }
     Pusher::Nothing
+}
+
+// A worker runs an opening step, and the step that it pushes is the newest of the worker's deque.
+pub fn push(place: &mut [u8; MOST_STEPS], worker: u8, step: Step)
+    requires { ⌜ step .0 < 4095 ⌝ }
+    ensures { λ r. ⌜ now (place .exit) ≡ set (now (place .entry)) (step .0) worker ⌝ }
+{
+    let i = step.0;
+    place[i] = worker;
 }
 
 // A worker runs an end: the step has run, and the newest step of the worker's deque leaves it. Gives that step's pusher.

@@ -19,13 +19,16 @@ pub enum TraceNumber {
     BySerial(Step),
 }
 
-// What a steal takes: the step, its ordinal and its pusher; or nothing.
+// A stolen step with the step that pushed it and, work-first, its ordinal.
+pub struct Stolen {
+    pub pusher: Step,
+    pub step: Step,
+    pub ordinal: Ordinal,
+}
+
+// What a steal takes from a deque: its oldest step, or nothing.
 pub enum Taken {
-    Of {
-        pusher: Step,
-        step: Step,
-        ordinal: Ordinal,
-    },
+    Of(Stolen),
     Nothing,
 }
 

@@ -1,4 +1,5 @@
--- `moves::steal_on` meets its contract: each return is a law of its answers. Assumes nothing.
+-- `run_event::steal_on` meets its contract: a steal that `judge_steal` refuses stores nothing, and a steal from an empty deque leaves the
+-- places as they were; any other takes the deque's oldest step, tells its trace number and stores it for thief and victim. Assumes nothing.
 use Prim.Native.Nat.{_≤_, _<_}
 use mathlib.Core.Path.{refl, sym, ap, _∙_}
 use lib.ListN.{length, getD}
@@ -68,12 +69,12 @@ take-step-requires c κs =
 abbrev looked : tie.After-take-step → tie.Else1
 looked c = c .before .before .before .before .before
 
-enum-known-pusher : tie.Need-enum-known-pusher
-enum-known-pusher c = c .match .keys1
+enum-known-stolen : tie.Need-enum-known-stolen
+enum-known-stolen c = c .match .keys1
 
 -- What is taken fits the tables.
-small : (c : tie.After-pusher) → let x = c .pusher .given .0 in Small (Of (x .0) (x .1 .0) (x .1 .1 .0))
-small c = rw (c .pusher .given .1) at (c .before .before .take-step .ensures .1 .1)
+small : (c : tie.After-stolen) → Small (Of (c .stolen .given .0 .0))
+small c = rw (c .stolen .given .1) at (c .before .before .take-step .ensures .1 .1)
 
 cast-begun : tie.Need-cast-begun
 cast-begun c = search needs
@@ -87,9 +88,8 @@ add-begun c = search needs
 settle-requires : tie.Need-settle-requires
 settle-requires c κs =
     let at = c .before .before .before .before .before in
-    let fits = small at in
     let few = allowed (looked (at .before .before)) in
-    (few .0, few .1, fits .0, fits .1, fits .2)
+    (few .0, few .1, small at)
 
 trace-number-requires : tie.Need-trace-number-requires
 trace-number-requires c κs = search needs
@@ -107,12 +107,12 @@ returns-2 c =
     let e = looked taken in
     let at = start e in
     let from = taken .before .before .before .wide in
-    let x = found .pusher .given .0 in
+    let x = found .stolen .given .0 .0 in
     let number = c .trace-number in
     let settled = c .before .settle in
     steal-takes (lent at) (at .args .tree .now) (at .args .thief) (at .args .victim) _ (e .before .judge-steal .ensures) (e .if1 .left)
     (from .result) (from .ensures) (getD (at .args .base .now) (at .args .victim) 0) refl (taken .take-step .last .1 .1 .0) (taken .take-step .ensures .1 .0)
-    (taken .take-step .result) (taken .take-step .ensures .0) (x .0) (x .1 .0) (x .1 .1 .0) (found .pusher .given .1) (number .result) (number .ensures) _ refl
+    (taken .take-step .result) (taken .take-step .ensures .0) x (found .stolen .given .1) (number .result) (number .ensures) _ refl
     _ _ _ _ (settled .ensures .0) (settled .ensures .1 .0) (settled .ensures .1 .1 .0) (settled .ensures .1 .1 .1)
 
 returns-3 : tie.Need-returns-3
@@ -139,7 +139,7 @@ steal-on-spec =
     mul-take-step
     element-copy-out-take-step
     take-step-requires
-    enum-known-pusher
+    enum-known-stolen
     cast-begun
     rem-begun
     add-begun

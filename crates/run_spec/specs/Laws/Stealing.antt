@@ -1,6 +1,6 @@
 -- The refusals of a steal and what it takes, in the terms of the code: one law for each return.
 use Prim.Native.Nat.{ℕ, _≤_, _<_}
-use mathlib.Core.Path.{_≡_, refl}
+use mathlib.Core.Path.{_≡_, refl, sym, ap, _∙_}
 use mathlib.Core.Bool.{or-true}
 use mathlib.Core.List.{List}
 use mathlib.Core.Option.{Option, none, some}
@@ -10,9 +10,9 @@ use lib.ListN.{length, getD}
 use lib.Dec.{leb}
 use borrow.Author.Tests.{lt-ltb, le-ltb, le-leb, lt-leb}
 use Rattle.rules.specs.Scheduling.{pushes}
-use Rattle.tree.specs.declared.Step.{Step}
-use Rattle.tree.specs.declared.Ordinal.{Ordinal}
 use Rattle.run_spec.specs.Numbers.{ordinalFrom}
+use Rattle.run_spec.specs.declared.Stolen.{Stolen}
+use Rattle.run_spec.specs.declared.Taken.{Taken}
 use Rattle.run_spec.specs.declared.Taken.the-variants.{Of, Nothing}
 use Rattle.run_spec.specs.Stealing.{stealNumber, takenOf}
 
@@ -59,15 +59,20 @@ module _ (ks held : List ℕ) (t v : ℕ) where
 
 -- ---- what is taken
 
+-- A step that is taken, and x where none is.
+stolen-by : Stolen → Taken → Stolen
+stolen-by x (Of y) = y
+stolen-by x Nothing = x
+
 module _ (p : ℕ) (ks : List ℕ) (base from : ℕ) where
   pub takes-nothing : (o : Option ℕ) → o ≡ none → Nothing ≡ takenOf p ks base from o
   unfolding takenOf
   takes-nothing o e = rw e refl
 
-  pub takes-step : (o : Option ℕ) (q : Step) → o ≡ some (q .0) → (step : Step) → step .0 ≡ pushes p ks (q .0)
-      → (ordinal : Ordinal) → ordinal .0 ≡ ordinalFrom p ks base from (q .0) → Of q step ordinal ≡ takenOf p ks base from o
+  pub takes-step : (o : Option ℕ) (x : Stolen) → o ≡ some (x .pusher .0) → x .step .0 ≡ pushes p ks (x .pusher .0)
+      → x .ordinal .0 ≡ ordinalFrom p ks base from (x .pusher .0) → Of x ≡ takenOf p ks base from o
   unfolding takenOf
-  takes-step o q e step f ordinal g = rw (e, ← f, ← g) refl
+  takes-step o x e f g = rw (e, ← f, ← g) refl
 
   -- And what was found, by what was taken.
   pub took-nothing : (o : Option ℕ) → takenOf p ks base from o ≡ Nothing → o ≡ none
@@ -75,8 +80,13 @@ module _ (p : ℕ) (ks : List ℕ) (base from : ℕ) where
   took-nothing none e = refl
   took-nothing (some q) e = let z : _≡_ {A = ℕ} 0 1 = cc in absurd (omega arith)
 
-  pub took-step : (o : Option ℕ) (q step : Step) (ordinal : Ordinal) → takenOf p ks base from o ≡ Of q step ordinal
-      → (o ≡ some (q .0)) × (step .0 ≡ pushes p ks (q .0)) × (ordinal .0 ≡ ordinalFrom p ks base from (q .0))
-  unfolding takenOf
-  took-step none q step ordinal e = let z : _≡_ {A = ℕ} 0 1 = cc in absurd (omega arith)
-  took-step (some x) q step ordinal e = (cc, cc, cc)
+  pub took-step : (o : Option ℕ) (x : Stolen) → takenOf p ks base from o ≡ Of x
+      → (o ≡ some (x .pusher .0)) × (x .step .0 ≡ pushes p ks (x .pusher .0)) × (x .ordinal .0 ≡ ordinalFrom p ks base from (x .pusher .0))
+  unfolding takenOf stolen-by
+  took-step none x e = let z : _≡_ {A = ℕ} 0 1 = cc in absurd (omega arith)
+  took-step (some q) x e =
+      let same = ap (stolen-by x) e in
+      let pusher : q ≡ x .pusher .0 = ap (λ (s : Stolen). s .pusher .0) same in
+      let step : pushes p ks q ≡ x .step .0 = ap (λ (s : Stolen). s .step .0) same in
+      let ordinal : ordinalFrom p ks base from q ≡ x .ordinal .0 = ap (λ (s : Stolen). s .ordinal .0) same in
+      (ap some pusher, sym step ∙ ap (pushes p ks) pusher, sym ordinal ∙ ap (ordinalFrom p ks base from) pusher)
