@@ -39,7 +39,7 @@ pub fn judge_steal(tree: &[u8], held: &[u16; WORKERS], thief: u8, victim: u8) ->
     0
 }
 
-// The oldest step of the victim's deque leaves it.
+// The oldest step of the victim's deque leaves it, and is given with its pusher and its ordinal.
 pub fn take_step(
     tree: &[u8],
     ends: &[u16],
@@ -71,7 +71,8 @@ pub fn take_step(
     }
 }
 
-// What a steal stores: the thief holds the step and has begun the phase, and the victim's scans go on behind the step's pusher.
+// What a steal stores for its two workers: the thief holds the step and has begun the phase, and the victim's scans go on behind the step's
+// pusher.
 pub fn settle(
     held: &mut [u16; WORKERS],
     phase: &mut [u16; WORKERS],

@@ -1,5 +1,5 @@
--- `deques::scan` meets its contract: the loop holds what is found from where it stands down, and a law says what a turn does
--- to that. Assumes nothing.
+-- `run_deques::scan` meets its contract: it goes down from `end`, and no step that it has passed is marked with the worker, so the first that
+-- is marked is the highest. Assumes nothing.
 use Prim.Native.Nat.{_≤_}
 use mathlib.Core.Path.{_≡_, refl}
 use native.Mathlib.Omega.{arith}

@@ -1,4 +1,4 @@
--- Each return of a run, a steal and an event, in the terms of the code.
+-- A run, a steal and an event as the code makes them: from what its parts answer, by the laws of those parts, follows the whole move.
 use Prim.Native.Nat.{ℕ, _+_, _%_, _<_}
 use mathlib.Core.Path.{_≡_, refl, sym, _∙_}
 use mathlib.Core.List.{List, []}
@@ -67,7 +67,8 @@ module _ (f : Fields) (tree : List ℕ) (t v number : ℕ) (judged : number ≡ 
       (place : List ℕ) (stored : place ≡ robbed (f .place) v low (length (kinds tree)))
       (r : Taken) (taken : r ≡ takenOf (f .policy) (kinds tree) base low (oldestMark (f .place) v low (length (kinds tree)))) where
     pub steal-empty : r ≡ Nothing
-        → moveOf (Refused 12) (fieldsOf place (f .held) (f .phase) (f .low) (f .base) (f .steals) (f .policy)) ≡ stealMove f tree t v
+        → moveOf (Refused 12) (fieldsOf place (f .held) (f .phase) (f .low) (f .base) (f .steals) (f .policy))
+        ≡ stealMove f tree t v
     unfolding stealMove refused
     steal-empty e =
         let n = length (kinds tree) in
@@ -75,7 +76,8 @@ module _ (f : Fields) (tree : List ℕ) (t v number : ℕ) (judged : number ≡ 
         rw (stored, ← robbed-nothing (f .place) v low n found, ← judged, eq-eqb number 0 none-refused, ← from, stealMove, found) refl
 
     pub steal-takes : (x : Stolen) → r ≡ Of x
-        → (told : TraceNumber) → told ≡ numberBy (f .policy) (x .ordinal .0) (x .step .0) → (begun : ℕ) → begun ≡ f .steals % 2048 + 1
+        → (told : TraceNumber) → told ≡ numberBy (f .policy) (x .ordinal .0) (x .step .0)
+        → (begun : ℕ) → begun ≡ f .steals % 2048 + 1
         → (held phase lows bases : List ℕ) → held ≡ set (f .held) t (x .step .0) → phase ≡ set (f .phase) t begun
         → lows ≡ set (set (f .low) v (x .pusher .0 + 1)) t (x .step .0) → bases ≡ set (set (f .base) v 0) t (x .ordinal .0)
         → moveOf (Stole told) (fieldsOf place held phase lows bases begun (f .policy)) ≡ stealMove f tree t v

@@ -1,4 +1,5 @@
--- The refusals of a steal and what it takes, in the terms of the code: one law for each return.
+-- A steal by cases, in the terms of the code: its refusals in the order in which they are judged, what it needs where it is not refused,
+-- and what it takes, by what is found in the deque.
 use Prim.Native.Nat.{ℕ, _≤_, _<_}
 use mathlib.Core.Path.{_≡_, refl, sym, ap, _∙_}
 use mathlib.Core.Bool.{or-true}
@@ -74,7 +75,7 @@ module _ (p : ℕ) (ks : List ℕ) (base from : ℕ) where
   unfolding takenOf
   takes-step o x e f g = rw (e, ← f, ← g) refl
 
-  -- And what was found, by what was taken.
+  -- What was found in the deque, by what was taken.
   pub took-nothing : (o : Option ℕ) → takenOf p ks base from o ≡ Nothing → o ≡ none
   unfolding takenOf
   took-nothing none e = refl

@@ -1,5 +1,5 @@
--- `numbers::children_between` meets its contract: the loop counts over the stretch of steps, and a law says what each turn does to
--- the count. Assumes nothing.
+-- `run_event::number::children_between` meets its contract: it keeps how many children are open and counts a step that opens one while none is
+-- open, so those inside other children are passed over. Assumes nothing.
 use Prim.Native.Nat.{_-_}
 use mathlib.Core.Path.{sym, _∙_}
 use native.Mathlib.Omega.{arith}

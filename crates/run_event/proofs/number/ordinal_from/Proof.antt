@@ -1,4 +1,5 @@
--- `numbers::ordinal_from` meets its contract: it counts the children between, work-first only. Assumes nothing.
+-- `run_event::number::ordinal_from` meets its contract: each child that the task opens raises the ordinal by one, so the children between and
+-- the pusher's own are added to the earlier step's ordinal; and a tree has too few steps for the sum to pass sixteen bits. Assumes nothing.
 use mathlib.Core.Path.{ap, _∙_}
 use Prim.Native.Nat.{ℕ, _+_, _%_}
 use native.Mathlib.Omega.{arith}

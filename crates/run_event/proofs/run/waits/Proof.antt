@@ -1,4 +1,5 @@
--- `running::waits` meets its contract: it asks for the finish child before the step, and whether all of it has run. Assumes nothing.
+-- `run_event::run::waits` meets its contract: a step waits only for the finish child that ends just before it, and the steps of that child and
+-- of its descendants are those from the child's first to before the step. Assumes nothing.
 use mathlib.Core.Path.{sym, ap, _∙_}
 use mathlib.Core.Bool.{Bool, not}
 use Rattle.rules.specs.Tree.{kinds}
