@@ -1,7 +1,8 @@
 // The deques of all workers, kept in one byte for each step (document 01, "Scheduling"): `place[j]` is NOT_RUN, or RUN, or the
-// number of the worker in whose deque the step is that step j pushed when it ran. All stores to the places of a run are here: `push`, `pop`
-// and `take`. A deque is in the order of its pushers, so its newest step is that of its highest pusher, its oldest that of its lowest. No
-// links are kept: any bytes are safe to scan. Where a table of openers is lent, the newest step is found by it instead.
+// number of the worker in whose deque the step is that step j pushed when it ran. All stores to the places of a run are here:
+// `push`, `pop` and `take`. A deque is in the order of its pushers, so its newest step is that of its highest pusher, its
+// oldest that of its lowest. No links are kept: any bytes are safe to scan. Where a table of openers is lent, the newest step
+// is found by it instead.
 
 ghost use mathlib.Core.Path.{_≡_};
 ghost use Prim.Native.Nat.{_≤_, _<_};
@@ -35,8 +36,8 @@ fn scan(place: &[u8; MOST_STEPS], worker: u8, low: usize, end: usize) -> Pusher
     Pusher::Nothing
 }
 
-// The highest step marked with the worker among those from `low` to before `end`, from opener to opener: no step between is marked with a
-// worker that holds step `end`.
+// The highest step marked with the worker among those from `low` to before `end`, from opener to opener: no step between is
+// marked with a worker that holds step `end`.
 fn climb(openers: &[u16], place: &[u8; MOST_STEPS], worker: u8, low: usize, end: usize) -> Pusher
     requires { ⌜ (end < mostSteps) × (end < length (now openers)) × Climbs (now openers) (now place) worker low end ⌝ }
     ensures { λ r. ⌜ r ≡ pusherOf (newestMark (now (place .entry)) worker low end) ⌝ }
@@ -54,8 +55,8 @@ fn climb(openers: &[u16], place: &[u8; MOST_STEPS], worker: u8, low: usize, end:
     Pusher::Nothing
 }
 
-// The highest step marked with the worker among those from `low` to before `end`: by the openers where their table has step `end`, else by
-// a scan.
+// The highest step marked with the worker among those from `low` to before `end`: by the openers where their table has step
+// `end`, else by a scan.
 pub fn newest(
     openers: &[u16],
     place: &[u8; MOST_STEPS],

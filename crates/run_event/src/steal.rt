@@ -71,8 +71,8 @@ pub fn take_step(
     }
 }
 
-// What a steal stores for its two workers: the thief holds the step and has begun the phase, and the victim's scans go on behind the step's
-// pusher.
+// What a steal stores for its two workers: the thief holds the step and has begun the phase, and the victim's scans go on
+// behind the step's pusher.
 pub fn settle(
     held: &mut [u16; WORKERS],
     phase: &mut [u16; WORKERS],

@@ -1,5 +1,6 @@
--- All deques in one array of places, one for each step: a step that has not run is marked so; a step that has run is marked with worker w
--- while the step that it pushed is in w's deque, and else as run. Here is what a scan of the places finds, and what a pop and a steal leave.
+-- All deques in one array of places, one for each step: a step that has not run is marked so; a step that has run is marked
+-- with worker w while the step that it pushed is in w's deque, and else as run. Here is what a scan of the places finds, and
+-- what a pop and a steal leave.
 use Prim.Native.Nat.{ℕ, _-_}
 use mathlib.Core.Bool.{Bool, cond}
 use mathlib.Core.List.{List, [], _∷_, reverse}

@@ -20,8 +20,8 @@ pub record Climbs (openers place : List ℕ) (w low end : ℕ) : Type 0 where
   pub table : Openers ks openers (length openers)
   pub nested : (j : ℕ) → low ≤ j → j < end → marked place w j ≡ true → end < taskEnd ks j
 
--- Where a table of openers is lent, only a step at its worker's `low` may wait: a stolen one, with which a phase begins. So it is in
--- every run. An empty table is asked nothing.
+-- Where a table of openers is lent, only a step at its worker's `low` may wait: a stolen one, with which a phase begins. So it
+-- is in every run. An empty table is asked nothing.
 abbrev pub WaitsAtLow : List ℕ → List ℕ → List ℕ → List ℕ → List ℕ → ℕ → Type 0
 WaitsAtLow ks openers place held low w =
     getD held w 0 < length openers → (getD held w 0 ≡ getD low w 0 → ⊥) → waitsFor ks place (getD held w 0) ≡ false

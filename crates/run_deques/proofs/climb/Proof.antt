@@ -1,5 +1,5 @@
--- `run_deques::climb` meets its contract: between a step on the way and its opener no step is marked with the worker, since the task of such
--- a step would end too early; so the first opener that is marked is the highest marked step. Assumes nothing.
+-- `run_deques::climb` meets its contract: between a step on the way and its opener no step is marked with the worker, since the
+-- task of such a step would end too early; so the first opener that is marked is the highest marked step. Assumes nothing.
 use Prim.Native.Nat.{_≤_, _<_}
 use mathlib.Core.Path.{_≡_, refl}
 use native.Mathlib.Omega.{arith}

@@ -1,5 +1,5 @@
--- `run_deques::pop` meets its contract: `newest` finds the deque's highest pusher, which stands before the step and so in the array; its mark is
--- taken away, the step is marked as run, and nothing else changes. Assumes nothing.
+-- `run_deques::pop` meets its contract: `newest` finds the deque's highest pusher, which stands before the step and so in the
+-- array; its mark is taken away, the step is marked as run, and nothing else changes. Assumes nothing.
 use Prim.Native.Nat.{ℕ}
 use mathlib.Core.Path.{_≡_, sym, _∙_}
 use mathlib.Core.Option.{Option, some}

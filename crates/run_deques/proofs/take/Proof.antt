@@ -1,5 +1,5 @@
--- `run_deques::take` meets its contract: `oldest` finds the deque's lowest pusher, which stands before `end` and so in the array; its mark is
--- taken away and nothing else changes. Assumes nothing.
+-- `run_deques::take` meets its contract: `oldest` finds the deque's lowest pusher, which stands before `end` and so in the
+-- array; its mark is taken away and nothing else changes. Assumes nothing.
 use Prim.Native.Nat.{ℕ}
 use mathlib.Core.Path.{_≡_, sym, _∙_}
 use mathlib.Core.Option.{Option, some}

@@ -1,5 +1,5 @@
--- Counting the children that a stretch of steps opens directly, as a loop does it: what it has counted and what the steps before it will
--- add are together the children of the stretch, at its start, after each turn and at its end.
+-- Counting the children that a stretch of steps opens directly, as a loop does it: what it has counted and what the steps
+-- ahead will add are together the children of the stretch, at its start, after each turn and at its end.
 use Prim.Native.Nat.{ℕ, suc, pred, _+_, _-_, _≤_, _<_}
 use mathlib.Core.Path.{_≡_, refl, ap, _∙_}
 use mathlib.Core.Bool.{cond}

@@ -1,5 +1,5 @@
--- The scans over the array of places and the climb over openers, turn by turn, in the terms of the code: a turn finds the mark or leaves
--- what is to be found. Then where it stands, and what the stores leave.
+-- The scans over the array of places and the climb over openers, turn by turn, in the terms of the code: a turn finds the mark
+-- or leaves what is to be found. Then where it stands, and what the stores leave.
 use Prim.Native.Nat.{ℕ, zero, suc, _+_, _-_, _≤_, _<_}
 use mathlib.Core.Path.{_≡_, refl, sym, ap, _∙_}
 use mathlib.Core.Bool.{Bool, true, false, cond}

@@ -1,4 +1,5 @@
--- A run, a steal and an event as the code makes them: from what its parts answer, by the laws of those parts, follows the whole move.
+-- A run, a steal and an event as the code makes them: from what its parts answer, by the laws of those parts, follows the whole
+-- move.
 use Prim.Native.Nat.{ℕ, _+_, _%_, _<_}
 use mathlib.Core.Path.{_≡_, refl, sym, _∙_}
 use mathlib.Core.List.{List, []}

@@ -1,5 +1,5 @@
--- A run by cases, in the terms of the code: its refusals in the order in which they are judged, what it needs where it is not refused, and
--- what it leaves, by the kind of its step.
+-- A run by cases, in the terms of the code: its refusals in the order in which they are judged, what it needs where it is not
+-- refused, and what it leaves, by the kind of its step.
 use Prim.Native.Nat.{ℕ, _≤_, _<_}
 use mathlib.Core.Path.{_≡_, refl}
 use mathlib.Core.Bool.{true, false}

@@ -1,5 +1,5 @@
--- A steal by cases, in the terms of the code: its refusals in the order in which they are judged, what it needs where it is not refused,
--- and what it takes, by what is found in the deque.
+-- A steal by cases, in the terms of the code: its refusals in the order in which they are judged, what it needs where it is not
+-- refused, and what it takes, by what is found in the deque.
 use Prim.Native.Nat.{ℕ, _≤_, _<_}
 use mathlib.Core.Path.{_≡_, refl, sym, ap, _∙_}
 use mathlib.Core.Bool.{or-true}

@@ -1,8 +1,9 @@
--- `run_event::run::advance` meets its contract: a step that opens a task marks itself with its worker, and holds and pushes by the policy;
--- a step that ends one pops, and the pusher that is found stands before it in the tree, so what it pushed is known. Assumes nothing.
-use Prim.Native.Nat.{_<_}
+-- `run_event::run::advance` meets its contract: a step that opens a task marks itself with its worker, and holds and pushes by
+-- the policy; a step that ends one pops, and the pusher that is found stands before it in the tree, so what it pushed is known.
+-- Assumes nothing.
+use Prim.Native.Nat.{ℕ, _<_}
 use mathlib.Core.Path.{_≡_, sym, _∙_}
-use mathlib.Core.Option.{some}
+use mathlib.Core.Option.{Option, some}
 use native.Mathlib.Omega.{arith}
 use lib.ListN.{length}
 use Rattle.rules.specs.Tree.{kinds, kindAt}
@@ -29,11 +30,15 @@ ends c = sym (c .before .kind .ensures) ∙ c .if1 .left
 abbrev asked : tie.After-q → tie.Start
 asked c = start (popping (c .before .before) .before)
 
-found : (c : tie.After-q) → let a = asked c .args in newestMark (a .place .now) (a .worker) (a .low) (a .step .0) ≡ some (c .q .given .0 .0 .0)
+abbrev newest : tie.Start → Option ℕ
+newest c =
+    let a = c .args in
+    newestMark (a .place .now) (a .worker) (a .low) (a .step .0)
+
+found : (c : tie.After-q) → newest (asked c) ≡ some (c .q .given .0 .0 .0)
 found c =
-    let a = asked c .args in
     let pop = c .before .before .pop in
-    found-at (newestMark (a .place .now) (a .worker) (a .low) (a .step .0)) (pop .result) (pop .ensures .0) (c .q .given .0 .0) (c .q .given .1)
+    found-at (newest (asked c)) (pop .result) (pop .ensures .0) (c .q .given .0 .0) (c .q .given .1)
 
 before : (c : tie.After-q) → c .q .given .0 .0 .0 < length (kinds (asked c .args .tree .now))
 before c =
@@ -65,7 +70,8 @@ returns c =
     let a = start (opening .before) .args in
     let ks = kinds (a .tree .now) in
     let opens : kindAt ks (a .step .0) ≡ 3 → ⊥ = λ e. opening .if1 .taken (opening .before .kind .ensures ∙ e) in (
-      next-opens (a .policy) ks (a .place .now) (a .worker) (a .low) (a .step .0) opens (held .held-after .result .0) (held .held-after .ensures),
+      next-opens (a .policy) ks (a .place .now) (a .worker) (a .low) (a .step .0) opens
+          (held .held-after .result .0) (held .held-after .ensures),
       c .before .push .ensures ∙ place-opens (a .policy) ks (a .place .now) (a .worker) (a .low) (a .step .0) opens,
     )
 
@@ -96,7 +102,8 @@ returns-2 c =
     let popped = q .before .before .pop in
     let pushed = c .before .pushed-by in
     let end = ends (popping (q .before .before)) in (
-      next-pops (a .policy) ks (a .place .now) (a .worker) (a .low) (a .step .0) end (q .q .given .0 .0 .0) (found q) (pushed .result .0) (pushed .ensures),
+      next-pops (a .policy) ks (a .place .now) (a .worker) (a .low) (a .step .0) end (q .q .given .0 .0 .0) (found q)
+          (pushed .result .0) (pushed .ensures),
       place-ends (a .policy) ks (a .place .now) (a .worker) (a .low) (a .step .0) end (popped .last .1 .0) (popped .ensures .1),
     )
 
@@ -106,9 +113,7 @@ returns-3 c =
     let a = start (e .before) .args in
     let ks = kinds (a .tree .now) in
     let popped = c .before .before .pop in
-    let none-found =
-    found-nothing (newestMark (a .place .now) (a .worker) (a .low) (a .step .0)) (popped .result) (popped .ensures .0) (c .enum-told .given .1)
-    in (
+    let none-found = found-nothing (newest (start (e .before))) (popped .result) (popped .ensures .0) (c .enum-told .given .1) in (
       next-ends (a .policy) ks (a .place .now) (a .worker) (a .low) (a .step .0) (ends e) none-found,
       place-ends (a .policy) ks (a .place .now) (a .worker) (a .low) (a .step .0) (ends e) (popped .last .1 .0) (popped .ensures .1),
     )

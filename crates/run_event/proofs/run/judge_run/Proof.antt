@@ -1,5 +1,6 @@
--- `run_event::run::judge_run` meets its contract: it asks in the order of the refusals' numbers, so the first that applies is given. A held
--- step that is not asked whether it waits stands in the table of openers and not at `low`, and such a step does not wait. Assumes nothing.
+-- `run_event::run::judge_run` meets its contract: it asks in the order in which the definition lists the refusals, so the first
+-- that applies is given. A held step that is not asked whether it waits stands in the table of openers and not at `low`, and
+-- such a step does not wait. Assumes nothing.
 use Prim.Native.Nat.{ℕ, _≤_, _<_}
 use mathlib.Core.Path.{_≡_, sym, subst, _∙_}
 use mathlib.Core.Bool.{false}
@@ -82,8 +83,8 @@ returns-3 c =
     let e = c .before .before .before in
     let a = start e .args in
     let i = c .before .wide in
-    judged-idle (kinds (a .tree .now)) (a .place .now) (a .held .now) (a .worker) (few (e .before .before)) (most e) (i .result) (i .ensures)
-    (subst (λ (n : ℕ). n ≤ i .result) (e .before .steps .ensures) (c .if3 .taken))
+    judged-idle (kinds (a .tree .now)) (a .place .now) (a .held .now) (a .worker) (few (e .before .before)) (most e)
+    (i .result) (i .ensures) (subst (λ (n : ℕ). n ≤ i .result) (e .before .steps .ensures) (c .if3 .taken))
 
 mul-wide-2 : tie.Need-mul-wide-2
 mul-wide-2 c = search needs

@@ -1,5 +1,5 @@
--- `run_event::steal::judge_steal` meets its contract: it asks for the thief, the victim and the tree before it looks at what the thief
--- holds, so the first refusal that applies is given, and an idle thief gets none. Assumes nothing.
+-- `run_event::steal::judge_steal` meets its contract: it asks for the thief, the victim and the tree before it looks at what
+-- the thief holds, so the first refusal that applies is given, and an idle thief gets none. Assumes nothing.
 use Prim.Native.Nat.{ℕ, _≤_, _<_}
 use mathlib.Core.Path.{sym, subst, _∙_}
 use lib.ListN.{length}

@@ -1,5 +1,5 @@
--- `run_event::steal::settle` meets its contract: it stores what the contract says, and every number fits its sixteen bits, since a steal
--- takes a step of a tree. Where thief and victim are the same the thief's stores come last. Assumes nothing.
+-- `run_event::steal::settle` meets its contract: it stores what the contract says, and every number fits its sixteen bits,
+-- since a steal takes a step of a tree. Where thief and victim are the same the thief's stores come last. Assumes nothing.
 use mathlib.Core.Path.{refl}
 use borrow.Author.Needs.{needs}
 use Rattle.run_event.proofs.steal.settle.Statement.{statement}

@@ -1,6 +1,6 @@
--- `run_event::steal::take_step` meets its contract: it scans the steps of the tree from the victim's `low` up, so the pusher that it finds is
--- the lowest that is marked with the victim, which pushed the oldest step of the deque; and since that pusher stands in the tree, all that
--- is taken fits the tables. Assumes nothing.
+-- `run_event::steal::take_step` meets its contract: it scans the steps of the tree from the victim's `low` up, so the pusher
+-- that it finds is the lowest that is marked with the victim, which pushed the oldest step of the deque; and since that pusher
+-- stands in the tree, all that is taken fits the tables. Assumes nothing.
 use Prim.Native.Nat.{ℕ, _<_}
 use mathlib.Core.Path.{_≡_, sym, _∙_}
 use mathlib.Core.Option.{Option, some}
@@ -77,8 +77,8 @@ returns c =
     let step = c .before .pushed-by in
     let ordinal = c .ordinal-from in
     let small = within at in (
-      takes-step (a .policy) ks (a .base) (a .low) (oldest (took at)) (record { pusher = q; step = step .result; ordinal = ordinal .result })
-          (found at) (step .ensures) (ordinal .ensures .0),
+      takes-step (a .policy) ks (a .base) (a .low) (oldest (took at))
+          (record { pusher = q; step = step .result; ordinal = ordinal .result }) (found at) (step .ensures) (ordinal .ensures .0),
       (
         leaves (took at),
         (
