@@ -12,7 +12,7 @@ use borrow.Author.Tests.{ne-eqb, lt-ltb, le-ltb, le-leb, lt-leb}
 use Rattle.rules.specs.Tree.{kindAt, isEnd}
 use Rattle.rules.specs.Scheduling.{holds, pushes}
 use Rattle.run_spec.specs.Deques.{newestMark, popped}
-use Rattle.run_spec.specs.Running.{waitsFor, runNumber, heldNext, placeNext}
+use Rattle.run_spec.specs.Running.{noStep, waitsFor, runNumber, heldNext, placeNext}
 
 -- ---- refusals
 
@@ -70,14 +70,16 @@ module _ (p : ℕ) (ks place : List ℕ) (w low i : ℕ) where
 
   -- or ends one, over a deque with a newest step or an empty one.
   module _ (end : kindAt ks i ≡ 3) where
+    next-newest : heldNext p ks place w low i ≡ elim (newestMark place w low i) [ none ↦ noStep | some q ↦ pushes p ks q ]
+    unfolding isEnd heldNext
+    next-newest = rw end refl
+
     pub next-pops : (q : ℕ) → newestMark place w low i ≡ some q → (next : ℕ) → next ≡ pushes p ks q
         → next ≡ heldNext p ks place w low i
-    unfolding isEnd heldNext
-    next-pops q found next e = rw (end, heldNext, found) e
+    next-pops q found next e = rw (next-newest, found) e
 
     pub next-ends : newestMark place w low i ≡ none → 65535 ≡ heldNext p ks place w low i
-    unfolding isEnd heldNext
-    next-ends found = rw (end, heldNext, found) refl
+    next-ends found = rw (next-newest, found) refl
 
     pub place-ends : (after : List ℕ) → after ≡ popped place w low i → after ≡ placeNext ks place w low i
     unfolding isEnd placeNext

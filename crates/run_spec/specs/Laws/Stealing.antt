@@ -2,13 +2,13 @@
 -- refused, and what it takes, by what is found in the deque.
 use Prim.Native.Nat.{ℕ, _≤_, _<_}
 use mathlib.Core.Path.{_≡_, refl, sym, ap, _∙_}
-use mathlib.Core.Bool.{or-true}
+use mathlib.Core.Bool.{cond, or-true}
 use mathlib.Core.List.{List}
 use mathlib.Core.Option.{Option, none, some}
 use native.Mathlib.Decide.{decLe, decLt}
 use native.Mathlib.Omega.{arith}
 use lib.ListN.{length, getD}
-use lib.Dec.{leb}
+use lib.Dec.{leb, ltb}
 use borrow.Author.Tests.{lt-ltb, le-ltb, le-leb, lt-leb}
 use Rattle.rules.specs.Scheduling.{pushes}
 use Rattle.run_spec.specs.Numbers.{ordinalFrom}
@@ -34,15 +34,16 @@ module _ (ks held : List ℕ) (t v : ℕ) where
     judged-long h = rw (lt-leb 16 t few, lt-leb 16 v fewer, lt-ltb 4095 (length ks) h) refl
 
     module _ (most : length ks ≤ 4095) (i : ℕ) (holding : i ≡ getD held t 0) where
-      pub judged-busy : i < length ks → 11 ≡ stealNumber ks held t v
+      -- What is left is whether the thief holds a step of the tree.
+      thief-asked : stealNumber ks held t v ≡ cond (ltb (getD held t 0) (length ks)) 11 0
       unfolding stealNumber
-      judged-busy h =
-          rw (lt-leb 16 t few, lt-leb 16 v fewer, le-ltb 4095 (length ks) most, ← holding, lt-ltb i (length ks) h) refl
+      thief-asked = rw (lt-leb 16 t few, lt-leb 16 v fewer, le-ltb 4095 (length ks) most) refl
+
+      pub judged-busy : i < length ks → 11 ≡ stealNumber ks held t v
+      judged-busy h = rw (thief-asked, ← holding, lt-ltb i (length ks) h) refl
 
       pub judged-idle : length ks ≤ i → 0 ≡ stealNumber ks held t v
-      unfolding stealNumber
-      judged-idle h =
-          rw (lt-leb 16 t few, lt-leb 16 v fewer, le-ltb 4095 (length ks) most, ← holding, le-ltb i (length ks) h) refl
+      judged-idle h = rw (thief-asked, ← holding, le-ltb i (length ks) h) refl
 
   -- A steal that is not refused is between two of the workers, in a tree that is not too long.
   pub steal-allowed : 0 ≡ stealNumber ks held t v → (t < 16) × (v < 16) × (length ks ≤ 4095)
