@@ -64,7 +64,7 @@ pub fn flat_outcome(outcome: Outcome) -> FrameOutcome
             what: 2,
             phase: 0,
             step: 0,
-            trace: run_event::number::number_of(number),
+            trace: run_event::number::encode_number(number),
         },
         Outcome::Refused(number) => FrameOutcome {
             number: number as usize,

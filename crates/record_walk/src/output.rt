@@ -45,7 +45,7 @@ pub fn trace_steal(
         k,
         thief,
         victim,
-        run_event::number::number_of(number),
+        run_event::number::encode_number(number),
     );
     loads::move_part(ends, sums, loads, thief as usize, victim as usize, step);
 }

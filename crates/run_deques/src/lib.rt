@@ -1,11 +1,13 @@
 // The deques of all workers, kept in one byte for each step (document 01, "Scheduling"): `place[j]` is NOT_RUN, or RUN, or the
-// number of the worker in whose deque the step is that step j pushed when it ran. A deque is in the order of its pushers, so its
-// newest step is that of its highest pusher, its oldest that of its lowest. No links are kept: any bytes are safe to scan. Where
-// a table of openers is lent, the newest step is found by it instead.
+// number of the worker in whose deque the step is that step j pushed when it ran. All stores to the places of a run are here:
+// `push`, `pop` and `take`. A deque is in the order of its pushers, so its newest step is that of its highest pusher, its
+// oldest that of its lowest. No links are kept: any bytes are safe to scan. Where a table of openers is lent, the newest step
+// is found by it instead.
 
 ghost use mathlib.Core.Path.{_≡_};
 ghost use Prim.Native.Nat.{_≤_, _<_};
-ghost use lib.ListN.{length};
+ghost use lib.ListN.{length, set};
+ghost use Rattle.rules.specs.Tree.{mostSteps};
 ghost use Rattle.run_spec.specs.Deques.{newestMark, oldestMark, pusherOf, popped, robbed};
 ghost use Rattle.run_spec.specs.Terms.{Climbs};
 use run_spec::Pusher;
@@ -21,7 +23,7 @@ pub const NOT_RUN: u8 = 17;
 
 // The highest step marked with the worker among those from `low` to before `end`, by a scan.
 fn scan(place: &[u8; MOST_STEPS], worker: u8, low: usize, end: usize) -> Pusher
-    requires { ⌜ end ≤ 4095 ⌝ }
+    requires { ⌜ end ≤ mostSteps ⌝ }
     ensures { λ r. ⌜ r ≡ pusherOf (newestMark (now (place .entry)) worker low end) ⌝ }
 {
     let mut j = end;
@@ -34,9 +36,10 @@ fn scan(place: &[u8; MOST_STEPS], worker: u8, low: usize, end: usize) -> Pusher
     Pusher::Nothing
 }
 
-// The same from step `end` up, from opener to opener: no other step is marked with a worker that holds `end`.
+// The highest step marked with the worker among those from `low` to before `end`, from opener to opener: no step between is
+// marked with a worker that holds step `end`.
 fn climb(openers: &[u16], place: &[u8; MOST_STEPS], worker: u8, low: usize, end: usize) -> Pusher
-    requires { ⌜ (end < 4095) × (end < length (now openers)) × Climbs (now openers) (now place) worker low end ⌝ }
+    requires { ⌜ (end < mostSteps) × (end < length (now openers)) × Climbs (now openers) (now place) worker low end ⌝ }
     ensures { λ r. ⌜ r ≡ pusherOf (newestMark (now (place .entry)) worker low end) ⌝ }
 {
     let mut j = end;
@@ -52,7 +55,8 @@ fn climb(openers: &[u16], place: &[u8; MOST_STEPS], worker: u8, low: usize, end:
     Pusher::Nothing
 }
 
-// The same, by the openers where their table has step `end`.
+// The highest step marked with the worker among those from `low` to before `end`: by the openers where their table has step
+// `end`, else by a scan.
 pub fn newest(
     openers: &[u16],
     place: &[u8; MOST_STEPS],
@@ -60,7 +64,7 @@ pub fn newest(
     low: usize,
     end: usize,
 ) -> Pusher
-    requires { ⌜ (end < 4095) × (end < length (now openers) → Climbs (now openers) (now place) worker low end) ⌝ }
+    requires { ⌜ (end < mostSteps) × (end < length (now openers) → Climbs (now openers) (now place) worker low end) ⌝ }
     ensures { λ r. ⌜ r ≡ pusherOf (newestMark (now (place .entry)) worker low end) ⌝ }
 {
     if end < openers.len() {
@@ -69,9 +73,9 @@ pub fn newest(
     scan(place, worker, low, end)
 }
 
-// The lowest.
+// The lowest step marked with the worker among those from `low` to before `end`, by a scan.
 pub fn oldest(place: &[u8; MOST_STEPS], worker: u8, low: usize, end: usize) -> Pusher
-    requires { ⌜ end ≤ 4095 ⌝ }
+    requires { ⌜ end ≤ mostSteps ⌝ }
     ensures { λ r. ⌜ r ≡ pusherOf (oldestMark (now (place .entry)) worker low end) ⌝ }
 {
     let mut j = low;
@@ -84,6 +88,15 @@ pub fn oldest(place: &[u8; MOST_STEPS], worker: u8, low: usize, end: usize) -> P
     Pusher::Nothing
 }
 
+// A worker runs an opening step, and the step that it pushes is the newest of the worker's deque.
+pub fn push(place: &mut [u8; MOST_STEPS], worker: u8, step: Step)
+    requires { ⌜ step .0 < mostSteps ⌝ }
+    ensures { λ r. ⌜ now (place .exit) ≡ set (now (place .entry)) (step .0) worker ⌝ }
+{
+    let i = step.0;
+    place[i] = worker;
+}
+
 // A worker runs an end: the step has run, and the newest step of the worker's deque leaves it. Gives that step's pusher.
 pub fn pop(
     openers: &[u16],
@@ -92,7 +105,7 @@ pub fn pop(
     low: usize,
     step: Step,
 ) -> Pusher
-    requires { ⌜ (step .0 < 4095) × (step .0 < length (now openers) → Climbs (now openers) (now place) worker low (step .0)) ⌝ }
+    requires { ⌜ (step .0 < mostSteps) × (step .0 < length (now openers) → Climbs (now openers) (now place) worker low (step .0)) ⌝ }
     ensures gives { λ r. ⌜ r ≡ pusherOf (newestMark (now (place .entry)) worker low (step .0)) ⌝ }
     ensures marks { λ r. ⌜ now (place .exit) ≡ popped (now (place .entry)) worker low (step .0) ⌝ }
 {
@@ -114,7 +127,7 @@ pub fn pop(
 // A thief takes the oldest step of the victim's deque, among the steps pushed by those from `low` to before `end`. Gives that
 // step's pusher.
 pub fn take(place: &mut [u8; MOST_STEPS], victim: u8, low: usize, end: usize) -> Pusher
-    requires { ⌜ end ≤ 4095 ⌝ }
+    requires { ⌜ end ≤ mostSteps ⌝ }
     ensures gives { λ r. ⌜ r ≡ pusherOf (oldestMark (now (place .entry)) victim low end) ⌝ }
     ensures marks { λ r. ⌜ now (place .exit) ≡ robbed (now (place .entry)) victim low end ⌝ }
 {

@@ -1,6 +1,7 @@
-// A run, a steal and an event on the fields of a run's state, lent as arrays (document 01, "Scheduling"). Single events lend those of
-// a state by value, recording its own. Any fields and any bytes are safe: a step that the tree has not is no held step, and a tree with more
-// records than a tree may have is refused with 2.
+// A run, a steal and an event on the fields of a run's state, lent as arrays (document 01, "Scheduling"): whether it is
+// refused, and else what it stores. Single events lend the arrays of a state by value, recording its own. Module `run` judges
+// and makes a run, `steal` a steal, `number` makes the number of its trace record. Any fields and any bytes are safe: a held
+// step beyond the tree is none, and a tree with more records than a tree may have is refused with 2.
 pub mod number;
 pub mod run;
 pub mod steal;
@@ -42,7 +43,11 @@ pub fn run_on(
     worker: u8,
 ) -> Outcome
     requires { ⌜ Hints (now tree) (now ends) (now openers) (now place) (now held) (now low) ⌝ }
-    ensures { λ r. ⌜ ((base : List ℕ) → (steals : ℕ) → moveOf r (fieldsOf (now (place .exit)) (now (held .exit)) (now (phase .entry)) (now (low .entry)) base steals policy) ≡ runMove (fieldsOf (now (place .entry)) (now (held .entry)) (now (phase .entry)) (now (low .entry)) base steals policy) (now (tree .entry)) worker) ⌝ }
+    ensures { λ r.
+        ⌜ ((base : List ℕ) → (steals : ℕ) →
+        let before = fieldsOf (now (place .entry)) (now (held .entry)) (now (phase .entry)) (now (low .entry)) base steals policy in
+        let after = fieldsOf (now (place .exit)) (now (held .exit)) (now (phase .entry)) (now (low .entry)) base steals policy in
+        moveOf r after ≡ runMove before (now (tree .entry)) worker) ⌝ }
 {
     let refusal = run::judge_run(tree, openers, place, held, low, worker);
     if refusal != 0 {
@@ -83,7 +88,12 @@ pub fn steal_on(
     victim: u8,
 ) -> Moved
     requires { ⌜ Ends (kinds (now tree)) (now ends) (length (now ends)) ⌝ }
-    ensures { λ r. ⌜ moveOf (r .outcome) (fieldsOf (now (place .exit)) (now (held .exit)) (now (phase .exit)) (now (low .exit)) (now (base .exit)) (r .steals) policy) ≡ stealMove (fieldsOf (now (place .entry)) (now (held .entry)) (now (phase .entry)) (now (low .entry)) (now (base .entry)) steals policy) (now (tree .entry)) thief victim ⌝ }
+    ensures { λ r.
+        let before =
+        fieldsOf (now (place .entry)) (now (held .entry)) (now (phase .entry)) (now (low .entry)) (now (base .entry)) steals policy in
+        let after =
+        fieldsOf (now (place .exit)) (now (held .exit)) (now (phase .exit)) (now (low .exit)) (now (base .exit)) (r .steals) policy in
+        ⌜ moveOf (r .outcome) after ≡ stealMove before (now (tree .entry)) thief victim ⌝ }
 {
     let refusal = steal::judge_steal(tree, held, thief, victim);
     if refusal != 0 {
@@ -92,26 +102,11 @@ pub fn steal_on(
     let v = victim as usize;
     let from = wide(low[v]);
     match steal::take_step(tree, ends, place, policy, victim, from, base[v]) {
-        Taken::Of {
-            pusher,
-            step,
-            ordinal,
-        } => {
+        Taken::Of(stolen) => {
             let begun = steals % MOST_PHASES as u16 + 1;
-            steal::settle(
-                held,
-                phase,
-                low,
-                base,
-                thief,
-                victim,
-                pusher,
-                step,
-                ordinal,
-                begun,
-            );
+            steal::settle(held, phase, low, base, thief, victim, stolen, begun);
             Moved {
-                outcome: Outcome::Stole(number::trace_number(policy, ordinal, step)),
+                outcome: Outcome::Stole(number::trace_number(policy, stolen.ordinal, stolen.step)),
                 steals: begun,
             }
         }

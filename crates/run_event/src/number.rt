@@ -1,9 +1,10 @@
-// The number of a trace record (document 01, "Scheduling"): an ordinal or a serial number.
+// The number that a steal writes to its trace record (document 01, "Scheduling"): an ordinal under work-first, a serial number
+// under help-first. `replay_steal::number::decode_number` reads it back.
 
 ghost use mathlib.Core.Path.{_≡_};
 ghost use Prim.Native.Nat.{_≤_, _<_};
 ghost use lib.ListN.{length};
-ghost use Rattle.rules.specs.Tree.{kinds};
+ghost use Rattle.rules.specs.Tree.{kinds, mostSteps};
 ghost use Rattle.run_spec.specs.Numbers.{childrenBetween, numberBy, numberValue, ordinalFrom};
 use policy::WORK_FIRST;
 use run_spec::TraceNumber;
@@ -27,8 +28,8 @@ pub fn trace_number(policy: u8, ordinal: Ordinal, step: Step) -> TraceNumber
     TraceNumber::BySerial(step)
 }
 
-// The number of a trace record.
-pub fn number_of(number: TraceNumber) -> usize
+// The number as a trace record has it.
+pub fn encode_number(number: TraceNumber) -> usize
     ensures { λ r. ⌜ r ≡ numberValue number ⌝ }
 {
     match number {
@@ -69,7 +70,7 @@ fn children_between(tree: &[u8], from: usize, to: usize) -> usize
 // The ordinal of the step that step `pusher` pushes, from the ordinal of an earlier step of its task; 0 under help-first,
 // which counts none. No ordinal is above 4,095.
 pub fn ordinal_from(tree: &[u8], policy: u8, base: u16, from: usize, pusher: usize) -> Ordinal
-    requires { ⌜ (pusher ≤ length (kinds (now tree))) × (length (kinds (now tree)) ≤ 4095) ⌝ }
+    requires { ⌜ (pusher ≤ length (kinds (now tree))) × (length (kinds (now tree)) ≤ mostSteps) ⌝ }
     ensures { λ r. ⌜ r .0 ≡ ordinalFrom policy (kinds (now (tree .entry))) base from pusher ⌝ }
     ensures small { λ r. ⌜ r .0 < 65536 ⌝ }
 {

@@ -1,11 +1,13 @@
-// Running a step (document 01, "Scheduling"): whether a worker may run the step that it holds, and what it holds then.
+// Running a step (document 01, "Scheduling"): whether a worker may run the step that it holds, what it holds next, and the
+// places then.
 
 ghost use mathlib.Core.Path.{_≡_};
 ghost use Prim.Native.Nat.{_≤_, _<_};
 ghost use mathlib.Core.Bool.{_||_};
 ghost use lib.ListN.{length};
 ghost use lib.Dec.{eqb, leb};
-ghost use Rattle.rules.specs.Tree.{kinds};
+ghost use Rattle.rules.specs.Tree.{kinds, mostSteps};
+ghost use Rattle.rules.specs.Scheduling.{mostWorkers};
 ghost use Rattle.tree_tables.specs.Terms.{Ends, Openers};
 ghost use Rattle.run_spec.specs.Terms.{Climbs, WaitsAtLow};
 ghost use Rattle.run_spec.specs.Running.{allRun, waitsFor, runNumber, heldNext, placeNext};
@@ -23,7 +25,7 @@ use tree_tables::wide;
 // Whether all steps from `first` to before `end` have run. It counts those that have not, and looks at all of them: a loop
 // without a way out takes many bytes at a time.
 fn all_run(place: &[u8; MOST_STEPS], first: usize, end: usize) -> bool
-    requires { ⌜ end ≤ 4095 ⌝ }
+    requires { ⌜ end ≤ mostSteps ⌝ }
     ensures { λ r. ⌜ r ≡ allRun (now (place .entry)) first end ⌝ }
 {
     let mut j = first;
@@ -40,7 +42,7 @@ fn all_run(place: &[u8; MOST_STEPS], first: usize, end: usize) -> bool
 
 // Whether a held step waits for a finish child.
 fn waits(tree: &[u8], openers: &[u16], place: &[u8; MOST_STEPS], step: Step) -> bool
-    requires { ⌜ (step .0 ≤ 4095) × Openers (kinds (now tree)) (now openers) (length (now openers)) ⌝ }
+    requires { ⌜ (step .0 ≤ mostSteps) × Openers (kinds (now tree)) (now openers) (length (now openers)) ⌝ }
     ensures { λ r. ⌜ r ≡ waitsFor (kinds (now (tree .entry))) (now (place .entry)) (step .0) ⌝ }
 {
     match finish_by(tree, openers, step) {
@@ -69,17 +71,17 @@ pub fn judge_run(
     worker: u8,
 ) -> u8
     requires { ⌜ Openers (kinds (now tree)) (now openers) (length (now openers)) ⌝ }
-    requires { ⌜ (worker < 16 → WaitsAtLow (kinds (now tree)) (now openers) (now place) (now held) (now low) worker) ⌝ }
+    requires { ⌜ (worker < mostWorkers → WaitsAtLow (kinds (now tree)) (now openers) (now place) (now held) (now low) worker) ⌝ }
     ensures { λ r. ⌜ r ≡ runNumber (kinds (now (tree .entry))) (now (place .entry)) (now (held .entry)) worker ⌝ }
 {
-    let w = worker as usize;
-    if WORKERS <= w {
+    if policy::no_worker(worker) {
         return 8;
     }
     let n = tree::steps(tree);
     if MOST_STEPS < n {
         return 2;
     }
+    let w = worker as usize;
     let i = wide(held[w]);
     if n <= i {
         return 9;
@@ -104,14 +106,15 @@ pub fn advance(
     low: usize,
     step: Step,
 ) -> u16
-    requires { ⌜ (step .0 < length (kinds (now tree))) × (length (kinds (now tree)) ≤ 4095) × Ends (kinds (now tree)) (now ends) (length (now ends)) × (step .0 < length (now openers) → Climbs (now openers) (now place) worker low (step .0)) ⌝ }
+    requires { let ks = kinds (now tree) in
+        ⌜ (step .0 < length ks) × (length ks ≤ mostSteps) × Ends ks (now ends) (length (now ends))
+        × (step .0 < length (now openers) → Climbs (now openers) (now place) worker low (step .0)) ⌝ }
     ensures gives { λ r. ⌜ r ≡ heldNext policy (kinds (now (tree .entry))) (now (place .entry)) worker low (step .0) ⌝ }
     ensures leaves { λ r. ⌜ now (place .exit) ≡ placeNext (kinds (now (tree .entry))) (now (place .entry)) worker low (step .0) ⌝ }
 {
-    let i = step.0;
     if tree::kind(tree, step) != END {
         let held = policy::held_after(tree, ends, policy, step);
-        place[i] = worker;
+        run_deques::push(place, worker, step);
         return held.0 as u16;
     }
     match run_deques::pop(openers, place, worker, low, step) {

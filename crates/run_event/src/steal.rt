@@ -4,42 +4,42 @@
 ghost use mathlib.Core.Path.{_≡_};
 ghost use Prim.Native.Nat.{_+_, _≤_, _<_};
 ghost use lib.ListN.{length, set};
-ghost use Rattle.rules.specs.Tree.{kinds};
+ghost use Rattle.rules.specs.Tree.{kinds, mostSteps};
+ghost use Rattle.rules.specs.Scheduling.{mostWorkers};
 ghost use Rattle.tree_tables.specs.Terms.{Ends};
 ghost use Rattle.run_spec.specs.Deques.{oldestMark, robbed};
 ghost use Rattle.run_spec.specs.Stealing.{stealNumber, takenOf};
 ghost use Rattle.run_spec.specs.Terms.{Small};
+ghost use Rattle.run_spec.specs.declared.Taken.the-variants.{Of};
 use policy::WORKERS;
 use run_spec::Pusher;
+use run_spec::Stolen;
 use run_spec::Taken;
 use tree::MOST_STEPS;
-use tree::Ordinal;
-use tree::Step;
 use tree_tables::wide;
 
 // The refusal of a steal, but for an empty deque: 8 or 11, or 2 for a tree that is too long; 0 for none.
 pub fn judge_steal(tree: &[u8], held: &[u16; WORKERS], thief: u8, victim: u8) -> u8
     ensures { λ r. ⌜ r ≡ stealNumber (kinds (now (tree .entry))) (now (held .entry)) thief victim ⌝ }
 {
-    let t = thief as usize;
-    let v = victim as usize;
-    if WORKERS <= t {
+    if policy::no_worker(thief) {
         return 8;
     }
-    if WORKERS <= v {
+    if policy::no_worker(victim) {
         return 8;
     }
     let n = tree::steps(tree);
     if MOST_STEPS < n {
         return 2;
     }
+    let t = thief as usize;
     if wide(held[t]) < n {
         return 11;
     }
     0
 }
 
-// The oldest step of the victim's deque leaves it.
+// The oldest step of the victim's deque leaves it, and is given with its pusher and its ordinal.
 pub fn take_step(
     tree: &[u8],
     ends: &[u16],
@@ -49,8 +49,10 @@ pub fn take_step(
     low: usize,
     base: u16,
 ) -> Taken
-    requires { ⌜ (length (kinds (now tree)) ≤ 4095) × Ends (kinds (now tree)) (now ends) (length (now ends)) ⌝ }
-    ensures gives { λ r. ⌜ r ≡ takenOf policy (kinds (now (tree .entry))) base low (oldestMark (now (place .entry)) victim low (length (kinds (now (tree .entry))))) ⌝ }
+    requires { ⌜ (length (kinds (now tree)) ≤ mostSteps) × Ends (kinds (now tree)) (now ends) (length (now ends)) ⌝ }
+    ensures gives { λ r.
+        let ks = kinds (now (tree .entry)) in
+        ⌜ r ≡ takenOf policy ks base low (oldestMark (now (place .entry)) victim low (length ks)) ⌝ }
     ensures leaves { λ r. ⌜ now (place .exit) ≡ robbed (now (place .entry)) victim low (length (kinds (now (tree .entry)))) ⌝ }
     ensures small { λ r. ⌜ Small r ⌝ }
 {
@@ -59,17 +61,18 @@ pub fn take_step(
         Pusher::At(pusher) => {
             let step = policy::pushed_by(tree, ends, policy, pusher);
             let ordinal = super::number::ordinal_from(tree, policy, base, low, pusher.0);
-            Taken::Of {
+            Taken::Of(Stolen {
                 pusher,
                 step,
                 ordinal,
-            }
+            })
         }
         Pusher::Nothing => Taken::Nothing,
     }
 }
 
-// What a steal stores: the thief holds the step and has begun the phase, and the victim's scans go on behind the step's pusher.
+// What a steal stores for its two workers: the thief holds the step and has begun the phase, and the victim's scans go on
+// behind the step's pusher.
 pub fn settle(
     held: &mut [u16; WORKERS],
     phase: &mut [u16; WORKERS],
@@ -77,24 +80,24 @@ pub fn settle(
     base: &mut [u16; WORKERS],
     thief: u8,
     victim: u8,
-    pusher: Step,
-    step: Step,
-    ordinal: Ordinal,
+    stolen: Stolen,
     begun: u16,
 )
-    requires { ⌜ (thief < 16) × (victim < 16) × (pusher .0 < 4095) × (step .0 < 65536) × (ordinal .0 < 65536) ⌝ }
-    ensures held { λ r. ⌜ now (held .exit) ≡ set (now (held .entry)) thief (step .0) ⌝ }
+    requires { ⌜ (thief < mostWorkers) × (victim < mostWorkers) × Small (Of stolen) ⌝ }
+    ensures held { λ r. ⌜ now (held .exit) ≡ set (now (held .entry)) thief (stolen .step .0) ⌝ }
     ensures phase { λ r. ⌜ now (phase .exit) ≡ set (now (phase .entry)) thief begun ⌝ }
-    ensures low { λ r. ⌜ now (low .exit) ≡ set (set (now (low .entry)) victim (pusher .0 + 1)) thief (step .0) ⌝ }
-    ensures base { λ r. ⌜ now (base .exit) ≡ set (set (now (base .entry)) victim 0) thief (ordinal .0) ⌝ }
+    ensures low { λ r.
+        let passed = set (now (low .entry)) victim (stolen .pusher .0 + 1) in
+        ⌜ now (low .exit) ≡ set passed thief (stolen .step .0) ⌝ }
+    ensures base { λ r. ⌜ now (base .exit) ≡ set (set (now (base .entry)) victim 0) thief (stolen .ordinal .0) ⌝ }
 {
     let t = thief as usize;
     let v = victim as usize;
-    let taken = step.0 as u16;
-    held[t] = taken;
+    let step = stolen.step.0 as u16;
+    held[t] = step;
     phase[t] = begun;
-    low[v] = (pusher.0 + 1) as u16;
-    low[t] = taken;
+    low[v] = (stolen.pusher.0 + 1) as u16;
+    low[t] = step;
     base[v] = 0;
-    base[t] = ordinal.0 as u16;
+    base[t] = stolen.ordinal.0 as u16;
 }

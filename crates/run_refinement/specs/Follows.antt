@@ -1,7 +1,7 @@
--- What is claimed of single events. From an accepted start on, whatever events follow, refused ones included: each event's outcome is
--- the rules' word on it, the state then shows the rules' run, and its idle answers are the rules'. `outcomes` and `stateAfter` are
--- folds of `eventAnswer`, which is what the contract of `event` gives; `startAnswer` and `idleAnswer` are what those of `start` and
--- `idle` give.
+-- What is claimed of single events. From an accepted start on, whatever events follow, refused ones included: each event's
+-- outcome is the rules' word on it, the state then shows the rules' run, and its idle answers are the rules'. `outcomes` and
+-- `stateAfter` are folds of `eventAnswer`, which is what the contract of `event` gives; `startAnswer` and `idleAnswer` are what
+-- those of `start` and `idle` give.
 use Prim.Native.Nat.{ℕ}
 use mathlib.Core.Path.{_≡_}
 use mathlib.Core.List.{List}

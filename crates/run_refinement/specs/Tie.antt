@@ -7,11 +7,12 @@ use mathlib.Core.Option.{Option, none, some}
 use lib.ListN.{length, getD}
 use lib.Dec.{eqb}
 use Rattle.rules.specs.Bytes.{any}
-use Rattle.rules.specs.Tree.{kindAt, isEnd, ordinal, taskEnd, cont}
+use Rattle.rules.specs.Tree.{mostSteps, kindAt, isEnd, ordinal, taskEnd, cont}
 use Rattle.rules.specs.Scheduling.{workFirst, mostWorkers, pushes, phaseAt, Worker, Entry, Run, workerAt, hasRun, waits, isRun}
 use Rattle.rules.specs.Scheduling.{oldest, judgeEvent}
 use Rattle.rules.specs.Calls.{eventCall}
-use Rattle.run_spec.specs.Deques.{marked}
+use Rattle.run_spec.specs.Deques.{unrunMark, marked}
+use Rattle.run_spec.specs.Running.{noStep}
 use Rattle.run_spec.specs.declared.Outcome.{Outcome}
 use Rattle.run_spec.specs.declared.Outcome.the-variants.{Ran, Stole, Refused}
 use Rattle.run_spec.specs.Numbers.{numberBy}
@@ -29,7 +30,7 @@ Line ks low x (q ∷ qs) = (isEnd (kindAt ks q) ≡ false) × (q < x) × (x < ta
 
 -- What the state has for a held step, and its `low`.
 abbrev pub HeldShown : List ℕ → Option ℕ → ℕ → ℕ → List ℕ → Type 0
-HeldShown ks none held low qs = (held ≡ 65535) × (qs ≡ [])
+HeldShown ks none held low qs = (held ≡ noStep) × (qs ≡ [])
 HeldShown ks (some h) held low qs = (held ≡ h) × Line ks low h qs
 
 -- From step a to step x over k children of the same task: each time on to the step after the end of the child that is opened.
@@ -78,7 +79,7 @@ AllReady p ks lows r =
 
 pub record Shows (p : ℕ) (ks : List ℕ) (s : Fields) (r : Run) : Type 0 where
   pub policy : s .policy ≡ p
-  pub places : length (s .place) ≡ 4095
+  pub places : length (s .place) ≡ mostSteps
   pub helds : length (s .held) ≡ mostWorkers
   pub phases : length (s .phase) ≡ mostWorkers
   pub lows : length (s .low) ≡ mostWorkers
@@ -87,8 +88,8 @@ pub record Shows (p : ℕ) (ks : List ℕ) (s : Fields) (r : Run) : Type 0 where
   pub hands : (w : ℕ) → w < mostWorkers
       → HandShown p ks (s .place) w (getD (s .held) w 0) (getD (s .low) w 0) (getD (s .base) w 0)
       (getD (s .phase) w 0) (workerAt r w)
-  -- 17 is the mark of the steps that have not run.
-  pub unrun : (j : ℕ) → j < length ks → eqb (getD (s .place) j 0) 17 ≡ not (hasRun (r .log) j)
+  -- The steps that have not run are marked so.
+  pub unrun : (j : ℕ) → j < length ks → eqb (getD (s .place) j 0) unrunMark ≡ not (hasRun (r .log) j)
   pub steals : s .steals ≡ length (r .steals)
   pub ready : AllReady p ks (s .low) r
 

@@ -1,5 +1,6 @@
--- What the functions on the array of places answer, and what they leave in it. `place` is one byte for each step: 17 not run, 16
--- run, w run and its pushed step is in worker w's deque.
+-- All deques in one array of places, one for each step: a step that has not run is marked so; a step that has run is marked
+-- with worker w while the step that it pushed is in w's deque, and else as run. Here is what a scan of the places finds, and
+-- what a pop and a steal leave.
 use Prim.Native.Nat.{ℕ, _-_}
 use mathlib.Core.Bool.{Bool, cond}
 use mathlib.Core.List.{List, [], _∷_, reverse}
@@ -9,6 +10,15 @@ use lib.Dec.{eqb}
 use Rattle.rules.specs.Bytes.{count}
 use Rattle.run_spec.specs.declared.Pusher.{Pusher}
 use Rattle.run_spec.specs.declared.Pusher.the-variants.{At, Nothing}
+
+-- ---- marks
+
+-- The marks of a step that has run and of one that has not, beside the numbers of the workers.
+abbrev pub ranMark : ℕ
+ranMark = 16
+
+abbrev pub unrunMark : ℕ
+unrunMark = 17
 
 -- ---- scans
 
@@ -21,13 +31,15 @@ find test (x ∷ xs) = cond (test x) (some x) (find test xs)
 unfoldable pub marked : List ℕ → ℕ → ℕ → Bool
 marked place w j = eqb (getD place j 0) w
 
--- The highest and the lowest step marked with w among those from `low` to before `end`.
+-- The highest step marked with w among those from `low` to before `end`: the pusher of the newest step of w's deque.
 unfoldable pub newestMark : List ℕ → ℕ → ℕ → ℕ → Option ℕ
 newestMark place w low end = find (marked place w) (reverse (count low (end - low)))
 
+-- The lowest step marked with w among them: the pusher of the oldest step.
 unfoldable pub oldestMark : List ℕ → ℕ → ℕ → ℕ → Option ℕ
 oldestMark place w low end = find (marked place w) (count low (end - low))
 
+-- What is found as the code has it.
 unfoldable pub pusherOf : Option ℕ → Pusher
 pusherOf none = Nothing
 pusherOf (some q) = At (record { 0 = q })
@@ -37,8 +49,8 @@ pusherOf (some q) = At (record { 0 = q })
 -- Worker w has run the end i, and its newest step is no longer in its deque.
 unfoldable pub popped : List ℕ → ℕ → ℕ → ℕ → List ℕ
 popped place w low i =
-    elim (newestMark place w low i) [ none ↦ set place i 16 | some q ↦ set (set place i 16) q 16 ]
+    elim (newestMark place w low i) [ none ↦ set place i ranMark | some q ↦ set (set place i ranMark) q ranMark ]
 
 -- Worker w's oldest step is no longer in its deque.
 unfoldable pub robbed : List ℕ → ℕ → ℕ → ℕ → List ℕ
-robbed place w low end = elim (oldestMark place w low end) [ none ↦ place | some q ↦ set place q 16 ]
+robbed place w low end = elim (oldestMark place w low end) [ none ↦ place | some q ↦ set place q ranMark ]

@@ -11,15 +11,17 @@ use Rattle.rules.specs.Scheduling.{mostWorkers}
 unfoldable pub isIdle : ℕ → Bool
 isIdle held = leb mostSteps held
 
--- Of the m workers from worker i on: the set as bits, the lowest worker's lowest; how many are idle; the lowest that is.
+-- The idle ones of the m workers from worker i on as a set of bits, worker i's the lowest,
 unfoldable pub idleBits : List ℕ → ℕ → ℕ → ℕ
 idleBits held i zero = 0
 idleBits held i (suc m) = cond (isIdle (getD held i 0)) 1 0 + 2 * idleBits held (suc i) m
 
+-- how many they are,
 unfoldable pub idleNumber : List ℕ → ℕ → ℕ → ℕ
 idleNumber held i zero = 0
 idleNumber held i (suc m) = cond (isIdle (getD held i 0)) 1 0 + idleNumber held (suc i) m
 
+-- and the lowest of them, 16 where none is idle.
 unfoldable pub idleFirst : List ℕ → ℕ → ℕ → ℕ
 idleFirst held i zero = mostWorkers
 idleFirst held i (suc m) = cond (isIdle (getD held i 0)) i (idleFirst held (suc i) m)

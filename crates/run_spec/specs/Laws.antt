@@ -5,7 +5,7 @@
 --     Children   the count of the children that a stretch of steps opens directly, turn by turn
 --     Numbers    trace numbers and ordinals, case by case
 --     Stealing   refusals of a steal, and what it takes, case by case
---     Moves      each return of a run, a steal and an event
+--     Moves      a run, a steal and an event from what their parts answer
 --     Idle       the set of idle workers as a loop builds it, its count of ones and its trailing zeros
 pub mod Marks
 pub mod Waiting

@@ -1,9 +1,13 @@
--- One event on the fields of a run's state.
---     Deques, Running, Numbers, Stealing   what the parts of an event ask, answer and store (to be believed)
---     Moves                                a run, a steal and an event whole (to be believed)
---     Idle                                 the set of idle workers (to be believed)
---     Terms                                words of the inner contracts of an event
---     Laws                                 each of these case by case, in the terms of the code (proved)
+-- What one event does to the fields of a run's state. The first six pages are to be believed, since the contracts of
+-- `run_state` name them: they have definitions alone, and no theorem.
+--     Deques     the marks of the steps: what a scan finds, what a pop and a steal leave
+--     Running    whether a worker may run its step, what it holds next, and the places then
+--     Numbers    the number of a trace record
+--     Stealing   whether a thief may steal, and what it takes
+--     Moves      a run, a steal and an event whole
+--     Idle       the idle workers
+--     Terms      words of inner contracts, which no entry names
+--     Laws       each of these case by case, in the terms of the code (proved)
 pub mod Deques
 pub mod Running
 pub mod Numbers

@@ -1,18 +1,18 @@
 -- A run, a steal and an event on the fields of a run's state: what each answers, and every field then. They are functions of the
 -- fields, the tree's bytes and the event alone, for any of them. On the states that a run leads to these are the rules; on any
--- other a held step that the tree has not is none, and a tree with too many records is refused with 2.
+-- other a held step beyond the tree is none, and a tree with too many records is refused with 2.
 use Prim.Native.Nat.{ℕ, suc, _+_, _%_}
 use mathlib.Core.Bool.{cond}
 use mathlib.Core.List.{List}
 use mathlib.Core.Option.{none, some}
 use lib.ListN.{length, getD, set, replicate}
 use lib.Dec.{eqb}
-use Rattle.rules.specs.Tree.{kinds}
-use Rattle.rules.specs.Scheduling.{pushes}
+use Rattle.rules.specs.Tree.{kinds, mostSteps}
+use Rattle.rules.specs.Scheduling.{mostWorkers, pushes}
 use Rattle.run_spec.specs.declared.Outcome.{Outcome}
 use Rattle.run_spec.specs.declared.Outcome.the-variants.{Ran, Stole, Refused}
-use Rattle.run_spec.specs.Deques.{oldestMark, robbed}
-use Rattle.run_spec.specs.Running.{runNumber, heldNext, placeNext}
+use Rattle.run_spec.specs.Deques.{unrunMark, oldestMark, robbed}
+use Rattle.run_spec.specs.Running.{noStep, runNumber, heldNext, placeNext}
 use Rattle.run_spec.specs.Numbers.{numberBy, ordinalFrom}
 use Rattle.run_spec.specs.Stealing.{stealNumber}
 
@@ -45,10 +45,12 @@ moveOf outcome after = record { outcome = outcome; after = after }
 -- "Worker 0 holds step 0 and that begins phase 0. The other 15 workers are idle." No step has run.
 unfoldable pub fresh : ℕ → Fields
 fresh p =
-    fieldsOf (replicate 4095 17) (set (replicate 16 65535) 0 0) (replicate 16 0) (replicate 16 0) (replicate 16 0) 0 p
+    let zeros : List ℕ = replicate mostWorkers 0 in
+    fieldsOf (replicate mostSteps unrunMark) (set (replicate mostWorkers noStep) 0 0) zeros zeros zeros 0 p
 
 -- ---- a run
 
+-- A refused event leaves every field.
 unfoldable pub refused : ℕ → Fields → Move
 refused number f = moveOf (Refused number) f
 
@@ -58,6 +60,7 @@ ranFields f ks w i =
     fieldsOf (placeNext ks (f .place) w (getD (f .low) w 0) i)
     (set (f .held) w (heldNext (f .policy) ks (f .place) w (getD (f .low) w 0) i)) (f .phase) (f .low) (f .base) (f .steals) (f .policy)
 
+-- Worker w runs the step that it holds.
 unfoldable pub runMove : Fields → List ℕ → ℕ → Move
 runMove f tree w =
     let number = runNumber (kinds tree) (f .place) (f .held) w in
@@ -82,6 +85,7 @@ robbedFields f ks t v q =
     fieldsOf (robbed (f .place) v (getD (f .low) v 0) (length ks)) (set (f .held) t taken) (set (f .phase) t (nextPhase f))
     (set (set (f .low) v (suc q)) t taken) (set (set (f .base) v 0) t (takenOrdinal f ks v q)) (nextPhase f) (f .policy)
 
+-- The thief t takes the oldest step of v's deque.
 unfoldable pub stealMove : Fields → List ℕ → ℕ → ℕ → Move
 stealMove f tree t v =
     let ks = kinds tree in

@@ -1,4 +1,4 @@
--- The number of a trace record: an ordinal, which counts children, or a serial number.
+-- The number of a trace record: an ordinal under work-first, which counts a task's children, or a serial number under help-first.
 use Prim.Native.Nat.{ℕ, suc, pred, _+_, _-_, _%_}
 use mathlib.Core.Bool.{cond}
 use mathlib.Core.List.{List, [], _∷_}
@@ -28,7 +28,7 @@ childrenIn depth [] = 0
 childrenIn depth (k ∷ ks) =
     cond (isEnd k) (childrenIn (pred depth) ks) (cond (eqb depth 0) 1 0 + childrenIn (suc depth) ks)
 
--- Those opened from step `from` to before step `to`.
+-- The children opened directly from step `from` to before step `to`.
 unfoldable pub childrenBetween : List ℕ → ℕ → ℕ → ℕ
 childrenBetween ks from to = childrenIn 0 (take (to - from) (drop from ks))
 

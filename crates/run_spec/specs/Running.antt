@@ -1,5 +1,4 @@
--- What running a step asks and does: whether the worker may run it, the step that it holds next, and the array of places then.
--- `place` is one byte for each step: 17 not run, 16 run, w run and its pushed step is in worker w's deque.
+-- What running a step asks and does: whether the worker may run the step that it holds, what it holds next, and the places then.
 use Prim.Native.Nat.{ℕ, _-_}
 use mathlib.Core.Bool.{Bool, false, cond, not}
 use mathlib.Core.List.{List}
@@ -9,13 +8,13 @@ use lib.Dec.{eqb, leb, ltb}
 use Rattle.rules.specs.Bytes.{count, all}
 use Rattle.rules.specs.Tree.{kindAt, isEnd, finishBefore, mostSteps}
 use Rattle.rules.specs.Scheduling.{mostWorkers, holds, pushes}
-use Rattle.run_spec.specs.Deques.{newestMark, popped}
+use Rattle.run_spec.specs.Deques.{unrunMark, newestMark, popped}
 
 -- ---- waiting
 
 -- All steps from `first` to before `end` have run.
 unfoldable pub allRun : List ℕ → ℕ → ℕ → Bool
-allRun place first end = all (λ j. not (eqb (getD place j 0) 17)) (count first (end - first))
+allRun place first end = all (λ j. not (eqb (getD place j 0) unrunMark)) (count first (end - first))
 
 -- A step after a finish child waits until all steps of the child have run, those of its descendants too: they stand between.
 unfoldable pub waitsFor : List ℕ → List ℕ → ℕ → Bool
@@ -32,11 +31,16 @@ runNumber ks place held w =
 
 -- ---- what a run leaves
 
--- The step that worker w holds once it has run step i, and the places then.
+-- What a state has for the held step of a worker that holds none.
+abbrev pub noStep : ℕ
+noStep = 65535
+
+-- The step that worker w holds once it has run step i, where no step below `low` is marked with w.
 unfoldable pub heldNext : ℕ → List ℕ → List ℕ → ℕ → ℕ → ℕ → ℕ
 heldNext p ks place w low i =
     let newest = newestMark place w low i in
-    cond (isEnd (kindAt ks i)) (elim newest [ none ↦ 65535 | some q ↦ pushes p ks q ]) (holds p ks i)
+    cond (isEnd (kindAt ks i)) (elim newest [ none ↦ noStep | some q ↦ pushes p ks q ]) (holds p ks i)
 
+-- The places then.
 unfoldable pub placeNext : List ℕ → List ℕ → ℕ → ℕ → ℕ → List ℕ
 placeNext ks place w low i = cond (isEnd (kindAt ks i)) (popped place w low i) (set place i w)

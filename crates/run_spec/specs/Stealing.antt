@@ -25,4 +25,10 @@ stealNumber ks held t v =
 -- What a steal from a deque takes, whose oldest step was pushed by a step that is found, or by none.
 unfoldable pub takenOf : ℕ → List ℕ → ℕ → ℕ → Option ℕ → Taken
 takenOf p ks base from none = Nothing
-takenOf p ks base from (some q) = Of (record { 0 = q }) (record { 0 = pushes p ks q }) (record { 0 = ordinalFrom p ks base from q })
+takenOf p ks base from (some q) =
+    Of
+    (record {
+      pusher = record { 0 = q };
+      step = record { 0 = pushes p ks q };
+      ordinal = record { 0 = ordinalFrom p ks base from q };
+    })

@@ -5,7 +5,7 @@ use mathlib.Core.Path.{_≡_}
 use mathlib.Core.Bool.{true, false}
 use mathlib.Core.List.{List}
 use lib.ListN.{length, getD}
-use Rattle.rules.specs.Tree.{kinds, taskEnd}
+use Rattle.rules.specs.Tree.{kinds, taskEnd, mostSteps}
 use Rattle.rules.specs.Scheduling.{mostWorkers}
 use Rattle.tree_tables.specs.Terms.{Ends, Openers}
 use Rattle.run_spec.specs.declared.Taken.{Taken}
@@ -20,8 +20,8 @@ pub record Climbs (openers place : List ℕ) (w low end : ℕ) : Type 0 where
   pub table : Openers ks openers (length openers)
   pub nested : (j : ℕ) → low ≤ j → j < end → marked place w j ≡ true → end < taskEnd ks j
 
--- Where a table of openers is lent, only a step at its worker's `low` may wait: a stolen one, with which a phase begins. So it is in
--- every run. An empty table is asked nothing.
+-- Where a table of openers is lent, only a step at its worker's `low` may wait: a stolen one, with which a phase begins. So it
+-- is in every run. An empty table is asked nothing.
 abbrev pub WaitsAtLow : List ℕ → List ℕ → List ℕ → List ℕ → List ℕ → ℕ → Type 0
 WaitsAtLow ks openers place held low w =
     getD held w 0 < length openers → (getD held w 0 ≡ getD low w 0 → ⊥) → waitsFor ks place (getD held w 0) ≡ false
@@ -36,5 +36,5 @@ pub record Hints (tree ends openers place held low : List ℕ) : Type 0 where
 
 -- What a steal takes fits the tables.
 abbrev pub Small : Taken → Type 0
-Small (Of pusher step ordinal) = (pusher .0 < 4095) × (step .0 < 65536) × (ordinal .0 < 65536)
+Small (Of stolen) = (stolen .pusher .0 < mostSteps) × (stolen .step .0 < 65536) × (stolen .ordinal .0 < 65536)
 Small Nothing = 0 < 1

@@ -1,10 +1,11 @@
-// One event of a run on the fields of its state (document 01, "Scheduling"): what it answers and what it leaves, as definitions
-// and laws in `specs`, and the types that they speak of. The functions are in the crates above.
+// What one event of a run does to the fields of its state (document 01, "Scheduling"): its answer and what it leaves, as
+// definitions and laws in `specs`, and the types that they speak of. It has no function: those of `run_deques`, `run_event` and
+// `run_state` are proved to compute these definitions, and `run_refinement` proves that the definitions are the rules.
 use tree::Ordinal;
 use tree::Phase;
 use tree::Step;
 
-// What a worker that holds no step has for one.
+// What a state has for the held step of a worker that holds none.
 pub const NO_STEP: u16 = 65535;
 
 // The pusher of a step of a deque, or none.
@@ -19,13 +20,16 @@ pub enum TraceNumber {
     BySerial(Step),
 }
 
-// What a steal takes: the step, its ordinal and its pusher; or nothing.
+// A stolen step with the step that pushed it and, work-first, its ordinal.
+pub struct Stolen {
+    pub pusher: Step,
+    pub step: Step,
+    pub ordinal: Ordinal,
+}
+
+// What a steal takes from a deque: its oldest step, or nothing.
 pub enum Taken {
-    Of {
-        pusher: Step,
-        step: Step,
-        ordinal: Ordinal,
-    },
+    Of(Stolen),
     Nothing,
 }
 

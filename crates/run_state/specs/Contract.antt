@@ -1,10 +1,11 @@
 -- What each call answers, and every field of the state that it hands back: functions of the state, the tree's bytes and the event
--- alone, for any of them. What an event does to the fields of a state is said in `Moves` of `events`.
+-- alone, for any of them. What an event does to the fields of a state is said in `Moves` of `run_spec`.
 use Prim.Native.Nat.{ℕ}
 use mathlib.Core.Bool.{cond}
 use mathlib.Core.List.{List}
 use lib.ListN.{replicate}
 use lib.Dec.{eqb}
+use Rattle.rules.specs.Tree.{mostSteps}
 use Rattle.rules.specs.Scheduling.{mostWorkers}
 use Rattle.rules.specs.Calls.{startVerdict}
 use Rattle.run_spec.specs.Moves.{Fields, Move, fresh, runMove, stealMove, eventMove}
@@ -14,7 +15,7 @@ use Rattle.run_state.specs.declared.Answer.{Answer}
 use Rattle.run_state.specs.declared.Started.{Started}
 use Rattle.run_state.specs.declared.Idle.{Idle}
 
--- The fields of a state, a state of such fields, and an answer of a move.
+-- The fields of a state,
 abbrev pub fields : RunState → Fields
 fields s =
     record {
@@ -27,6 +28,7 @@ fields s =
       policy = s .policy;
     }
 
+-- a state of such fields,
 abbrev pub stateOf : Fields → RunState
 stateOf f =
     record {
@@ -39,6 +41,7 @@ stateOf f =
       policy = f .policy;
     }
 
+-- and the answer of an event that did such a move.
 abbrev pub answerOf : Move → Answer
 answerOf m = record { outcome = m .outcome; state = stateOf (m .after) }
 
@@ -48,15 +51,16 @@ answerOf m = record { outcome = m .outcome; state = stateOf (m .after) }
 unfoldable pub zeros : RunState
 zeros =
     record {
-      place = replicate 4095 0;
-      held = replicate 16 0;
-      phase = replicate 16 0;
-      low = replicate 16 0;
-      base = replicate 16 0;
+      place = replicate mostSteps 0;
+      held = replicate mostWorkers 0;
+      phase = replicate mostWorkers 0;
+      low = replicate mostWorkers 0;
+      base = replicate mostWorkers 0;
       steals = 0;
       policy = 0;
     }
 
+-- Refusals 1 to 5 with their position, or the first state.
 unfoldable pub startAnswer : ℕ → List ℕ → Started
 startAnswer p tree =
     let refusal = startVerdict p tree in

@@ -1,3 +1,3 @@
 -- What need not be believed: everything here is proved from the definitions.
---     Cases   each answer of each call, in the terms of the code
+--     Cases   the calls by cases, in the terms of the code
 pub mod Cases

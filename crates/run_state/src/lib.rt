@@ -1,14 +1,17 @@
-// The state of a run by value (document 01, "Scheduling"): single events, the idle workers. A method takes the state and hands
-// back the next with its answer. Any state and any bytes are safe: a step that the tree has not is no held step, and a tree with
-// more records than a tree may have is refused with 2.
-pub mod idle_workers;
+// A run by value, event by event (document 01, "Scheduling"). `start::start` judges tree and policy and gives the first state;
+// `run`, `steal` and `event` take a state and hand back the next with the event's outcome; `idle` tells the idle workers.
+// Nothing is kept elsewhere: a host may copy a state, keep it or go back to it. Any state and any bytes are safe: a held step
+// beyond the tree is none, and a tree with more records than a tree may have is refused with 2.
 pub mod start;
 
 ghost use mathlib.Core.Path.{_≡_};
+ghost use Rattle.rules.specs.Scheduling.{mostWorkers};
+ghost use Rattle.run_spec.specs.Idle.{idleBits};
 ghost use Rattle.run_state.specs.Contract.{runAnswer, stealAnswer, eventAnswer, idleAnswer};
 use policy::WORKERS;
 use run_spec::Outcome;
 use tree::MOST_STEPS;
+use tree_tables::wide;
 
 // The state of a run.
 #[repr(C)]
@@ -17,11 +20,11 @@ pub struct RunState {
     pub place: [u8; MOST_STEPS],
     // for each worker the step that it holds, or NO_STEP
     pub held: [u16; WORKERS],
-    // its latest phase
+    // for each worker its latest phase
     pub phase: [u16; WORKERS],
-    // a step below which no step is marked with it
+    // for each worker a step below which no step is marked with it
     pub low: [u16; WORKERS],
-    // and, work-first, that step's ordinal
+    // for each worker, work-first, the ordinal of the step in `low`
     pub base: [u16; WORKERS],
     // how many steals there were
     pub steals: u16,
@@ -49,7 +52,23 @@ pub struct Idle {
     pub state: RunState,
 }
 
-// By value: each takes the state and hands back the next with its answer.
+// The workers that hold no step as a set: worker w is bit w.
+fn idle_set(held: &[u16; WORKERS]) -> u16
+    ensures { λ r. ⌜ r ≡ idleBits (now (held .entry)) 0 mostWorkers ⌝ }
+{
+    let mut w = WORKERS;
+    let mut set: u16 = 0;
+    while 0 < w {
+        w -= 1;
+        if MOST_STEPS <= wide(held[w]) {
+            set = 2 * set + 1;
+        } else {
+            set = 2 * set;
+        }
+    }
+    set
+}
+
 impl RunState {
     // A worker runs its step.
     pub fn run(self, tree: &[u8], worker: u8) -> Answer
@@ -115,7 +134,7 @@ impl RunState {
         }
     }
 
-    // An event of two bytes.
+    // An event of two bytes: equal, that worker runs its step; different, the first steals from the second.
     pub fn event(self, tree: &[u8], first: u8, second: u8) -> Answer
         ensures { λ r. ⌜ r ≡ eventAnswer self (now (tree .entry)) first second ⌝ }
     {
@@ -125,12 +144,12 @@ impl RunState {
         self.steal(tree, first, second)
     }
 
-    // The idle workers.
+    // The idle workers: those that hold no step. One that waits is not idle.
     pub fn idle(self) -> Idle
         ensures { λ r. ⌜ r ≡ idleAnswer self ⌝ }
     {
         let held = self.held;
-        let set = idle_workers::idle_set(&held);
+        let set = idle_set(&held);
         Idle {
             set,
             count: u16::count_ones(set),

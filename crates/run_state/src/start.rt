@@ -1,4 +1,4 @@
-// The start of a run (document 01, "Scheduling"): refusals 1 to 5, or the first state.
+// The start of a run (document 01, "Scheduling"): tree and policy are judged, and a run that is not refused has its first state.
 
 ghost use mathlib.Core.Path.{_≡_};
 ghost use Rattle.run_spec.specs.Moves.{fresh};
@@ -10,7 +10,7 @@ use run_deques::NOT_RUN;
 use run_spec::NO_STEP;
 use tree::MOST_STEPS;
 
-// The state beside a refusal.
+// The state beside a refusal: all zeros.
 fn no_state() -> RunState
     ensures { λ r. ⌜ r ≡ zeros ⌝ }
 {

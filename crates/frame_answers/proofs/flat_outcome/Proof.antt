@@ -18,8 +18,8 @@ enum-known-outcome c = search needs
 enum-known-outcome-2 : tie.Need-enum-known-outcome-2
 enum-known-outcome-2 c = search needs
 
-number-of-requires : tie.Need-number-of-requires
-number-of-requires c κs = search needs
+encode-number-requires : tie.Need-encode-number-requires
+encode-number-requires c κs = search needs
 
 enum-known-outcome-3 : tie.Need-enum-known-outcome-3
 enum-known-outcome-3 c = search needs
@@ -31,7 +31,7 @@ returns : tie.Need-returns
 returns c = ap flatOutcome (sym (c .before .outcome .given .1))
 
 returns-2 : tie.Need-returns-2
-returns-2 c = ap stolen (c .number-of .ensures) ∙ ap flatOutcome (sym (c .before .before .outcome2 .given .1))
+returns-2 c = ap stolen (c .encode-number .ensures) ∙ ap flatOutcome (sym (c .before .before .outcome2 .given .1))
 
 returns-3 : tie.Need-returns-3
 returns-3 c = ap flatOutcome (sym (c .before .outcome3 .given .1))
@@ -42,7 +42,7 @@ flat-outcome-spec =
     (tie.spec
     enum-known-outcome
     enum-known-outcome-2
-    number-of-requires
+    encode-number-requires
     enum-known-outcome-3
     cast-t8
     returns

@@ -1,5 +1,5 @@
--- `deques::climb` meets its contract: the loop holds what is found up to where it stands, and a turn goes on to the opener, with no
--- marked step between. Assumes nothing.
+-- `run_deques::climb` meets its contract: between a step on the way and its opener no step is marked with the worker, since the
+-- task of such a step would end too early; so the first opener that is marked is the highest marked step. Assumes nothing.
 use Prim.Native.Nat.{_≤_, _<_}
 use mathlib.Core.Path.{_≡_, refl}
 use native.Mathlib.Omega.{arith}
@@ -30,15 +30,21 @@ wide-requires c κs = search needs
 -- The opener stands before the step.
 less : (c : tie.After-wide Inv-loop μ-loop) → c .wide .result < c .before .before .before .loop .j
 less c =
-    let a = c .before .before .before .before .before .args in
-    let loop = c .before .before .before .loop in
-    climb-less (a .openers .now) (a .place .now) (a .worker) (a .low) (a .end) (c .before .before .before .before .before .pre .2) (loop .j) (omega arith) (loop .inv .0) (c .before .before .before .before .before .pre .1) (loop .inv .1) (c .wide .result) (c .wide .ensures)
+    let at = c in
+    let s = at .before .before .before .before .before in
+    let a = s .args in
+    let loop = at .before .before .before .loop in
+    climb-less (a .openers .now) (a .place .now) (a .worker) (a .low) (a .end) (s .pre .2) (loop .j) (omega arith) (loop .inv .0)
+    (s .pre .1) (loop .inv .1) (at .wide .result) (at .wide .ensures)
 
 returns : tie.Need-returns Inv-loop μ-loop
 returns c =
-    let a = c .before .before .before .before .before .before .args in
-    let loop = c .before .before .before .before .loop in
-    climb-below (a .openers .now) (a .place .now) (a .worker) (a .low) (a .end) (c .before .before .before .before .before .before .pre .2) (loop .j) (omega arith) (loop .inv .0) (c .before .before .before .before .before .before .pre .1) (loop .inv .1) (c .before .wide .result) (c .before .wide .ensures) (c .if1 .taken)
+    let at = c .before in
+    let s = at .before .before .before .before .before in
+    let a = s .args in
+    let loop = at .before .before .before .loop in
+    climb-below (a .openers .now) (a .place .now) (a .worker) (a .low) (a .end) (s .pre .2) (loop .j) (omega arith) (loop .inv .0)
+    (s .pre .1) (loop .inv .1) (at .wide .result) (at .wide .ensures) (c .if1 .taken)
 
 element-copy-out-if2 : tie.Need-element-copy-out-if2 Inv-loop μ-loop
 element-copy-out-if2 c =
@@ -46,18 +52,26 @@ element-copy-out-if2 c =
 
 returns-2 : tie.Need-returns-2 Inv-loop μ-loop
 returns-2 c =
-    let a = c .before .before .before .before .before .before .before .before .args in
-    let loop = c .before .before .before .before .before .before .loop in
-    climb-hit (a .openers .now) (a .place .now) (a .worker) (a .low) (a .end) (c .before .before .before .before .before .before .before .before .pre .2) (loop .j) (omega arith) (loop .inv .0) (c .before .before .before .before .before .before .before .before .pre .1) (loop .inv .1) (c .before .before .before .wide .result) (c .before .before .before .wide .ensures) (omega arith) (c .if2 .taken)
+    let at = c .before .before .before in
+    let s = at .before .before .before .before .before in
+    let a = s .args in
+    let loop = at .before .before .before .loop in
+    climb-hit (a .openers .now) (a .place .now) (a .worker) (a .low) (a .end) (s .pre .2) (loop .j) (omega arith) (loop .inv .0)
+    (s .pre .1) (loop .inv .1) (at .wide .result) (at .wide .ensures) (omega arith) (c .if2 .taken)
 
 loop-less : tie.Need-loop-less Inv-loop μ-loop
 loop-less c = less (c .before .before .before)
 
 loop-again : tie.Need-loop-again Inv-loop μ-loop
 loop-again c =
-    let a = c .before .before .before .before .before .before .before .before .args in
-    let loop = c .before .before .before .before .before .before .loop in
-    (omega (arith, less (c .before .before .before), loop .inv .0), climb-miss (a .openers .now) (a .place .now) (a .worker) (a .low) (a .end) (c .before .before .before .before .before .before .before .before .pre .2) (loop .j) (omega arith) (loop .inv .0) (c .before .before .before .before .before .before .before .before .pre .1) (loop .inv .1) (c .before .before .before .wide .result) (c .before .before .before .wide .ensures) (omega arith) (c .if2 .left))
+    let at = c .before .before .before in
+    let s = at .before .before .before .before .before in
+    let a = s .args in
+    let loop = at .before .before .before .loop in
+    let missed =
+    climb-miss (a .openers .now) (a .place .now) (a .worker) (a .low) (a .end) (s .pre .2) (loop .j) (omega arith) (loop .inv .0)
+    (s .pre .1) (loop .inv .1) (at .wide .result) (at .wide .ensures) (omega arith) (c .if2 .left) in
+    (omega (arith, less at, loop .inv .0), missed)
 
 returns-3 : tie.Need-returns-3 Inv-loop μ-loop
 returns-3 c =

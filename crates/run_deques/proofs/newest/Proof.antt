@@ -1,4 +1,5 @@
--- `deques::newest` meets its contract: both ways find the same. Assumes nothing.
+-- `run_deques::newest` meets its contract: the climb and the scan both find the highest mark, and the climb is taken only where
+-- the table of openers has the step from which it starts. Assumes nothing.
 use borrow.Author.Needs.{needs}
 use Rattle.run_deques.proofs.newest.Statement.{statement}
 use Rattle.run_deques.proofs.newest.Tie as tie

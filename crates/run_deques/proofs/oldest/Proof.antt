@@ -1,5 +1,5 @@
--- `deques::oldest` meets its contract: the loop holds what is found from where it stands up, and a law says what a turn does to
--- that. Assumes nothing.
+-- `run_deques::oldest` meets its contract: it goes up from `low`, and no step that it has passed is marked with the worker, so
+-- the first that is marked is the lowest. Assumes nothing.
 use Prim.Native.Nat.{_-_}
 use mathlib.Core.Path.{_≡_, refl}
 use native.Mathlib.Omega.{arith}

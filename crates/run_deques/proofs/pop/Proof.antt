@@ -1,5 +1,8 @@
--- `deques::pop` meets its contract: it stores to the step that has run and to what `newest` finds, which stands before it. Assumes nothing.
-use mathlib.Core.Path.{sym, _∙_}
+-- `run_deques::pop` meets its contract: `newest` finds the deque's highest pusher, which stands before the step and so in the
+-- array; its mark is taken away, the step is marked as run, and nothing else changes. Assumes nothing.
+use Prim.Native.Nat.{ℕ}
+use mathlib.Core.Path.{_≡_, sym, _∙_}
+use mathlib.Core.Option.{Option, some}
 use native.Mathlib.Omega.{arith}
 use Rattle.run_spec.specs.Deques.{newestMark}
 use Rattle.run_spec.specs.Laws.Marks.{pusher-at, pusher-nothing, newest-before, popped-at, popped-nothing}
@@ -13,13 +16,32 @@ newest-requires c κs = search needs
 enum-known-q : tie.Need-enum-known-q
 enum-known-q c = search needs
 
+-- ---- what is found
+
+abbrev start : tie.After-newest → tie.Start
+start c = c .before .before .before
+
+abbrev mark : tie.After-newest → Option ℕ
+mark c =
+    let a = start c .args in
+    newestMark (a .place .now) (a .worker) (a .low) (a .step .0)
+
+abbrev looked : tie.After-q → tie.After-newest
+looked c = c .before .before
+
+found : (c : tie.After-q) → mark (looked c) ≡ some (c .q .given .0 .0 .0)
+found c = pusher-at (mark (looked c)) (c .q .given .0 .0) (sym (looked c .newest .ensures) ∙ c .q .given .1)
+
+-- ---- the needs
+
 element-write-place : tie.Need-element-write-place
 element-write-place c = search needs
 
 element-write-place-2 : tie.Need-element-write-place-2
 element-write-place-2 c =
-    let a = c .before .before .before .before .before .before .args in
-    omega (arith, newest-before (a .place .now) (a .worker) (a .step .0) (a .low) (c .before .q .given .0 .0 .0) (pusher-at (newestMark (a .place .now) (a .worker) (a .low) (a .step .0)) (c .before .q .given .0 .0) (sym (c .before .before .before .newest .ensures) ∙ c .before .q .given .1)))
+    let at = c .before in
+    let a = start (looked at) .args in
+    omega (arith, newest-before (a .place .now) (a .worker) (a .step .0) (a .low) (at .q .given .0 .0 .0) (found at))
 
 enum-told : tie.Need-enum-told
 enum-told c = search needs
@@ -29,17 +51,18 @@ element-write-place-3 c = search needs
 
 returns : tie.Need-returns
 returns c =
-    let a = c .before .before .before .before .before .before .args in (
-      sym (c .before .q .given .1) ∙ c .before .before .before .newest .ensures,
-      popped-at (a .place .now) (a .worker) (a .low) (a .step .0) (c .before .q .given .0 .0 .0) (pusher-at (newestMark (a .place .now) (a .worker) (a .low) (a .step .0)) (c .before .q .given .0 .0) (sym (c .before .before .before .newest .ensures) ∙ c .before .q .given .1)),
+    let at = c .before in
+    let a = start (looked at) .args in (
+      sym (at .q .given .1) ∙ looked at .newest .ensures,
+      popped-at (a .place .now) (a .worker) (a .low) (a .step .0) (at .q .given .0 .0 .0) (found at),
     )
 
 returns-2 : tie.Need-returns-2
 returns-2 c =
-    let a = c .before .before .before .before .before .args in (
-      sym (c .enum-told .given .1) ∙ c .before .before .newest .ensures,
-      popped-nothing (a .place .now) (a .worker) (a .low) (a .step .0) (pusher-nothing (newestMark (a .place .now) (a .worker) (a .low) (a .step .0)) (sym (c .before .before .newest .ensures) ∙ c .enum-told .given .1)),
-    )
+    let at = c .before .before in
+    let a = start at .args in
+    let none-found = pusher-nothing (mark at) (sym (at .newest .ensures) ∙ c .enum-told .given .1) in
+    (sym (c .enum-told .given .1) ∙ at .newest .ensures, popped-nothing (a .place .now) (a .worker) (a .low) (a .step .0) none-found)
 
 pub pop-spec : {M : Type 1} → statement M
 pop-spec =

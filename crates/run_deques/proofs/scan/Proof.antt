@@ -1,5 +1,5 @@
--- `deques::scan` meets its contract: the loop holds what is found from where it stands down, and a law says what a turn does
--- to that. Assumes nothing.
+-- `run_deques::scan` meets its contract: it goes down from `end`, and no step that it has passed is marked with the worker, so
+-- the first that is marked is the highest. Assumes nothing.
 use Prim.Native.Nat.{_≤_}
 use mathlib.Core.Path.{_≡_, refl}
 use native.Mathlib.Omega.{arith}
@@ -36,7 +36,8 @@ loop-again : tie.Need-loop-again Inv-loop μ-loop
 loop-again c =
     let a = c .before .before .before .before .args in
     let loop = c .before .before .before .loop in
-    (omega (arith, loop .inv .0), newest-miss (a .place .now) (a .worker) (a .low) (a .end) (loop .j) (omega arith) (loop .inv .1) (c .if1 .left))
+    let missed = newest-miss (a .place .now) (a .worker) (a .low) (a .end) (loop .j) (omega arith) (loop .inv .1) (c .if1 .left) in
+    (omega (arith, loop .inv .0), missed)
 
 returns-2 : tie.Need-returns-2 Inv-loop μ-loop
 returns-2 c =

@@ -1,5 +1,8 @@
--- `deques::take` meets its contract: it stores to what `oldest` finds. Assumes nothing.
-use mathlib.Core.Path.{sym, _∙_}
+-- `run_deques::take` meets its contract: `oldest` finds the deque's lowest pusher, which stands before `end` and so in the
+-- array; its mark is taken away and nothing else changes. Assumes nothing.
+use Prim.Native.Nat.{ℕ}
+use mathlib.Core.Path.{_≡_, sym, _∙_}
+use mathlib.Core.Option.{Option, some}
 use native.Mathlib.Omega.{arith}
 use Rattle.run_spec.specs.Deques.{oldestMark}
 use Rattle.run_spec.specs.Laws.Marks.{pusher-at, pusher-nothing, oldest-before, robbed-at, robbed-nothing}
@@ -13,27 +16,47 @@ oldest-requires c κs = search needs
 enum-known-q : tie.Need-enum-known-q
 enum-known-q c = search needs
 
+-- ---- what is found
+
+abbrev start : tie.After-oldest → tie.Start
+start c = c .before .before
+
+abbrev mark : tie.After-oldest → Option ℕ
+mark c =
+    let a = start c .args in
+    oldestMark (a .place .now) (a .victim) (a .low) (a .end)
+
+abbrev looked : tie.After-q → tie.After-oldest
+looked c = c .before .before
+
+found : (c : tie.After-q) → mark (looked c) ≡ some (c .q .given .0 .0 .0)
+found c = pusher-at (mark (looked c)) (c .q .given .0 .0) (sym (looked c .oldest .ensures) ∙ c .q .given .1)
+
+-- ---- the needs
+
 element-write-place : tie.Need-element-write-place
 element-write-place c =
-    let a = c .before .before .before .before .before .args in
-    omega (arith, oldest-before (a .place .now) (a .victim) (a .low) (a .end) (c .before .q .given .0 .0 .0) (pusher-at (oldestMark (a .place .now) (a .victim) (a .low) (a .end)) (c .before .q .given .0 .0) (sym (c .before .before .before .oldest .ensures) ∙ c .before .q .given .1)))
+    let at = c .before in
+    let a = start (looked at) .args in
+    omega (arith, oldest-before (a .place .now) (a .victim) (a .low) (a .end) (at .q .given .0 .0 .0) (found at))
 
 enum-told : tie.Need-enum-told
 enum-told c = search needs
 
 returns : tie.Need-returns
 returns c =
-    let a = c .before .before .before .before .before .args in (
-      sym (c .before .q .given .1) ∙ c .before .before .before .oldest .ensures,
-      robbed-at (a .place .now) (a .victim) (a .low) (a .end) (c .before .q .given .0 .0 .0) (pusher-at (oldestMark (a .place .now) (a .victim) (a .low) (a .end)) (c .before .q .given .0 .0) (sym (c .before .before .before .oldest .ensures) ∙ c .before .q .given .1)),
+    let at = c .before in
+    let a = start (looked at) .args in (
+      sym (at .q .given .1) ∙ looked at .oldest .ensures,
+      robbed-at (a .place .now) (a .victim) (a .low) (a .end) (at .q .given .0 .0 .0) (found at),
     )
 
 returns-2 : tie.Need-returns-2
 returns-2 c =
-    let a = c .before .before .before .before .args in (
-      sym (c .enum-told .given .1) ∙ c .before .before .oldest .ensures,
-      robbed-nothing (a .place .now) (a .victim) (a .low) (a .end) (pusher-nothing (oldestMark (a .place .now) (a .victim) (a .low) (a .end)) (sym (c .before .before .oldest .ensures) ∙ c .enum-told .given .1)),
-    )
+    let at = c .before .before in
+    let a = start at .args in
+    let none-found = pusher-nothing (mark at) (sym (at .oldest .ensures) ∙ c .enum-told .given .1) in
+    (sym (c .enum-told .given .1) ∙ at .oldest .ensures, robbed-nothing (a .place .now) (a .victim) (a .low) (a .end) none-found)
 
 pub take-spec : {M : Type 1} → statement M
 take-spec =

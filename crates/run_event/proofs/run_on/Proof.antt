@@ -1,4 +1,5 @@
--- `moves::run_on` meets its contract: each return is a law of its answers. Assumes nothing.
+-- `run_event::run_on` meets its contract: a run that `judge_run` refuses stores nothing; any other is by one of the workers, of
+-- a step of the tree, so `advance` gives the step that it holds next and the places, and nothing else changes. Assumes nothing.
 use Prim.Native.Nat.{ℕ, _≤_, _<_}
 use mathlib.Core.Path.{sym, _∙_}
 use mathlib.Core.List.{List}
@@ -23,7 +24,7 @@ lent c base steals =
 abbrev start : tie.Else1 → tie.Start
 start c = c .before .before .before .before .before .before .before
 
--- It is by one of the workers, of a step that the tree has.
+-- It is by one of the workers, of a step of the tree.
 allowed : (c : tie.Else1) → let a = start c .args in
     (a .worker < 16) × (length (kinds (a .tree .now)) ≤ 4095) × (getD (a .held .now) (a .worker) 0 < length (kinds (a .tree .now)))
 allowed c =
@@ -38,7 +39,8 @@ judge-run-requires c κs =
 returns : tie.Need-returns
 returns c =
     let at = c .before .before .before .before .before .before .before in
-    λ base steals. run-refused (lent at base steals) (at .args .tree .now) (at .args .worker) _ (c .before .judge-run .ensures) (c .if1 .taken)
+    let judged = c .before .judge-run in
+    λ base steals. run-refused (lent at base steals) (at .args .tree .now) (at .args .worker) _ (judged .ensures) (c .if1 .taken)
 
 mul-wide : tie.Need-mul-wide
 mul-wide c = search needs

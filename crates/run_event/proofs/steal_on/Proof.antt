@@ -1,12 +1,15 @@
--- `moves::steal_on` meets its contract: each return is a law of its answers. Assumes nothing.
-use Prim.Native.Nat.{_≤_, _<_}
+-- `run_event::steal_on` meets its contract: a steal that `judge_steal` refuses stores nothing, and a steal from an empty deque
+-- leaves the places as they were; any other takes the deque's oldest step, tells its trace number and stores it for thief and
+-- victim. Assumes nothing.
+use Prim.Native.Nat.{ℕ, _≤_, _<_}
 use mathlib.Core.Path.{refl, sym, ap, _∙_}
+use mathlib.Core.List.{List}
 use lib.ListN.{length, getD}
 use Rattle.rules.specs.Tree.{kinds}
 use Rattle.run_spec.specs.declared.Taken.the-variants.{Of}
 use Rattle.run_spec.specs.Terms.{Small}
 use Rattle.run_spec.specs.Laws.Stealing.{steal-allowed}
-use Rattle.run_spec.specs.Moves.{Fields, fieldsOf, moveOf}
+use Rattle.run_spec.specs.Moves.{Fields, Move, fieldsOf, moveOf}
 use Rattle.run_spec.specs.Laws.Moves.{steal-refused, steal-empty, steal-takes}
 use Rattle.run_event.specs.declared.Moved.{Moved}
 use borrow.Author.Needs.{needs}
@@ -19,6 +22,12 @@ lent c =
     let a = c .args in
     fieldsOf (a .place .now) (a .held .now) (a .phase .now) (a .low .now) (a .base .now) (a .steals) (a .policy)
 
+-- What a steal tells that stores to the places alone.
+abbrev kept : tie.Start → List ℕ → Moved → Move
+kept c place m =
+    let a = c .args in
+    moveOf (m .outcome) (fieldsOf place (a .held .now) (a .phase .now) (a .low .now) (a .base .now) (m .steals) (a .policy))
+
 judge-steal-requires : tie.Need-judge-steal-requires
 judge-steal-requires c κs = search needs
 
@@ -29,8 +38,9 @@ returns : tie.Need-returns
 returns c =
     let judged = c .before .before in
     let at = judged .before .before .before .before in
-    ap (λ (m : Moved). moveOf (m .outcome) (fieldsOf (at .args .place .now) (at .args .held .now) (at .args .phase .now) (at .args .low .now) (at .args .base .now) (m .steals) (at .args .policy))) (c .refused .ensures)
-    ∙ steal-refused (lent at) (at .args .tree .now) (at .args .thief) (at .args .victim) _ (judged .judge-steal .ensures) (c .before .if1 .taken)
+    let a = at .args in
+    ap (kept at (a .place .now)) (c .refused .ensures)
+    ∙ steal-refused (lent at) (a .tree .now) (a .thief) (a .victim) _ (judged .judge-steal .ensures) (c .before .if1 .taken)
 
 -- ---- a steal that is not refused before the deque is looked at
 
@@ -68,12 +78,12 @@ take-step-requires c κs =
 abbrev looked : tie.After-take-step → tie.Else1
 looked c = c .before .before .before .before .before
 
-enum-known-pusher : tie.Need-enum-known-pusher
-enum-known-pusher c = c .match .keys1
+enum-known-stolen : tie.Need-enum-known-stolen
+enum-known-stolen c = c .match .keys1
 
 -- What is taken fits the tables.
-small : (c : tie.After-pusher) → let x = c .pusher .given .0 in Small (Of (x .0) (x .1 .0) (x .1 .1 .0))
-small c = rw (c .pusher .given .1) at (c .before .before .take-step .ensures .1 .1)
+small : (c : tie.After-stolen) → Small (Of (c .stolen .given .0 .0))
+small c = rw (c .stolen .given .1) at (c .before .before .take-step .ensures .1 .1)
 
 cast-begun : tie.Need-cast-begun
 cast-begun c = search needs
@@ -87,9 +97,8 @@ add-begun c = search needs
 settle-requires : tie.Need-settle-requires
 settle-requires c κs =
     let at = c .before .before .before .before .before in
-    let fits = small at in
     let few = allowed (looked (at .before .before)) in
-    (few .0, few .1, fits .0, fits .1, fits .2)
+    (few .0, few .1, small at)
 
 trace-number-requires : tie.Need-trace-number-requires
 trace-number-requires c κs = search needs
@@ -106,13 +115,15 @@ returns-2 c =
     let taken = found .before .before in
     let e = looked taken in
     let at = start e in
+    let a = at .args in
     let from = taken .before .before .before .wide in
-    let x = found .pusher .given .0 in
+    let took = taken .take-step in
+    let x = found .stolen .given .0 .0 in
     let number = c .trace-number in
     let settled = c .before .settle in
-    steal-takes (lent at) (at .args .tree .now) (at .args .thief) (at .args .victim) _ (e .before .judge-steal .ensures) (e .if1 .left)
-    (from .result) (from .ensures) (getD (at .args .base .now) (at .args .victim) 0) refl (taken .take-step .last .1 .1 .0) (taken .take-step .ensures .1 .0)
-    (taken .take-step .result) (taken .take-step .ensures .0) (x .0) (x .1 .0) (x .1 .1 .0) (found .pusher .given .1) (number .result) (number .ensures) _ refl
+    steal-takes (lent at) (a .tree .now) (a .thief) (a .victim) _ (e .before .judge-steal .ensures) (e .if1 .left)
+    (from .result) (from .ensures) (getD (a .base .now) (a .victim) 0) refl (took .last .1 .1 .0) (took .ensures .1 .0)
+    (took .result) (took .ensures .0) x (found .stolen .given .1) (number .result) (number .ensures) _ refl
     _ _ _ _ (settled .ensures .0) (settled .ensures .1 .0) (settled .ensures .1 .1 .0) (settled .ensures .1 .1 .1)
 
 returns-3 : tie.Need-returns-3
@@ -120,11 +131,13 @@ returns-3 c =
     let taken = c .before .before .before in
     let e = looked taken in
     let at = start e in
+    let a = at .args in
     let from = taken .before .before .before .wide in
-    ap (λ (m : Moved). moveOf (m .outcome) (fieldsOf (taken .take-step .last .1 .1 .0) (at .args .held .now) (at .args .phase .now) (at .args .low .now) (at .args .base .now) (m .steals) (at .args .policy))) (c .refused2 .ensures)
-    ∙ steal-empty (lent at) (at .args .tree .now) (at .args .thief) (at .args .victim) _ (e .before .judge-steal .ensures) (e .if1 .left)
-    (from .result) (from .ensures) (getD (at .args .base .now) (at .args .victim) 0) refl (taken .take-step .last .1 .1 .0) (taken .take-step .ensures .1 .0)
-    (taken .take-step .result) (taken .take-step .ensures .0) (c .before .enum-told .given .1)
+    let took = taken .take-step in
+    ap (kept at (took .last .1 .1 .0)) (c .refused2 .ensures)
+    ∙ steal-empty (lent at) (a .tree .now) (a .thief) (a .victim) _ (e .before .judge-steal .ensures) (e .if1 .left)
+    (from .result) (from .ensures) (getD (a .base .now) (a .victim) 0) refl (took .last .1 .1 .0) (took .ensures .1 .0)
+    (took .result) (took .ensures .0) (c .before .enum-told .given .1)
 
 pub steal-on-spec : {M : Type 1} → statement M
 steal-on-spec =
@@ -139,7 +152,7 @@ steal-on-spec =
     mul-take-step
     element-copy-out-take-step
     take-step-requires
-    enum-known-pusher
+    enum-known-stolen
     cast-begun
     rem-begun
     add-begun

@@ -1,4 +1,6 @@
--- What follows from the invariant, in document 01's words.
+-- What follows from the invariant, in document 01's words: no step runs twice, so n steps have at most n runs; there is at most a
+-- steal for each spawned task; a run is finished when no worker holds a step; each phase goes on in the order in which it would run
+-- alone, and its oldest pending step is its frontier's.
 use Prim.Native.Nat.{ℕ, suc, pred, _+_, _-_, _/_, _≤_, _<_}
 use mathlib.Core.Path.{_≡_, refl, sym, ap, _∙_}
 use mathlib.Core.Bool.{Bool, true, false, true≢false}
@@ -125,7 +127,8 @@ module _ (p : ℕ) (ks : List ℕ) (sh : Shape (length ks) (endAt ks) (sizeAt ks
 
 -- ---- the run
 
-module _ (p : ℕ) (ks : List ℕ) (some-step : 1 ≤ length ks) (sh : Shape (length ks) (endAt ks) (sizeAt ks)) (s : Run) (inv : Invariant p ks s) where
+module _ (p : ℕ) (ks : List ℕ) (some-step : 1 ≤ length ks) (sh : Shape (length ks) (endAt ks) (sizeAt ks))
+    (s : Run) (inv : Invariant p ks s) where
   chained : (w : ℕ) → Chained p ks (stack (workerAt s w .hand))
   chained w = by (holdsStep (workerAt s w)) refl
     where

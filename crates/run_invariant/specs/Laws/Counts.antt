@@ -1,4 +1,4 @@
--- Truth values, and tests and sums over lists.
+-- Truth values, intervals of numbers, members of lists, and sums over lists: what the laws of phases and runs count with.
 use Prim.Native.Nat.{ℕ, zero, suc, _+_, _≤_, _<_}
 use mathlib.Core.Path.{_≡_, refl, sym, ap}
 use mathlib.Core.Bool.{Bool, true, false, cond, _&&_, _||_, true≢false, or-false, or-assoc, or-true}

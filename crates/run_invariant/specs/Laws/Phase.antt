@@ -230,5 +230,6 @@ module _ (p : ℕ) (ks : List ℕ) (sh : Shape (length ks) (endAt ks) (sizeAt ks
       }
 
   pub phase-robbed : (ph : Phase) (log : List ℕ) (i : ℕ) (deque : List ℕ) → (length deque ≡ 0 → ⊥) → PhaseFacts p ks ph log (i ∷ deque)
-      → PhaseFacts p ks (record { worker = ph .worker; first = ph .first; stolen = ph .stolen ++ (oldest deque ∷ []) }) log (i ∷ dropLast deque)
+      → PhaseFacts p ks (record { worker = ph .worker; first = ph .first; stolen = ph .stolen ++ (oldest deque ∷ []) })
+      log (i ∷ dropLast deque)
   phase-robbed ph log i deque n f = robbed ph log i (dropLast deque) (oldest deque) (rw (oldest-last deque n) at f)

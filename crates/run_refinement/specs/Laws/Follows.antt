@@ -31,13 +31,15 @@ pub number-traced : (p : ℕ) (ks : List ℕ) (step : ℕ) → numberValue (numb
 unfolding numberBy traceNumber
 number-traced p ks step =
     elim (eqb p workFirst) as
-    (λ b. numberValue (cond b (ByOrdinal (record { 0 = ordinal ks step })) (BySerial (record { 0 = step }))) ≡ cond b (ordinal ks step) step)
+    (λ b. numberValue (cond b (ByOrdinal (record { 0 = ordinal ks step })) (BySerial (record { 0 = step })))
+    ≡ cond b (ordinal ks step) step)
     [ true ↦ refl | false ↦ refl ]
 
 module _ (p : ℕ) (tree : List ℕ) (frame : Frame tree) where
   -- From any state that shows a run on: both go on alike.
   along : (es : List (List ℕ)) (s : RunState) (r : Run) → Invariant p (kinds tree) r → Shows p (kinds tree) (fields s) r
-      → (outcomes tree s es ≡ toldAll p (kinds tree) r es) × Shows p (kinds tree) (fields (stateAfter tree s es)) (afterEvents p (kinds tree) r es)
+      → (outcomes tree s es ≡ toldAll p (kinds tree) r es)
+      × Shows p (kinds tree) (fields (stateAfter tree s es)) (afterEvents p (kinds tree) r es)
   unfolding outcomes toldAll stateAfter afterEvents eventAnswer
   along [] s r inv shows = (refl, shows)
   along (e ∷ es) s r inv shows =
@@ -53,7 +55,8 @@ follows p tree accepts es =
     let frame = accepted-frame tree (start-tree-accepts p tree accepts) in
     let inv = always p (kinds tree) (frame .some) (frame .shape) mostWorkers (omega arith) es in
     let both =
-    along p tree frame es (stateOf (fresh p)) (start mostWorkers) (start-invariant p (kinds tree) (frame .some) (frame .shape) mostWorkers (omega arith))
+    along p tree frame es (stateOf (fresh p)) (start mostWorkers)
+    (start-invariant p (kinds tree) (frame .some) (frame .shape) mostWorkers (omega arith))
     (start-shows p (kinds tree) (frame .some) (frame .most))
     in
     let after = fields (stateAfter tree (stateOf (fresh p)) es) in

@@ -234,7 +234,8 @@ module _ (p : ℕ) (ks : List ℕ) (sh : Shape (length ks) (endAt ks) (sizeAt ks
     (place : List ℕ) (places : length place ≡ 4095) where
   -- The worker that moves. It holds step i, which has not run.
   module _ (w held low base phase : ℕ) (worker : Worker) (few : w < 16)
-      (shown : HandShown p ks place w held low base phase worker) (i : ℕ) (holding : worker .hand .held ≡ some i) (unrun : getD place i 0 ≡ 17) where
+      (shown : HandShown p ks place w held low base phase worker) (i : ℕ)
+      (holding : worker .hand .held ≡ some i) (unrun : getD place i 0 ≡ 17) where
     shows : (held ≡ i) × Line ks low i (shown .pushers)
     shows = rw holding at (shown .holding)
 
@@ -463,7 +464,8 @@ module _ (p : ℕ) (ks : List ℕ) (sh : Shape (length ks) (endAt ks) (sizeAt ks
         pop-mark place w low i u j (marked place u j) (omega arith) (λ s. no-worker ∙ sym (unmarked i u j unrun l s))
         (λ t. no-worker ∙ sym (one-mark place w u j n t)) (λ m. refl)
 
-    pub rob-other : (u : ℕ) → u < 16 → (u ≡ w → ⊥) → (j : ℕ) → j < length ks → marked (robbed place w low (length ks)) u j ≡ marked place u j
+    pub rob-other : (u : ℕ) → u < 16 → (u ≡ w → ⊥) → (j : ℕ) → j < length ks
+        → marked (robbed place w low (length ks)) u j ≡ marked place u j
     rob-other u l n j b =
         rob-mark place w low (length ks) u j (marked place u j) (omega arith)
         (λ t. ne-eqb 16 u (λ e. omega arith) ∙ sym (one-mark place w u j n t)) refl

@@ -1,4 +1,5 @@
--- Hops over the children of a task: the ordinals on the way, and the children between.
+-- From step to step over the children of a task: each hop raises the ordinal by one and passes one child, so the children between two
+-- steps of a task are what their ordinals differ by.
 use Prim.Native.Nat.{ℕ, zero, suc, pred, _+_, _-_, _≤_, _<_}
 use mathlib.Core.Path.{_≡_, refl, ap, _∙_}
 use mathlib.Core.Bool.{true, false, cond}

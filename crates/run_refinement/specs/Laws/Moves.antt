@@ -1,4 +1,5 @@
--- An accepted run or steal: the next state shows the rules' next run.
+-- An accepted run or steal: the next state shows the rules' next run, since the worker that moves is shown by what is stored for it, and
+-- every other by what is left.
 use Prim.Native.Nat.{ℕ, suc, _≤_, _<_}
 use mathlib.Core.Path.{_≡_, refl, sym, ap, _∙_}
 use mathlib.Core.Bool.{Bool, true, false, not, or-false, or-true}
@@ -130,7 +131,8 @@ module _ {p : ℕ} {ks : List ℕ} {s : Fields} {r : Run} (known : Known p ks s 
     unfolding heldNext
     next-opened e = rw (e, shows .policy) refl
 
-    next-idle : isEnd (kindAt ks i) ≡ true → newestMark (s .place) w (getD (s .low) w 0) i ≡ none → heldNext (s .policy) ks (s .place) w (getD (s .low) w 0) i ≡ 65535
+    next-idle : isEnd (kindAt ks i) ≡ true → newestMark (s .place) w (getD (s .low) w 0) i ≡ none
+        → heldNext (s .policy) ks (s .place) w (getD (s .low) w 0) i ≡ 65535
     unfolding heldNext
     next-idle e found = rw (e, found) refl
 
@@ -140,8 +142,8 @@ module _ {p : ℕ} {ks : List ℕ} {s : Fields} {r : Run} (known : Known p ks s 
     next-newest e q found = rw (e, found, shows .policy) refl
 
     hand-after : isEnd (kindAt ks i) ≡ true → (deque : List ℕ) → workerAt r w .hand .deque ≡ deque
-        → HandShown p ks (popped (s .place) w (getD (s .low) w 0) i) w (heldNext (s .policy) ks (s .place) w (getD (s .low) w 0) i) (getD (s .low) w 0)
-        (getD (s .base) w 0) (getD (s .phase) w 0) next
+        → HandShown p ks (popped (s .place) w (getD (s .low) w 0) i) w (heldNext (s .policy) ks (s .place) w (getD (s .low) w 0) i)
+        (getD (s .low) w 0) (getD (s .base) w 0) (getD (s .phase) w 0) next
     unfolding next
     hand-after e [] d =
         let hand = shows .hands w few in

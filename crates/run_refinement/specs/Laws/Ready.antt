@@ -50,7 +50,9 @@ module _ (p : ℕ) (ks : List ℕ) (sh : Shape (length ks) (endAt ks) (sizeAt ks
         elim (decLe y q) [
           | yes s ↦ omega (arith, nested-end ks sh y q (omega arith) s (omega arith))
           | no n ↦ absurd (pushes-either (λ z. y ≡ z → ⊥) (below .0) (λ e. omega (arith, below .1))
-              (λ e. omega (arith, below .1, nested-end ks sh (suc (below .0)) q (omega (arith, below .1)) (omega (arith, below .1)) (omega arith)))
+              (λ e.
+              let inner = nested-end ks sh (suc (below .0)) q (omega (arith, below .1)) (omega (arith, below .1)) (omega arith) in
+              omega (arith, below .1, inner))
               (below .2))
         ]
 

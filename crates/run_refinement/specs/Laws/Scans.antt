@@ -1,4 +1,5 @@
--- What a scan of the places finds, from what is marked.
+-- What a scan of the places finds, from what is marked: the highest of the marked steps from above, the lowest from below, and whether all
+-- steps of a finish child have run.
 use Prim.Native.Nat.{ℕ, zero, suc, _+_, _-_, _≤_, _<_}
 use mathlib.Core.Path.{_≡_, refl, ap, _∙_}
 use mathlib.Core.Bool.{Bool, true, false, not, Bool·not-not}

@@ -1,5 +1,5 @@
--- Counting the children that a stretch of steps opens directly, as a loop does it: an invariant with named parts, and a law for its
--- start, for each turn and for its end, in the terms of the code.
+-- Counting the children that a stretch of steps opens directly, as a loop does it: what it has counted and what the steps
+-- ahead will add are together the children of the stretch, at its start, after each turn and at its end.
 use Prim.Native.Nat.{ℕ, suc, pred, _+_, _-_, _≤_, _<_}
 use mathlib.Core.Path.{_≡_, refl, ap, _∙_}
 use mathlib.Core.Bool.{cond}
@@ -41,7 +41,8 @@ module _ (ks : List ℕ) (from to : ℕ) where
   unfolding window childrenBetween
   counted-start = record { deep = omega arith; many = omega arith; few = omega arith; count = omega arith }
 
-  pub counted-done : (j depth children : ℕ) → Counted ks from to j depth children → to ≤ j → children ≡ childrenBetween ks from to
+  pub counted-done : (j depth children : ℕ) → Counted ks from to j depth children → to ≤ j
+      → children ≡ childrenBetween ks from to
   unfolding childrenIn
   counted-done j depth children c h =
       let none : childrenIn depth (window ks j to) ≡ 0 = ap (childrenIn depth) (window-end ks j to h) in

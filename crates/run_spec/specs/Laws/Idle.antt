@@ -72,7 +72,8 @@ module _ (held : List ℕ) where
 
   -- The turn for worker w - 1.
   module _ (w set : ℕ) (some-left : 0 < w) (built : Built w set) where
-    turn : (b : Bool) (next : ℕ) → isIdle (getD held (w - 1) 0) ≡ b → next ≡ cond b 1 0 + 2 * set → next < 2 ^ suc (16 - w) → Built (w - 1) next
+    turn : (b : Bool) (next : ℕ) → isIdle (getD held (w - 1) 0) ≡ b → next ≡ cond b 1 0 + 2 * set → next < 2 ^ suc (16 - w)
+        → Built (w - 1) next
     unfolding idleBits
     turn b next e f l =
         let more : 16 - (w - 1) ≡ suc (16 - w) = omega (arith, built .within) in

@@ -1,4 +1,5 @@
--- The scans over the array of places, turn by turn, in the terms of the code; and where what they find stands.
+-- The scans over the array of places and the climb over openers, turn by turn, in the terms of the code: a turn finds the mark
+-- or leaves what is to be found. Then where it stands, and what the stores leave.
 use Prim.Native.Nat.{ℕ, zero, suc, _+_, _-_, _≤_, _<_}
 use mathlib.Core.Path.{_≡_, refl, sym, ap, _∙_}
 use mathlib.Core.Bool.{Bool, true, false, cond}
@@ -51,7 +52,8 @@ module _ (place : List ℕ) (w : ℕ) where
   unfolding newestMark find
   newest-done low j h = rw (count-none low j h) refl
 
-  pub oldest-turn : (j end : ℕ) → j < end → oldestMark place w j end ≡ cond (marked place w j) (some j) (oldestMark place w (suc j) end)
+  pub oldest-turn : (j end : ℕ) → j < end
+      → oldestMark place w j end ≡ cond (marked place w j) (some j) (oldestMark place w (suc j) end)
   unfolding oldestMark find
   oldest-turn j end h = rw (count-low j end h) refl
 
@@ -77,7 +79,8 @@ module _ (place : List ℕ) (w low end j : ℕ) where
       let turn = rw back at (newest-turn place w low (j - 1) (omega arith)) in
       sym (turn ∙ rw (ne-eqb (getD place (j - 1) 0) w n) refl) ∙ same
 
-  pub newest-end : j ≤ low → newestMark place w low j ≡ newestMark place w low end → Nothing ≡ pusherOf (newestMark place w low end)
+  pub newest-end : j ≤ low → newestMark place w low j ≡ newestMark place w low end
+      → Nothing ≡ pusherOf (newestMark place w low end)
   unfolding pusherOf
   newest-end h same = rw (← same, newest-done place w low j h) refl
 
@@ -91,7 +94,8 @@ module _ (place : List ℕ) (w low end j : ℕ) where
   unfolding marked
   oldest-miss h same n = rw add-one (sym (oldest-turn place w j end h ∙ rw (ne-eqb (getD place j 0) w n) refl) ∙ same)
 
-  pub oldest-end : end ≤ j → oldestMark place w j end ≡ oldestMark place w low end → Nothing ≡ pusherOf (oldestMark place w low end)
+  pub oldest-end : end ≤ j → oldestMark place w j end ≡ oldestMark place w low end
+      → Nothing ≡ pusherOf (oldestMark place w low end)
   unfolding pusherOf
   oldest-end h same = rw (← same, oldest-done place w j end h) refl
 

@@ -1,4 +1,5 @@
--- Each return of a run, a steal and an event, in the terms of the code.
+-- A run, a steal and an event as the code makes them: from what its parts answer, by the laws of those parts, follows the whole
+-- move.
 use Prim.Native.Nat.{ℕ, _+_, _%_, _<_}
 use mathlib.Core.Path.{_≡_, refl, sym, _∙_}
 use mathlib.Core.List.{List, []}
@@ -7,9 +8,8 @@ use native.Mathlib.Omega.{arith}
 use lib.ListN.{length, getD, set}
 use borrow.Author.Tests.{eq-eqb, ne-eqb}
 use Rattle.rules.specs.Tree.{kinds}
-use Rattle.tree.specs.declared.Step.{Step}
-use Rattle.tree.specs.declared.Ordinal.{Ordinal}
 use Rattle.run_spec.specs.declared.TraceNumber.{TraceNumber}
+use Rattle.run_spec.specs.declared.Stolen.{Stolen}
 use Rattle.run_spec.specs.declared.Taken.{Taken}
 use Rattle.run_spec.specs.declared.Taken.the-variants.{Of, Nothing}
 use Rattle.run_spec.specs.declared.Outcome.the-variants.{Ran, Stole, Refused}
@@ -68,22 +68,24 @@ module _ (f : Fields) (tree : List ℕ) (t v number : ℕ) (judged : number ≡ 
       (place : List ℕ) (stored : place ≡ robbed (f .place) v low (length (kinds tree)))
       (r : Taken) (taken : r ≡ takenOf (f .policy) (kinds tree) base low (oldestMark (f .place) v low (length (kinds tree)))) where
     pub steal-empty : r ≡ Nothing
-        → moveOf (Refused 12) (fieldsOf place (f .held) (f .phase) (f .low) (f .base) (f .steals) (f .policy)) ≡ stealMove f tree t v
+        → moveOf (Refused 12) (fieldsOf place (f .held) (f .phase) (f .low) (f .base) (f .steals) (f .policy))
+        ≡ stealMove f tree t v
     unfolding stealMove refused
     steal-empty e =
         let n = length (kinds tree) in
         let found = took-nothing (f .policy) (kinds tree) base low (oldestMark (f .place) v low n) (sym taken ∙ e) in
         rw (stored, ← robbed-nothing (f .place) v low n found, ← judged, eq-eqb number 0 none-refused, ← from, stealMove, found) refl
 
-    pub steal-takes : (q step : Step) (ordinal : Ordinal) → r ≡ Of q step ordinal
-        → (told : TraceNumber) → told ≡ numberBy (f .policy) (ordinal .0) (step .0) → (begun : ℕ) → begun ≡ f .steals % 2048 + 1
-        → (held phase lows bases : List ℕ) → held ≡ set (f .held) t (step .0) → phase ≡ set (f .phase) t begun
-        → lows ≡ set (set (f .low) v (q .0 + 1)) t (step .0) → bases ≡ set (set (f .base) v 0) t (ordinal .0)
+    pub steal-takes : (x : Stolen) → r ≡ Of x
+        → (told : TraceNumber) → told ≡ numberBy (f .policy) (x .ordinal .0) (x .step .0)
+        → (begun : ℕ) → begun ≡ f .steals % 2048 + 1
+        → (held phase lows bases : List ℕ) → held ≡ set (f .held) t (x .step .0) → phase ≡ set (f .phase) t begun
+        → lows ≡ set (set (f .low) v (x .pusher .0 + 1)) t (x .step .0) → bases ≡ set (set (f .base) v 0) t (x .ordinal .0)
         → moveOf (Stole told) (fieldsOf place held phase lows bases begun (f .policy)) ≡ stealMove f tree t v
     unfolding stealMove robbedFields nextPhase takenOrdinal
-    steal-takes q step ordinal e told g begun h held phase lows bases h₀ h₁ h₂ h₃ =
+    steal-takes x e told g begun h held phase lows bases h₀ h₁ h₂ h₃ =
         let n = length (kinds tree) in
-        let took = took-step (f .policy) (kinds tree) base low (oldestMark (f .place) v low n) q step ordinal (sym taken ∙ e) in
+        let took = took-step (f .policy) (kinds tree) base low (oldestMark (f .place) v low n) x (sym taken ∙ e) in
         let found = rw from at (took .0) in
         rw (
           h₀,
@@ -97,7 +99,7 @@ module _ (f : Fields) (tree : List ℕ) (t v number : ℕ) (judged : number ≡ 
           took .1,
           based,
           from,
-          add-one (q .0),
+          add-one (x .pusher .0),
           ← judged,
           eq-eqb number 0 none-refused,
           stealMove,

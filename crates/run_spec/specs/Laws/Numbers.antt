@@ -1,4 +1,4 @@
--- Trace numbers and ordinals, in the terms of the code: one law for each return.
+-- Trace numbers and ordinals by the policy, in the terms of the code.
 use Prim.Native.Nat.{ℕ, _+_, _%_}
 use mathlib.Core.Path.{_≡_, refl}
 use mathlib.Core.List.{List}
@@ -21,7 +21,8 @@ number-serial p o step n = rw (numberBy, ne-eqb p 1 n) refl
 -- ---- ordinals
 
 module _ (p : ℕ) (ks : List ℕ) (base from q : ℕ) where
-  pub ordinal-counted : p ≡ 1 → (children : ℕ) → children ≡ childrenBetween ks from q → base % 4096 + children + 1 ≡ ordinalFrom p ks base from q
+  pub ordinal-counted : p ≡ 1 → (children : ℕ) → children ≡ childrenBetween ks from q
+      → base % 4096 + children + 1 ≡ ordinalFrom p ks base from q
   unfolding ordinalFrom
   ordinal-counted e children f = rw (eq-eqb p 1 e, f) refl
 

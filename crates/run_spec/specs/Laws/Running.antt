@@ -1,4 +1,5 @@
--- The refusals of a run and what a run leaves, in the terms of the code: one law for each return.
+-- A run by cases, in the terms of the code: its refusals in the order in which they are judged, what it needs where it is not
+-- refused, and what it leaves, by the kind of its step.
 use Prim.Native.Nat.{ℕ, _≤_, _<_}
 use mathlib.Core.Path.{_≡_, refl}
 use mathlib.Core.Bool.{true, false}
@@ -11,7 +12,7 @@ use borrow.Author.Tests.{ne-eqb, lt-ltb, le-ltb, le-leb, lt-leb}
 use Rattle.rules.specs.Tree.{kindAt, isEnd}
 use Rattle.rules.specs.Scheduling.{holds, pushes}
 use Rattle.run_spec.specs.Deques.{newestMark, popped}
-use Rattle.run_spec.specs.Running.{waitsFor, runNumber, heldNext, placeNext}
+use Rattle.run_spec.specs.Running.{noStep, waitsFor, runNumber, heldNext, placeNext}
 
 -- ---- refusals
 
@@ -40,7 +41,7 @@ module _ (ks place held : List ℕ) (w : ℕ) where
       judged-runs within h =
           rw (lt-leb 16 w few, le-ltb 4095 (length ks) most, ← holding, lt-leb (length ks) i within, h) refl
 
-  -- A run that is not refused is by one of the workers, of a step that the tree has.
+  -- A run that is not refused is by one of the workers, of a step of the tree.
   pub run-allowed : 0 ≡ runNumber ks place held w → (w < 16) × (length ks ≤ 4095) × (getD held w 0 < length ks)
   run-allowed none-refused =
       elim (decLt w 16) [
@@ -69,13 +70,16 @@ module _ (p : ℕ) (ks place : List ℕ) (w low i : ℕ) where
 
   -- or ends one, over a deque with a newest step or an empty one.
   module _ (end : kindAt ks i ≡ 3) where
-    pub next-pops : (q : ℕ) → newestMark place w low i ≡ some q → (next : ℕ) → next ≡ pushes p ks q → next ≡ heldNext p ks place w low i
+    next-newest : heldNext p ks place w low i ≡ elim (newestMark place w low i) [ none ↦ noStep | some q ↦ pushes p ks q ]
     unfolding isEnd heldNext
-    next-pops q found next e = rw (end, heldNext, found) e
+    next-newest = rw end refl
+
+    pub next-pops : (q : ℕ) → newestMark place w low i ≡ some q → (next : ℕ) → next ≡ pushes p ks q
+        → next ≡ heldNext p ks place w low i
+    next-pops q found next e = rw (next-newest, found) e
 
     pub next-ends : newestMark place w low i ≡ none → 65535 ≡ heldNext p ks place w low i
-    unfolding isEnd heldNext
-    next-ends found = rw (end, heldNext, found) refl
+    next-ends found = rw (next-newest, found) refl
 
     pub place-ends : (after : List ℕ) → after ≡ popped place w low i → after ≡ placeNext ks place w low i
     unfolding isEnd placeNext

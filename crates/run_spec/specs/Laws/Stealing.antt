@@ -1,18 +1,19 @@
--- The refusals of a steal and what it takes, in the terms of the code: one law for each return.
+-- A steal by cases, in the terms of the code: its refusals in the order in which they are judged, what it needs where it is not
+-- refused, and what it takes, by what is found in the deque.
 use Prim.Native.Nat.{ℕ, _≤_, _<_}
-use mathlib.Core.Path.{_≡_, refl}
-use mathlib.Core.Bool.{or-true}
+use mathlib.Core.Path.{_≡_, refl, sym, ap, _∙_}
+use mathlib.Core.Bool.{cond, or-true}
 use mathlib.Core.List.{List}
 use mathlib.Core.Option.{Option, none, some}
 use native.Mathlib.Decide.{decLe, decLt}
 use native.Mathlib.Omega.{arith}
 use lib.ListN.{length, getD}
-use lib.Dec.{leb}
+use lib.Dec.{leb, ltb}
 use borrow.Author.Tests.{lt-ltb, le-ltb, le-leb, lt-leb}
 use Rattle.rules.specs.Scheduling.{pushes}
-use Rattle.tree.specs.declared.Step.{Step}
-use Rattle.tree.specs.declared.Ordinal.{Ordinal}
 use Rattle.run_spec.specs.Numbers.{ordinalFrom}
+use Rattle.run_spec.specs.declared.Stolen.{Stolen}
+use Rattle.run_spec.specs.declared.Taken.{Taken}
 use Rattle.run_spec.specs.declared.Taken.the-variants.{Of, Nothing}
 use Rattle.run_spec.specs.Stealing.{stealNumber, takenOf}
 
@@ -33,15 +34,16 @@ module _ (ks held : List ℕ) (t v : ℕ) where
     judged-long h = rw (lt-leb 16 t few, lt-leb 16 v fewer, lt-ltb 4095 (length ks) h) refl
 
     module _ (most : length ks ≤ 4095) (i : ℕ) (holding : i ≡ getD held t 0) where
-      pub judged-busy : i < length ks → 11 ≡ stealNumber ks held t v
+      -- What is left is whether the thief holds a step of the tree.
+      thief-asked : stealNumber ks held t v ≡ cond (ltb (getD held t 0) (length ks)) 11 0
       unfolding stealNumber
-      judged-busy h =
-          rw (lt-leb 16 t few, lt-leb 16 v fewer, le-ltb 4095 (length ks) most, ← holding, lt-ltb i (length ks) h) refl
+      thief-asked = rw (lt-leb 16 t few, lt-leb 16 v fewer, le-ltb 4095 (length ks) most) refl
+
+      pub judged-busy : i < length ks → 11 ≡ stealNumber ks held t v
+      judged-busy h = rw (thief-asked, ← holding, lt-ltb i (length ks) h) refl
 
       pub judged-idle : length ks ≤ i → 0 ≡ stealNumber ks held t v
-      unfolding stealNumber
-      judged-idle h =
-          rw (lt-leb 16 t few, lt-leb 16 v fewer, le-ltb 4095 (length ks) most, ← holding, le-ltb i (length ks) h) refl
+      judged-idle h = rw (thief-asked, ← holding, le-ltb i (length ks) h) refl
 
   -- A steal that is not refused is between two of the workers, in a tree that is not too long.
   pub steal-allowed : 0 ≡ stealNumber ks held t v → (t < 16) × (v < 16) × (length ks ≤ 4095)
@@ -59,24 +61,34 @@ module _ (ks held : List ℕ) (t v : ℕ) where
 
 -- ---- what is taken
 
+-- A step that is taken, and x where none is.
+stolen-by : Stolen → Taken → Stolen
+stolen-by x (Of y) = y
+stolen-by x Nothing = x
+
 module _ (p : ℕ) (ks : List ℕ) (base from : ℕ) where
   pub takes-nothing : (o : Option ℕ) → o ≡ none → Nothing ≡ takenOf p ks base from o
   unfolding takenOf
   takes-nothing o e = rw e refl
 
-  pub takes-step : (o : Option ℕ) (q : Step) → o ≡ some (q .0) → (step : Step) → step .0 ≡ pushes p ks (q .0)
-      → (ordinal : Ordinal) → ordinal .0 ≡ ordinalFrom p ks base from (q .0) → Of q step ordinal ≡ takenOf p ks base from o
+  pub takes-step : (o : Option ℕ) (x : Stolen) → o ≡ some (x .pusher .0) → x .step .0 ≡ pushes p ks (x .pusher .0)
+      → x .ordinal .0 ≡ ordinalFrom p ks base from (x .pusher .0) → Of x ≡ takenOf p ks base from o
   unfolding takenOf
-  takes-step o q e step f ordinal g = rw (e, ← f, ← g) refl
+  takes-step o x e f g = rw (e, ← f, ← g) refl
 
-  -- And what was found, by what was taken.
+  -- What was found in the deque, by what was taken.
   pub took-nothing : (o : Option ℕ) → takenOf p ks base from o ≡ Nothing → o ≡ none
   unfolding takenOf
   took-nothing none e = refl
   took-nothing (some q) e = let z : _≡_ {A = ℕ} 0 1 = cc in absurd (omega arith)
 
-  pub took-step : (o : Option ℕ) (q step : Step) (ordinal : Ordinal) → takenOf p ks base from o ≡ Of q step ordinal
-      → (o ≡ some (q .0)) × (step .0 ≡ pushes p ks (q .0)) × (ordinal .0 ≡ ordinalFrom p ks base from (q .0))
-  unfolding takenOf
-  took-step none q step ordinal e = let z : _≡_ {A = ℕ} 0 1 = cc in absurd (omega arith)
-  took-step (some x) q step ordinal e = (cc, cc, cc)
+  pub took-step : (o : Option ℕ) (x : Stolen) → takenOf p ks base from o ≡ Of x
+      → (o ≡ some (x .pusher .0)) × (x .step .0 ≡ pushes p ks (x .pusher .0)) × (x .ordinal .0 ≡ ordinalFrom p ks base from (x .pusher .0))
+  unfolding takenOf stolen-by
+  took-step none x e = let z : _≡_ {A = ℕ} 0 1 = cc in absurd (omega arith)
+  took-step (some q) x e =
+      let same = ap (stolen-by x) e in
+      let pusher : q ≡ x .pusher .0 = ap (λ (s : Stolen). s .pusher .0) same in
+      let step : pushes p ks q ≡ x .step .0 = ap (λ (s : Stolen). s .step .0) same in
+      let ordinal : ordinalFrom p ks base from q ≡ x .ordinal .0 = ap (λ (s : Stolen). s .ordinal .0) same in
+      (ap some pusher, sym step ∙ ap (pushes p ks) pusher, sym ordinal ∙ ap (ordinalFrom p ks base from) pusher)

@@ -20,6 +20,7 @@ use Rattle.run_spec.specs.Laws.Marks.{count-low, count-none}
 use Rattle.run_spec.specs.Running.{allRun, waitsFor}
 use Rattle.run_spec.specs.Terms.{WaitsAtLow}
 
+-- The steps from j on have all run where step j has and all behind it have.
 run-turn : (place : List ℕ) (j end : ℕ) → j < end
     → allRun place j end ≡ not (eqb (getD place j 0) 17) && allRun place (suc j) end
 unfolding allRun all
@@ -79,7 +80,8 @@ found-same none = refl
 found-same (some first) = refl
 
 module _ (ks place : List ℕ) (i : ℕ) where
-  pub waits-found : (first : Step) → childOf (finishBefore ks i) ≡ From first → not (allRun place (first .0) i) ≡ waitsFor ks place i
+  pub waits-found : (first : Step) → childOf (finishBefore ks i) ≡ From first
+      → not (allRun place (first .0) i) ≡ waitsFor ks place i
   unfolding found-by waitsFor
   waits-found first e =
       let found : finishBefore ks i ≡ some (first .0) = sym (found-same (finishBefore ks i)) ∙ ap found-by e in

@@ -1,4 +1,5 @@
--- Each answer of each call, in the terms of the code: one law for each return.
+-- The calls by cases, in the terms of the code: an event's answer from the move that it lent its fields to, the idle workers
+-- from the bits of their set, the start from the verdict on its arguments.
 use Prim.Native.Nat.{ℕ}
 use mathlib.Core.Path.{_≡_, refl, sym, ap, _∙_}
 use mathlib.Core.List.{List}

@@ -3,8 +3,8 @@ use borrow.Author.Needs.{needs}
 use Rattle.record_walk.proofs.output.trace_steal.Statement.{statement}
 use Rattle.record_walk.proofs.output.trace_steal.Tie as tie
 
-number-of-requires : tie.Need-number-of-requires
-number-of-requires c κs = search needs
+encode-number-requires : tie.Need-encode-number-requires
+encode-number-requires c κs = search needs
 
 put-record-requires : tie.Need-put-record-requires
 put-record-requires c κs = search needs
@@ -18,13 +18,13 @@ same-length c = search needs
 returns : tie.Need-returns
 returns c =
     let put = c .before .before .before .before in
-    (rw (← put .before .number-of .ensures) (put .put-record .ensures), c .move-part .ensures)
+    (rw (← put .before .encode-number .ensures) (put .put-record .ensures), c .move-part .ensures)
 
 pub trace-steal-spec : {M : Type 1} → statement M
 trace-steal-spec =
     tie.close
     (tie.spec
-    number-of-requires
+    encode-number-requires
     put-record-requires
     move-part-requires
     same-length

@@ -1,5 +1,5 @@
--- `numbers::children_between` meets its contract: the loop counts over the stretch of steps, and a law says what each turn does to
--- the count. Assumes nothing.
+-- `run_event::number::children_between` meets its contract: it keeps how many children are open and counts a step that opens
+-- one while none is open, so those inside other children are passed over. Assumes nothing.
 use Prim.Native.Nat.{_-_}
 use mathlib.Core.Path.{sym, _∙_}
 use native.Mathlib.Omega.{arith}
@@ -84,7 +84,8 @@ returns : tie.Need-returns Inv-loop μ-loop
 returns c =
     let a = c .before .before .args in
     let loop = c .before .loop in
-    (counted-done (kinds (a .tree .now)) (a .from) (a .to) (loop .j) (loop .depth) (loop .children) (loop .inv) (omega arith), loop .inv .few)
+    let ks = kinds (a .tree .now) in
+    (counted-done ks (a .from) (a .to) (loop .j) (loop .depth) (loop .children) (loop .inv) (omega arith), loop .inv .few)
 
 pub children-between-spec : {M : Type 1} → statement M
 children-between-spec =

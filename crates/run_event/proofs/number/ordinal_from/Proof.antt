@@ -1,4 +1,6 @@
--- `numbers::ordinal_from` meets its contract: it counts the children between, work-first only. Assumes nothing.
+-- `run_event::number::ordinal_from` meets its contract: each child that the task opens raises the ordinal by one, so the
+-- children between and the pusher's own are added to the earlier step's ordinal; and a tree has too few steps for the sum to
+-- pass sixteen bits. Assumes nothing.
 use mathlib.Core.Path.{ap, _∙_}
 use Prim.Native.Nat.{ℕ, _+_, _%_}
 use native.Mathlib.Omega.{arith}
@@ -26,7 +28,8 @@ returns c =
     let a = c .before .before .before .before .args in
     let children = c .children-between in (
       ap (λ (x : ℕ). x % 4096 + children .result + 1) (c .before .wide .ensures)
-          ∙ ordinal-counted (a .policy) (kinds (a .tree .now)) (a .base) (a .from) (a .pusher) (c .before .before .if1 .taken) (children .result) (children .ensures .0),
+          ∙ ordinal-counted (a .policy) (kinds (a .tree .now)) (a .base) (a .from) (a .pusher) (c .before .before .if1 .taken)
+          (children .result) (children .ensures .0),
       omega (arith, children .ensures .1),
     )
 

@@ -1,4 +1,5 @@
--- `numbers::trace_number` meets its contract: an ordinal under work-first, else the serial number. Assumes nothing.
+-- `run_event::number::trace_number` meets its contract: a trace names a stolen step by its ordinal under work-first, and by its
+-- serial number under every other policy. Assumes nothing.
 use Rattle.run_spec.specs.Laws.Numbers.{number-ordinal, number-serial}
 use Rattle.run_event.proofs.number.trace_number.Statement.{statement}
 use Rattle.run_event.proofs.number.trace_number.Tie as tie

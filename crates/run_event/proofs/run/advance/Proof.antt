@@ -1,7 +1,9 @@
--- `running::advance` meets its contract: a step that opens is stored to, and what `pop` finds at an end stands before it. Assumes nothing.
-use Prim.Native.Nat.{_<_}
+-- `run_event::run::advance` meets its contract: a step that opens a task marks itself with its worker, and holds and pushes by
+-- the policy; a step that ends one pops, and the pusher that is found stands before it in the tree, so what it pushed is known.
+-- Assumes nothing.
+use Prim.Native.Nat.{ℕ, _<_}
 use mathlib.Core.Path.{_≡_, sym, _∙_}
-use mathlib.Core.Option.{some}
+use mathlib.Core.Option.{Option, some}
 use native.Mathlib.Omega.{arith}
 use lib.ListN.{length}
 use Rattle.rules.specs.Tree.{kinds, kindAt}
@@ -13,21 +15,37 @@ use borrow.Author.Needs.{needs}
 use Rattle.run_event.proofs.run.advance.Statement.{statement}
 use Rattle.run_event.proofs.run.advance.Tie as tie
 
--- The step ends a task,
-ends : (c : tie.Else1) → let a = c .before .before .before .before .before .args in kindAt (kinds (a .tree .now)) (a .step .0) ≡ 3
+abbrev start : tie.After-kind → tie.Start
+start c = c .before .before .before .before
+
+-- ---- the step ends a task
+
+abbrev popping : tie.After-pop → tie.Else1
+popping c = c .before .before
+
+ends : (c : tie.Else1) → let a = start (c .before) .args in kindAt (kinds (a .tree .now)) (a .step .0) ≡ 3
 ends c = sym (c .before .kind .ensures) ∙ c .if1 .left
 
--- and the step that is found stands before it.
-found : (c : tie.After-q) → let a = c .before .before .before .before .before .before .before .before .before .args in newestMark (a .place .now) (a .worker) (a .low) (a .step .0) ≡ some (c .q .given .0 .0 .0)
-found c =
-    let a = c .before .before .before .before .before .before .before .before .before .args in
-    found-at (newestMark (a .place .now) (a .worker) (a .low) (a .step .0)) (c .before .before .pop .result) (c .before .before .pop .ensures .0) (c .q .given .0 .0) (c .q .given .1)
+-- The pusher that is found stands before it.
+abbrev asked : tie.After-q → tie.Start
+asked c = start (popping (c .before .before) .before)
 
-before : (c : tie.After-q) → c .q .given .0 .0 .0 < length (kinds (c .before .before .before .before .before .before .before .before .before .args .tree .now))
+abbrev newest : tie.Start → Option ℕ
+newest c =
+    let a = c .args in
+    newestMark (a .place .now) (a .worker) (a .low) (a .step .0)
+
+found : (c : tie.After-q) → newest (asked c) ≡ some (c .q .given .0 .0 .0)
+found c =
+    let pop = c .before .before .pop in
+    found-at (newest (asked c)) (pop .result) (pop .ensures .0) (c .q .given .0 .0) (c .q .given .1)
+
+before : (c : tie.After-q) → c .q .given .0 .0 .0 < length (kinds (asked c .args .tree .now))
 before c =
-    let start = c .before .before .before .before .before .before .before .before .before in
-    let a = start .args in
-    omega (arith, start .pre .0, newest-before (a .place .now) (a .worker) (a .step .0) (a .low) (c .q .given .0 .0 .0) (found c))
+    let a = asked c .args in
+    omega (arith, asked c .pre .0, newest-before (a .place .now) (a .worker) (a .step .0) (a .low) (c .q .given .0 .0 .0) (found c))
+
+-- ---- the needs
 
 kind-requires : tie.Need-kind-requires
 kind-requires c κs = search needs
@@ -35,22 +53,26 @@ kind-requires c κs = search needs
 held-after-requires : tie.Need-held-after-requires
 held-after-requires c κs = search needs
 
-element-write-place : tie.Need-element-write-place
-element-write-place c = search needs
+push-requires : tie.Need-push-requires
+push-requires c κs = search needs
 
 cast-result : tie.Need-cast-result
 cast-result c =
-    let start = c .before .before .before .before .before .before .before in
-    let a = start .args in
-    omega (arith, c .before .held-after .ensures, start .pre .1, holds-most (a .policy) (kinds (a .tree .now)) (a .step .0) (start .pre .0))
+    let held = c .before .before .before in
+    let at = start (held .before .before) in
+    let a = at .args in
+    omega (arith, held .held-after .ensures, at .pre .1, holds-most (a .policy) (kinds (a .tree .now)) (a .step .0) (at .pre .0))
 
 returns : tie.Need-returns
 returns c =
-    let a = c .before .before .before .before .before .before .before .args in
+    let held = c .before .before .before in
+    let opening = held .before in
+    let a = start (opening .before) .args in
     let ks = kinds (a .tree .now) in
-    let opens : kindAt ks (a .step .0) ≡ 3 → ⊥ = λ e. c .before .before .if1 .taken (c .before .before .before .kind .ensures ∙ e) in (
-      next-opens (a .policy) ks (a .place .now) (a .worker) (a .low) (a .step .0) opens (c .before .held-after .result .0) (c .before .held-after .ensures),
-      place-opens (a .policy) ks (a .place .now) (a .worker) (a .low) (a .step .0) opens,
+    let opens : kindAt ks (a .step .0) ≡ 3 → ⊥ = λ e. opening .if1 .taken (opening .before .kind .ensures ∙ e) in (
+      next-opens (a .policy) ks (a .place .now) (a .worker) (a .low) (a .step .0) opens
+          (held .held-after .result .0) (held .held-after .ensures),
+      c .before .push .ensures ∙ place-opens (a .policy) ks (a .place .now) (a .worker) (a .low) (a .step .0) opens,
     )
 
 pop-requires : tie.Need-pop-requires
@@ -60,37 +82,40 @@ enum-known-q : tie.Need-enum-known-q
 enum-known-q c = search needs
 
 pushed-by-requires : tie.Need-pushed-by-requires
-pushed-by-requires c κs = (before (c .before), c .before .before .before .before .before .before .before .before .before .before .pre .2)
+pushed-by-requires c κs = (before (c .before), asked (c .before) .pre .2)
 
 cast-result-2 : tie.Need-cast-result-2
 cast-result-2 c =
-    let start = c .before .before .before .before .before .before .before .before .before .before .before .before in
-    let a = start .args in
     let q = c .before .before .before in
-    omega (arith, c .before .pushed-by .ensures, start .pre .1, pushes-most (a .policy) (kinds (a .tree .now)) (q .q .given .0 .0 .0) (before q))
+    let at = asked q in
+    let ks = kinds (at .args .tree .now) in
+    omega (arith, c .before .pushed-by .ensures, at .pre .1, pushes-most (at .args .policy) ks (q .q .given .0 .0 .0) (before q))
 
 enum-told : tie.Need-enum-told
 enum-told c = search needs
 
 returns-2 : tie.Need-returns-2
 returns-2 c =
-    let a = c .before .before .before .before .before .before .before .before .before .before .before .before .args in
-    let ks = kinds (a .tree .now) in
     let q = c .before .before .before in
+    let a = asked q .args in
+    let ks = kinds (a .tree .now) in
     let popped = q .before .before .pop in
-    let end = ends (q .before .before .before .before) in (
-      next-pops (a .policy) ks (a .place .now) (a .worker) (a .low) (a .step .0) end (q .q .given .0 .0 .0) (found q) (c .before .pushed-by .result .0) (c .before .pushed-by .ensures),
+    let pushed = c .before .pushed-by in
+    let end = ends (popping (q .before .before)) in (
+      next-pops (a .policy) ks (a .place .now) (a .worker) (a .low) (a .step .0) end (q .q .given .0 .0 .0) (found q)
+          (pushed .result .0) (pushed .ensures),
       place-ends (a .policy) ks (a .place .now) (a .worker) (a .low) (a .step .0) end (popped .last .1 .0) (popped .ensures .1),
     )
 
 returns-3 : tie.Need-returns-3
 returns-3 c =
-    let a = c .before .before .before .before .before .before .before .before .before .args in
+    let e = popping (c .before .before) in
+    let a = start (e .before) .args in
     let ks = kinds (a .tree .now) in
     let popped = c .before .before .pop in
-    let end = ends (c .before .before .before .before) in (
-      next-ends (a .policy) ks (a .place .now) (a .worker) (a .low) (a .step .0) end (found-nothing (newestMark (a .place .now) (a .worker) (a .low) (a .step .0)) (popped .result) (popped .ensures .0) (c .enum-told .given .1)),
-      place-ends (a .policy) ks (a .place .now) (a .worker) (a .low) (a .step .0) end (popped .last .1 .0) (popped .ensures .1),
+    let none-found = found-nothing (newest (start (e .before))) (popped .result) (popped .ensures .0) (c .enum-told .given .1) in (
+      next-ends (a .policy) ks (a .place .now) (a .worker) (a .low) (a .step .0) (ends e) none-found,
+      place-ends (a .policy) ks (a .place .now) (a .worker) (a .low) (a .step .0) (ends e) (popped .last .1 .0) (popped .ensures .1),
     )
 
 pub advance-spec : {M : Type 1} → statement M
@@ -99,7 +124,7 @@ advance-spec =
     (tie.spec
     kind-requires
     held-after-requires
-    element-write-place
+    push-requires
     cast-result
     returns
     pop-requires

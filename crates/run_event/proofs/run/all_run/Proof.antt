@@ -1,5 +1,5 @@
--- `running::all_run` meets its contract: the loop counts the steps that have not run, and a law says what a turn does to the count.
--- Assumes nothing.
+-- `run_event::run::all_run` meets its contract: it counts the steps that have not run, and all have run where the count is 0.
+-- There are fewer steps than the count has room for. Assumes nothing.
 use Prim.Native.Nat.{_-_}
 use native.Mathlib.Omega.{arith}
 use Rattle.run_spec.specs.Laws.Waiting.{Counted, counted-start, counted-unrun, counted-run, counted-done}

@@ -1,4 +1,6 @@
--- `running::judge_run` meets its contract: each return is a law of the refusals. Assumes nothing.
+-- `run_event::run::judge_run` meets its contract: it asks in the order in which the definition lists the refusals, so the first
+-- that applies is given. A held step that is not asked whether it waits stands in the table of openers and not at `low`, and
+-- such a step does not wait. Assumes nothing.
 use Prim.Native.Nat.{ℕ, _≤_, _<_}
 use mathlib.Core.Path.{_≡_, sym, subst, _∙_}
 use mathlib.Core.Bool.{false}
@@ -8,14 +10,22 @@ use Rattle.run_spec.specs.Running.{waitsFor, runNumber}
 use Rattle.run_spec.specs.Laws.Waiting.{waits-at-low}
 use Rattle.run_spec.specs.Laws.Running.{judged-worker, judged-long, judged-idle, judged-waits, judged-runs}
 use borrow.Author.Needs.{needs}
-use borrow.Author.Tests.{not-true}
+use borrow.Author.Tests.{leb-true, leb-false, not-true}
 use Rattle.run_event.proofs.run.judge_run.Statement.{statement}
 use Rattle.run_event.proofs.run.judge_run.Tie as tie
+
+-- ---- a worker that the run has
+
+abbrev named : tie.Else1 → tie.Start
+named c = c .before .before .before .before
+
+few : (c : tie.Else1) → named c .args .worker < 16
+few c = leb-false 16 _ (sym (c .before .no-worker .ensures) ∙ c .if1 .left)
 
 -- ---- a step that the worker holds
 
 abbrev start : tie.Else2 → tie.Start
-start c = c .before .before .before .before .before
+start c = named (c .before .before)
 
 -- The tree is not too long, and has the step.
 most : (c : tie.Else2) → length (kinds (start c .args .tree .now)) ≤ 4095
@@ -35,30 +45,35 @@ runs : (c : tie.Else3)
 runs c free =
     let a = start (short c) .args in
     let i = c .before .wide in
-    judged-runs (kinds (a .tree .now)) (a .place .now) (a .held .now) (a .worker) (short c .before .before .if1 .left) (most (short c))
+    judged-runs (kinds (a .tree .now)) (a .place .now) (a .held .now) (a .worker) (few (short c .before .before)) (most (short c))
     (i .result) (i .ensures) (within c) free
 
 -- ---- the needs
 
+no-worker-requires : tie.Need-no-worker-requires
+no-worker-requires c κs = search needs
+
 returns : tie.Need-returns
 returns c =
-    let a = c .before .before .before .args in
-    judged-worker (kinds (a .tree .now)) (a .place .now) (a .held .now) (a .worker) (c .if1 .taken)
+    let a = c .before .before .before .before .args in
+    judged-worker (kinds (a .tree .now)) (a .place .now) (a .held .now) (a .worker)
+    (leb-true 16 (a .worker) (sym (c .before .no-worker .ensures) ∙ c .if1 .taken))
 
 steps-requires : tie.Need-steps-requires
 steps-requires c κs = search needs
 
 returns-2 : tie.Need-returns-2
 returns-2 c =
-    let a = c .before .before .before .before .before .args in
-    judged-long (kinds (a .tree .now)) (a .place .now) (a .held .now) (a .worker) (c .before .before .if1 .left)
+    let e = c .before .before in
+    let a = named e .args in
+    judged-long (kinds (a .tree .now)) (a .place .now) (a .held .now) (a .worker) (few e)
     (subst (λ (n : ℕ). 4095 < n) (c .before .steps .ensures) (c .if2 .taken))
 
 mul-wide : tie.Need-mul-wide
 mul-wide c = search needs
 
 element-copy-out-wide : tie.Need-element-copy-out-wide
-element-copy-out-wide c = search needs
+element-copy-out-wide c = few (c .before .before)
 
 wide-requires : tie.Need-wide-requires
 wide-requires c κs = search needs
@@ -68,14 +83,14 @@ returns-3 c =
     let e = c .before .before .before in
     let a = start e .args in
     let i = c .before .wide in
-    judged-idle (kinds (a .tree .now)) (a .place .now) (a .held .now) (a .worker) (e .before .before .if1 .left) (most e) (i .result) (i .ensures)
-    (subst (λ (n : ℕ). n ≤ i .result) (e .before .steps .ensures) (c .if3 .taken))
+    judged-idle (kinds (a .tree .now)) (a .place .now) (a .held .now) (a .worker) (few (e .before .before)) (most e)
+    (i .result) (i .ensures) (subst (λ (n : ℕ). n ≤ i .result) (e .before .steps .ensures) (c .if3 .taken))
 
 mul-wide-2 : tie.Need-mul-wide-2
 mul-wide-2 c = search needs
 
 element-copy-out-wide-2 : tie.Need-element-copy-out-wide-2
-element-copy-out-wide-2 c = search needs
+element-copy-out-wide-2 c = few (short c .before .before)
 
 wide-requires-2 : tie.Need-wide-requires-2
 wide-requires-2 c κs = search needs
@@ -91,7 +106,7 @@ returns-4 c =
     let a = at .args in
     runs e
     (waits-at-low (kinds (a .tree .now)) (a .openers .now) (a .place .now) (a .held .now) (a .low .now) (a .worker)
-    (at .pre .1 (short e .before .before .if1 .left)) (e .before .wide .result) (e .before .wide .ensures)
+    (at .pre .1 (few (short e .before .before))) (e .before .wide .result) (e .before .wide .ensures)
     (low .wide2 .result) (low .wide2 .ensures) (sym (c .before .may-wait .ensures) ∙ not-true _ (c .if4 .taken)))
 
 waits-requires : tie.Need-waits-requires
@@ -102,7 +117,7 @@ returns-5 c =
     let e = c .before .before .before .before .before .before in
     let a = start (short e) .args in
     let i = e .before .wide in
-    judged-waits (kinds (a .tree .now)) (a .place .now) (a .held .now) (a .worker) (short e .before .before .if1 .left) (most (short e))
+    judged-waits (kinds (a .tree .now)) (a .place .now) (a .held .now) (a .worker) (few (short e .before .before)) (most (short e))
     (i .result) (i .ensures) (within e) (sym (c .before .waits .ensures) ∙ c .if5 .taken)
 
 returns-6 : tie.Need-returns-6
@@ -112,6 +127,7 @@ pub judge-run-spec : {M : Type 1} → statement M
 judge-run-spec =
     tie.close
     (tie.spec
+    no-worker-requires
     returns
     steps-requires
     returns-2

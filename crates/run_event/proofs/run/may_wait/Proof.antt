@@ -1,4 +1,5 @@
--- `running::may_wait` meets its contract: past the table's end it answers at once. Assumes nothing.
+-- `run_event::run::may_wait` meets its contract: beyond the table every step may wait, and within it only the one at `low`.
+-- Assumes nothing.
 use mathlib.Core.Path.{refl}
 use borrow.Author.Tests.{le-leb, lt-leb}
 use Rattle.run_event.proofs.run.may_wait.Statement.{statement}

@@ -1,4 +1,5 @@
--- `running::waits` meets its contract: it asks for the finish child before the step, and whether all of it has run. Assumes nothing.
+-- `run_event::run::waits` meets its contract: a step waits only for the finish child that ends just before it, and the steps of
+-- that child and of its descendants are those from the child's first to before the step. Assumes nothing.
 use mathlib.Core.Path.{sym, ap, _∙_}
 use mathlib.Core.Bool.{Bool, not}
 use Rattle.rules.specs.Tree.{kinds}
@@ -22,8 +23,10 @@ enum-told c = search needs
 returns : tie.Need-returns
 returns c =
     let a = c .before .before .before .before .before .before .before .args in
+    let child = c .before .before .first .given in
     ap (λ (x : Bool). not x) (c .all-run .ensures)
-    ∙ waits-found (kinds (a .tree .now)) (a .place .now) (a .step .0) (c .before .before .first .given .0 .0) (sym (c .before .before .before .before .finish-by .ensures) ∙ c .before .before .first .given .1)
+    ∙ waits-found (kinds (a .tree .now)) (a .place .now) (a .step .0) (child .0 .0)
+    (sym (c .before .before .before .before .finish-by .ensures) ∙ child .1)
 
 returns-2 : tie.Need-returns-2
 returns-2 c =

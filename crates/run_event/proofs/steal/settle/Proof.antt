@@ -1,11 +1,12 @@
--- `stealing::settle` meets its contract: what it stores is what is said. Assumes nothing.
+-- `run_event::steal::settle` meets its contract: it stores what the contract says, and every number fits its sixteen bits,
+-- since a steal takes a step of a tree. Where thief and victim are the same the thief's stores come last. Assumes nothing.
 use mathlib.Core.Path.{refl}
 use borrow.Author.Needs.{needs}
 use Rattle.run_event.proofs.steal.settle.Statement.{statement}
 use Rattle.run_event.proofs.steal.settle.Tie as tie
 
-cast-taken : tie.Need-cast-taken
-cast-taken c = search needs
+cast-step : tie.Need-cast-step
+cast-step c = search needs
 
 mul-held : tie.Need-mul-held
 mul-held c = search needs
@@ -59,7 +60,7 @@ pub settle-spec : {M : Type 1} → statement M
 settle-spec =
     tie.close
     (tie.spec
-    cast-taken
+    cast-step
     mul-held
     element-write-held
     mul-phase

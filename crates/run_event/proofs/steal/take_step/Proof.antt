@@ -1,4 +1,6 @@
--- `stealing::take_step` meets its contract: what the scan finds is what is taken, and it fits the tables. Assumes nothing.
+-- `run_event::steal::take_step` meets its contract: it scans the steps of the tree from the victim's `low` up, so the pusher
+-- that it finds is the lowest that is marked with the victim, which pushed the oldest step of the deque; and since that pusher
+-- stands in the tree, all that is taken fits the tables. Assumes nothing.
 use Prim.Native.Nat.{ℕ, _<_}
 use mathlib.Core.Path.{_≡_, sym, _∙_}
 use mathlib.Core.Option.{Option, some}
@@ -22,53 +24,66 @@ take-requires c κs = search needs
 enum-known-pusher : tie.Need-enum-known-pusher
 enum-known-pusher c = c .match .keys1
 
--- What is found in the tree's steps, and what the scan gives for it.
+-- ---- what is found
+
+abbrev start : tie.After-take → tie.Start
+start c = c .before .before .before .before .before
+
 abbrev oldest : tie.After-take → Option ℕ
 oldest c =
-    let a = c .before .before .before .before .before .args in
+    let a = start c .args in
     oldestMark (a .place .now) (a .victim) (a .low) (length (kinds (a .tree .now)))
 
 gives : (c : tie.After-take) → pusherOf (oldest c) ≡ c .take .result
 gives c = rw (← (c .before .before .steps .ensures)) (sym (c .take .ensures .0))
 
-leaves : (c : tie.After-take) → let a = c .before .before .before .before .before .args in
+leaves : (c : tie.After-take) → let a = start c .args in
     c .take .last .0 ≡ robbed (a .place .now) (a .victim) (a .low) (length (kinds (a .tree .now)))
 leaves c = rw (← (c .before .before .steps .ensures)) (c .take .ensures .1)
 
-found : (c : tie.After-pusher) → oldest (c .before .before) ≡ some (c .pusher .given .0 .0 .0)
-found c = pusher-at (oldest (c .before .before)) (c .pusher .given .0 .0) (gives (c .before .before) ∙ c .pusher .given .1)
+-- ---- a pusher is found, and stands in the tree
 
--- The pusher stands in the tree.
-within : (c : tie.After-pusher) → c .pusher .given .0 .0 .0 < length (kinds (c .before .before .before .before .before .before .before .args .tree .now))
+abbrev took : tie.After-pusher → tie.After-take
+took c = c .before .before
+
+found : (c : tie.After-pusher) → oldest (took c) ≡ some (c .pusher .given .0 .0 .0)
+found c = pusher-at (oldest (took c)) (c .pusher .given .0 .0) (gives (took c) ∙ c .pusher .given .1)
+
+within : (c : tie.After-pusher) → c .pusher .given .0 .0 .0 < length (kinds (start (took c) .args .tree .now))
 within c =
-    let a = c .before .before .before .before .before .before .before .args in
+    let a = start (took c) .args in
     oldest-before (a .place .now) (a .victim) (a .low) (length (kinds (a .tree .now))) (c .pusher .given .0 .0 .0) (found c)
 
+-- ---- the needs
+
 pushed-by-requires : tie.Need-pushed-by-requires
-pushed-by-requires c κs = (within (c .before), c .before .before .before .before .before .before .before .before .pre .1)
+pushed-by-requires c κs = (within (c .before), start (took (c .before)) .pre .1)
 
 ordinal-from-requires : tie.Need-ordinal-from-requires
 ordinal-from-requires c κs =
-    (omega (arith, within (c .before .before)), c .before .before .before .before .before .before .before .before .before .pre .0)
+    let at = c .before .before in
+    (omega (arith, within at), start (took at) .pre .0)
 
 enum-told : tie.Need-enum-told
 enum-told c = c .match .keys2
 
 returns : tie.Need-returns
 returns c =
-    let s = c .before .before .before .before .before .before .before .before .before .before in
-    let a = s .args in
     let at = c .before .before .before in
+    let s = start (took at) in
+    let a = s .args in
+    let ks = kinds (a .tree .now) in
     let q = at .pusher .given .0 .0 in
     let step = c .before .pushed-by in
     let ordinal = c .ordinal-from in
     let small = within at in (
-      takes-step (a .policy) (kinds (a .tree .now)) (a .base) (a .low) (oldest (at .before .before)) q (found at) (step .result) (step .ensures) (ordinal .result) (ordinal .ensures .0),
+      takes-step (a .policy) ks (a .base) (a .low) (oldest (took at))
+          (record { pusher = q; step = step .result; ordinal = ordinal .result }) (found at) (step .ensures) (ordinal .ensures .0),
       (
-        leaves (at .before .before),
+        leaves (took at),
         (
           omega (arith, small, s .pre .0),
-          omega (arith, small, s .pre .0, step .ensures, pushes-most (a .policy) (kinds (a .tree .now)) (q .0) small),
+          omega (arith, small, s .pre .0, step .ensures, pushes-most (a .policy) ks (q .0) small),
           ordinal .ensures .1,
         ),
       ),
@@ -76,11 +91,10 @@ returns c =
 
 returns-2 : tie.Need-returns-2
 returns-2 c =
-    let a = c .before .before .before .before .before .before .before .args in
-    let took = c .before .before in (
-      takes-nothing (a .policy) (kinds (a .tree .now)) (a .base) (a .low) (oldest took) (pusher-nothing (oldest took) (gives took ∙ c .enum-told .given .1)),
-      (leaves took, omega arith),
-    )
+    let at = c .before .before in
+    let a = start at .args in
+    let none-found = pusher-nothing (oldest at) (gives at ∙ c .enum-told .given .1) in
+    (takes-nothing (a .policy) (kinds (a .tree .now)) (a .base) (a .low) (oldest at) none-found, (leaves at, omega arith))
 
 pub take-step-spec : {M : Type 1} → statement M
 take-step-spec =

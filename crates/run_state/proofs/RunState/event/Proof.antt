@@ -1,4 +1,5 @@
--- `RunState::event` meets its contract: equal bytes run, different ones steal. Assumes nothing.
+-- `run_state::RunState::event` meets its contract: an event of equal bytes is that worker's run, one of different bytes the
+-- first's steal from the second. Assumes nothing.
 use mathlib.Core.Path.{_∙_}
 use Rattle.run_state.specs.Laws.Cases.{equal-runs, different-steals}
 use borrow.Author.Needs.{needs}

@@ -1,4 +1,5 @@
--- `RunState::idle` meets its contract: count of ones and trailing zeros of the set are its count and its lowest. Assumes nothing.
+-- `run_state::RunState::idle` meets its contract: worker w is bit w of the set, so its ones are as many as the idle workers and
+-- its trailing zeros are the number of the lowest, 16 where there is none. Assumes nothing.
 use Rattle.run_state.specs.Laws.Cases.{idle-answers}
 use borrow.Author.Needs.{needs}
 use Rattle.run_state.proofs.RunState.idle.Statement.{statement}

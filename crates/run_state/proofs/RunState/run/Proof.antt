@@ -1,4 +1,6 @@
--- `RunState::run` meets its contract: it lends its arrays to `run_on`, with empty tables. Assumes nothing.
+-- `run_state::RunState::run` meets its contract: it lends its arrays to `run_event::run_on` and stores back those that a run
+-- changes, so the next state has the fields that the run leaves; of the empty tables that it lends nothing is asked. Assumes
+-- nothing.
 use Rattle.run_spec.specs.Laws.Moves.{no-hints}
 use Rattle.run_state.specs.Laws.Cases.{run-answers}
 use borrow.Author.Needs.{needs}

@@ -1,4 +1,5 @@
--- `RunState::steal` meets its contract: it lends its arrays to `steal_on`, with an empty table. Assumes nothing.
+-- `run_state::RunState::steal` meets its contract: it lends its arrays to `run_event::steal_on` and stores them back, so the
+-- next state has the fields that the steal leaves; of the empty table that it lends nothing is asked. Assumes nothing.
 use Rattle.run_state.specs.Laws.Cases.{steal-answers}
 use borrow.Author.Needs.{needs}
 use Rattle.run_state.proofs.RunState.steal.Statement.{statement}

@@ -1,4 +1,4 @@
--- `starts::first_state` meets its contract: it is written out. Assumes nothing.
+-- `run_state::start::first_state` meets its contract: field by field it is the definition of a fresh run. Assumes nothing.
 use mathlib.Core.Path.{refl}
 use Rattle.run_spec.specs.Moves.{fresh}
 use borrow.Author.Needs.{needs}

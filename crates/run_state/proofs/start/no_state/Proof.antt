@@ -1,4 +1,4 @@
--- `starts::no_state` meets its contract: it is written out. Assumes nothing.
+-- `run_state::start::no_state` meets its contract: field by field it is the definition of the zeros. Assumes nothing.
 use mathlib.Core.Path.{refl}
 use Rattle.run_state.specs.Contract.{zeros}
 use Rattle.run_state.proofs.start.no_state.Statement.{statement}

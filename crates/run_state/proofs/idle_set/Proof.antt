@@ -1,10 +1,10 @@
--- `idling::idle_set` meets its contract: the loop holds the set of the workers from where it stands on, and a law says what a turn
--- does to that. Assumes nothing.
+-- `run_state::idle_set` meets its contract: it goes from the last worker to the first, and doubling the set of the workers
+-- behind makes room for the bit of the one before them; sixteen workers fit sixteen bits. Assumes nothing.
 use native.Mathlib.Omega.{arith}
 use borrow.Author.Needs.{needs}
 use Rattle.run_spec.specs.Laws.Idle.{Built, built-start, built-fits, built-idle, built-busy, built-done}
-use Rattle.run_state.proofs.idle_workers.idle_set.Statement.{statement}
-use Rattle.run_state.proofs.idle_workers.idle_set.Tie as tie
+use Rattle.run_state.proofs.idle_set.Statement.{statement}
+use Rattle.run_state.proofs.idle_set.Tie as tie
 
 abbrev Inv-loop : tie.InvT-loop
 Inv-loop held w₀ set₀ w set = Built held w set
@@ -29,34 +29,39 @@ wide-requires c κs = search needs
 
 mul-set : tie.Need-mul-set Inv-loop μ-loop
 mul-set c =
-    let loop = c .before .before .before .before .loop in
-    omega (arith, built-fits (c .before .before .before .before .before .args .held .now) (loop .w) (loop .set) (omega arith) (loop .inv))
+    let at = c .before .before .before .before in
+    let loop = at .loop in
+    omega (arith, built-fits (at .before .args .held .now) (loop .w) (loop .set) (omega arith) (loop .inv))
 
 add-set : tie.Need-add-set Inv-loop μ-loop
 add-set c =
-    let loop = c .before .before .before .before .loop in
-    omega (arith, built-fits (c .before .before .before .before .before .args .held .now) (loop .w) (loop .set) (omega arith) (loop .inv))
+    let at = c .before .before .before .before in
+    let loop = at .loop in
+    omega (arith, built-fits (at .before .args .held .now) (loop .w) (loop .set) (omega arith) (loop .inv))
 
 loop-less : tie.Need-loop-less Inv-loop μ-loop
 loop-less c = omega arith
 
 loop-again : tie.Need-loop-again Inv-loop μ-loop
 loop-again c =
-    let loop = c .before .before .before .before .loop in
-    built-idle (c .before .before .before .before .before .args .held .now) (loop .w) (loop .set) (omega arith) (loop .inv) (omega (arith, c .before .wide .ensures))
+    let at = c .before .before .before .before in
+    let loop = at .loop in
+    built-idle (at .before .args .held .now) (loop .w) (loop .set) (omega arith) (loop .inv) (omega (arith, c .before .wide .ensures))
 
 mul-set-2 : tie.Need-mul-set-2 Inv-loop μ-loop
 mul-set-2 c =
-    let loop = c .before .before .before .before .loop in
-    omega (arith, built-fits (c .before .before .before .before .before .args .held .now) (loop .w) (loop .set) (omega arith) (loop .inv))
+    let at = c .before .before .before .before in
+    let loop = at .loop in
+    omega (arith, built-fits (at .before .args .held .now) (loop .w) (loop .set) (omega arith) (loop .inv))
 
 loop-less-2 : tie.Need-loop-less-2 Inv-loop μ-loop
 loop-less-2 c = omega arith
 
 loop-again-2 : tie.Need-loop-again-2 Inv-loop μ-loop
 loop-again-2 c =
-    let loop = c .before .before .before .before .loop in
-    built-busy (c .before .before .before .before .before .args .held .now) (loop .w) (loop .set) (omega arith) (loop .inv) (omega (arith, c .before .wide .ensures))
+    let at = c .before .before .before .before in
+    let loop = at .loop in
+    built-busy (at .before .args .held .now) (loop .w) (loop .set) (omega arith) (loop .inv) (omega (arith, c .before .wide .ensures))
 
 returns : tie.Need-returns Inv-loop μ-loop
 returns c =
