@@ -1,5 +1,5 @@
--- `loads::heaviest` meets its contract: the loop holds which worker leads so far, and a law says what each turn does to that.
--- Assumes nothing.
+-- `loads::heaviest` meets its contract: of the workers looked at, `best` is the first of the heaviest, since only a heavier one takes
+-- its place; at the end all are looked at. Assumes nothing.
 use Prim.Native.Nat.{_-_}
 use native.Mathlib.Omega.{arith}
 use Rattle.loads.specs.Laws.Heaviest.{Leads, leads-start, leads-more, leads-still, leads-done}
