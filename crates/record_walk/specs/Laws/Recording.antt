@@ -7,7 +7,7 @@ use mathlib.Core.List.{List, [], _∷_, flatten}
 use mathlib.Core.Option.{some}
 use native.Mathlib.Numerals.{add-one}
 use native.Mathlib.Omega.{arith}
-use lib.ListN.{length, take, drop, getD, set, replicate, length-append}
+use lib.ListN.{length, drop, getD, set, replicate, length-append}
 use lib.Dec.{eqb}
 use borrow.Author.Tests.{eqb-true, eqb-false}
 use Rattle.rules.specs.Bytes.{records, Verdict, accepted, sum, Walked, walk}
@@ -34,20 +34,15 @@ use Rattle.run_spec.specs.declared.Outcome.{Outcome}
 use Rattle.run_spec.specs.declared.Outcome.the-variants.{Ran, Stole, Refused}
 use Rattle.run_spec.specs.Numbers.{numberValue}
 use Rattle.run_spec.specs.Moves.{Fields, fresh, eventMove}
-use Rattle.record_walk.specs.declared.Ended.{Ended}
 use Rattle.run_refinement.specs.Tie.{Shows, heldStep, told}
 use Rattle.run_refinement.specs.Laws.Follows.{number-traced}
 use Rattle.run_refinement.specs.Laws.Moves.{Known, held-some}
 use Rattle.run_refinement.specs.Laws.Events.{start-shows, event-tells, event-shows}
 use Rattle.buffers.specs.Terms.{recordPut}
-use Rattle.loads.specs.Terms.{loadMoved}
 use Rattle.buffers.specs.Laws.Records.{length-entries, entries-one, length-trace, trace-one, put-length, put-front}
-use Rattle.loads.specs.Terms.{Movable}
+use Rattle.loads.specs.Terms.{Movable, loadMoved}
 use Rattle.loads.specs.Laws.Loads.{partWeight, start-loads, Takes, begin-loads, begin-whole, begin-movable}
-
--- The bytes stand at the front of an array.
-abbrev pub Front : List ℕ → List ℕ → Type 0
-Front bytes buffer = take (length bytes) buffer ≡ bytes
+use Rattle.record_walk.specs.Terms.{Front}
 
 pub record Recording (p : ℕ) (tree events : List ℕ) (k : ℕ) (s : Fields) (log trace ls : List ℕ) (logs steals : ℕ) : Type 0 where
   pub run : Run
@@ -398,11 +393,3 @@ module _ (p : ℕ) (tree events : List ℕ) (accepts : startVerdict p tree .numb
               loaded = stole-loads;
               whole = rw stole-loads stole-whole;
             }
-
--- ---- the whole walk
-
--- What the walk comes to: the rules' verdict and, where that accepts, all of the rules' run.
-pub record Walks (p : ℕ) (tree events : List ℕ) (w : Ended) (log trace : List ℕ) : Type 0 where
-  pub verdict : _≡_ {A = Verdict} (record { number = w .number; position = w .position })
-      (recordWalk mostWorkers p (kinds tree) (records 2 events) .verdict)
-  pub recorded : w .number ≡ 0 → (s : Fields) × Recording p tree events (length events / 2) s log trace (w .loads) (w .logs) (w .steals)

@@ -4,7 +4,7 @@ use mathlib.Core.Path.{_≡_, refl, sym, ap, subst, _∙_}
 use mathlib.Core.List.{List}
 use native.Mathlib.Omega.{arith}
 use lib.ListN.{length, getD, set, replicate}
-use Rattle.rules.specs.Bytes.{accepted, Walked}
+use Rattle.rules.specs.Bytes.{Verdict, accepted, Walked}
 use Rattle.rules.specs.Tree.{kinds, weights}
 use Rattle.rules.specs.Scheduling.{Run}
 use Rattle.rules.specs.Calls.{startVerdict}
@@ -15,13 +15,14 @@ use Rattle.run_spec.specs.declared.Outcome.the-variants.{Ran, Stole, Refused}
 use Rattle.run_spec.specs.Numbers.{numberValue}
 use Rattle.run_spec.specs.Moves.{Fields, Move, fieldsOf, moveOf, fresh, eventMove}
 use Rattle.buffers.specs.Terms.{recordPut}
-use Rattle.loads.specs.Terms.{loadMoved}
 use Rattle.tree.specs.declared.Phase.{Phase}
 use Rattle.tree.specs.declared.Step.{Step}
-use Rattle.loads.specs.Terms.{weightBetween, Movable}
+use Rattle.loads.specs.Terms.{weightBetween, Movable, loadMoved}
 use Rattle.loads.specs.Laws.Loads.{part-between}
 use Rattle.tree_tables.specs.Laws.Fronts.{start-frame}
-use Rattle.record_walk.specs.Laws.Recording.{Recording, Walks, recording-start, recording-done, event-refused, ran-room}
+use Rattle.record_walk.specs.declared.Ended.{Ended}
+use Rattle.record_walk.specs.Terms.{Reached, Walks}
+use Rattle.record_walk.specs.Laws.Recording.{Recording, recording-start, recording-done, event-refused, ran-room}
 use Rattle.record_walk.specs.Laws.Recording.{ran-next, stole-room, stole-weight, stole-next}
 
 -- What holds of a state holds of an equal one, and the count of steals is the state's.
@@ -50,14 +51,26 @@ turn-start p tree events accepts sums right n m log trace h l s e ls f =
 -- The end.
 pub turn-done : {p : ℕ} {tree events : List ℕ} {k : ℕ} {s : Fields} {log trace ls : List ℕ} {logs : ℕ}
     → startVerdict p tree .number ≡ 0 → Recording p tree events k s log trace ls logs (s .steals)
-    → k ≤ length events / 2 → length events / 2 ≤ k
+    → length events / 2 ≤ k
     → Walks p tree events (record { number = 0; position = 0; logs = logs; steals = s .steals; loads = ls }) log trace
 unfolding accepted
-turn-done {p} {tree} {events} {k} {s} {log} {trace} {ls} {logs} accepts so h l =
-    let all : k ≡ length events / 2 = omega arith in
+turn-done {p} {tree} {events} {k} {s} {log} {trace} {ls} {logs} accepts so l =
+    let done = recording-done p tree events accepts k s log trace ls logs (s .steals) so l in
+    let ended : Ended = record { number = 0; position = 0; logs = logs; steals = s .steals; loads = ls } in
+    let reached : Reached p tree (so .run) ended log trace =
     record {
-      verdict = sym (ap (λ (w : Walked Run). w .verdict) (recording-done p tree events accepts k s log trace ls logs (s .steals) so l));
-      recorded = λ z. (s, rw all at so);
+      invariant = so .invariant;
+      logs = so .logCount;
+      steals = so .stealCount;
+      loaded = so .loaded;
+      logged = so .logged;
+      traced = so .traced;
+    }
+    in
+    record {
+      number = sym (ap (λ (w : Walked Run). w .verdict .number) done);
+      position = sym (ap (λ (w : Walked Run). w .verdict .position) done);
+      reached = λ z. subst (λ (x : Run). Reached p tree x ended log trace) (sym (ap (λ (w : Walked Run). w .state) done)) reached;
     }
 
 -- Event k, of bytes a and b, with outcome o and the state after it.
@@ -91,7 +104,11 @@ module _ {p : ℕ} {tree events : List ℕ} {k : ℕ} {s : Fields} {log trace ls
       → Walks p tree events (record { number = x; position = k; logs = 0; steals = 0; loads = loads }) mine yours
   turn-refused x e loads mine yours =
       let by = event-refused p tree events (turn .accepts) k s log trace ls logs (s .steals) (turn .so) (turn .more) a b (turn .first) (turn .second) x (outcome ∙ e) in
-      record { verdict = by .0; recorded = λ z. absurd (by .1 z) }
+      record {
+        number = ap (λ (v : Verdict). v .number) (by .0);
+        position = ap (λ (v : Verdict). v .position) (by .0);
+        reached = λ z. absurd (by .1 z);
+      }
 
   -- It has run a step.
   module _ {phase : Phase} {step : Step} (ran : o ≡ Ran phase step) where
