@@ -5,8 +5,8 @@ mod output;
 ghost use mathlib.Core.Path.{_≡_};
 ghost use Prim.Native.Nat.{_+_, _*_, _/_, _<_};
 ghost use lib.ListN.{length, getD};
-ghost use Rattle.rules.specs.Tree.{kinds, weights};
-ghost use Rattle.rules.specs.Calls.{startVerdict};
+ghost use Rattle.rules.specs.Tree.{mostSteps, kinds, weights};
+ghost use Rattle.rules.specs.Calls.{mostTraceRecords, startVerdict};
 ghost use Rattle.tree_tables.specs.Terms.{Ends, Openers, Sums};
 ghost use Rattle.record_walk.specs.Terms.{Walks};
 use buffers::EVENT;
@@ -53,10 +53,10 @@ fn walk(
     trace: &mut [u8],
 ) -> Ended
     requires { ⌜ startVerdict policy (now tree) .number ≡ 0 ⌝ }
-    requires { ⌜ (length (now ends) ≡ length (kinds (now tree))) × Ends (kinds (now tree)) (now ends) (length (now ends)) ⌝ }
-    requires { ⌜ (length (now openers) ≡ length (kinds (now tree))) × Openers (kinds (now tree)) (now openers) (length (now openers)) ⌝ }
-    requires { ⌜ (length (kinds (now tree)) < length (now sums)) × Sums (weights (now tree)) (now sums) (length (kinds (now tree))) ⌝ }
-    requires { ⌜ (length (now log) ≡ 16380) × (length (now trace) ≡ 8188) ⌝ }
+    requires { let ks = kinds (now tree) in ⌜ (length (now ends) ≡ length ks) × Ends ks (now ends) (length (now ends)) ⌝ }
+    requires { let ks = kinds (now tree) in ⌜ (length (now openers) ≡ length ks) × Openers ks (now openers) (length (now openers)) ⌝ }
+    requires { let n = length (kinds (now tree)) in ⌜ (n < length (now sums)) × Sums (weights (now tree)) (now sums) n ⌝ }
+    requires { ⌜ (length (now log) ≡ 4 * mostSteps) × (length (now trace) ≡ 4 * mostTraceRecords) ⌝ }
     ensures { λ r. ⌜ Walks policy (now (tree .entry)) (now (events .entry)) r (now (log .exit)) (now (trace .exit)) ⌝ }
 {
     let n = tree::steps(tree);
@@ -129,7 +129,7 @@ pub fn walk_events(
     trace: &mut [u8],
 ) -> Ended
     requires { ⌜ startVerdict policy (now tree) .number ≡ 0 ⌝ }
-    requires { ⌜ (length (now log) ≡ 16380) × (length (now trace) ≡ 8188) ⌝ }
+    requires { ⌜ (length (now log) ≡ 4 * mostSteps) × (length (now trace) ≡ 4 * mostTraceRecords) ⌝ }
     ensures { λ r. ⌜ Walks policy (now (tree .entry)) (now (events .entry)) r (now (log .exit)) (now (trace .exit)) ⌝ }
 {
     let n = tree::steps(tree);

@@ -31,7 +31,8 @@ element-copy-out-loads-2 c = search needs
 add-loads : tie.Need-add-loads
 add-loads c =
     let a = c .before .before .args in
-    omega (arith, getD-set-other (a .loads .now) (a .victim) (a .thief) (getD (a .loads .now) (a .victim) 0 - a .weight) 0 (c .before .before .pre .0 .2))
+    let lighter = getD (a .loads .now) (a .victim) 0 - a .weight in
+    omega (arith, getD-set-other (a .loads .now) (a .victim) (a .thief) lighter 0 (c .before .before .pre .0 .2))
 
 element-write-loads-2 : tie.Need-element-write-loads-2
 element-write-loads-2 c = search needs

@@ -86,7 +86,7 @@ turn c =
       moved = c .event-on .ensures;
     }
 
--- It has run a step, or stolen one.
+-- The event has run a step, or stolen one.
 abbrev ran : tie.After-outcome Inv-loop μ-loop → tie.After-event-on Inv-loop μ-loop
 ran c = c .before .before .before
 
@@ -209,7 +209,7 @@ loop-again-2 c =
 enum-known-outcome-3 : tie.Need-enum-known-outcome-3 Inv-loop μ-loop
 enum-known-outcome-3 c = search needs
 
--- It is refused.
+-- The event is refused.
 abbrev refused : tie.After-known-told3 Inv-loop μ-loop → tie.After-event-on Inv-loop μ-loop
 refused c = c .before .before .before .before
 

@@ -9,10 +9,10 @@ use lib.ListN.{length, take}
 use lib.Dec.{ltb}
 use borrow.Author.Tests.{lt-ltb, le-ltb}
 use Rattle.rules.specs.Bytes.{records}
-use Rattle.rules.specs.Tree.{kinds}
+use Rattle.rules.specs.Tree.{mostSteps, kinds}
 use Rattle.rules.specs.Scheduling.{mostWorkers, Run}
 use Rattle.rules.specs.Traces.{traceBytes, entryBytes}
-use Rattle.rules.specs.Calls.{written, recordWalk, finished}
+use Rattle.rules.specs.Calls.{mostTraceRecords, written, recordWalk, finished}
 use Rattle.tree_scan.specs.Laws.Starts.{start-tree-accepts}
 use Rattle.tree_scan.specs.Laws.Frames.{Frame, accepted-frame}
 use Rattle.run_invariant.specs.Laws.Consequences.{runs-most, steals-most, finished-runs, runs-finished}
@@ -53,7 +53,7 @@ module _ {p : ℕ} {tree events log trace : List ℕ} {w : Ended} {own-log own-t
     steals-fit = omega (arith, so .steals, steals-most p (kinds tree) (frame .some) (frame .shape) run (so .invariant))
 
     -- So the numbers of their bytes are small,
-    pub bytes-most : (4 * w .logs ≤ 16380) × (4 * w .steals ≤ 8188)
+    pub bytes-most : (4 * w .logs ≤ 4 * mostSteps) × (4 * w .steals ≤ 4 * mostTraceRecords)
     bytes-most = (omega (arith, logs-fit, frame .most), omega (arith, steals-fit, frame .most))
 
     -- and they have room in the lent buffers.
