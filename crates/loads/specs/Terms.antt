@@ -1,7 +1,12 @@
--- The weight that a steal moves, and what it leaves in the loads.
+-- The weight that a steal moves, what it leaves in the loads, and the totals that a call answers.
 use Prim.Native.Nat.{ℕ, _+_, _-_, _≤_, _<_}
+use mathlib.Core.Bool.{cond}
 use mathlib.Core.List.{List}
-use lib.ListN.{length, getD, set}
+use lib.ListN.{length, getD, set, replicate}
+use lib.Dec.{eqb}
+use Rattle.rules.specs.Scheduling.{mostWorkers}
+use Rattle.rules.specs.Traces.{heaviest}
+use Rattle.loads.specs.declared.Totals.{Totals}
 
 -- By the tables of task ends and of sums, the weight from a step to the end of its task.
 unfoldable pub weightBetween : List ℕ → List ℕ → ℕ → ℕ
@@ -20,3 +25,11 @@ unfoldable pub loadMoved : List ℕ → ℕ → ℕ → ℕ → List ℕ
 loadMoved loads thief victim weight =
     let less = set loads victim (getD loads victim 0 - weight) in
     set less thief (getD less thief 0 + weight)
+
+-- The totals on what a walk comes to, its refusal or 0 and the loads: "A refused call returns the number and the position, all other
+-- results 0."
+unfoldable pub totalsOf : ℕ → List ℕ → Totals
+totalsOf number ls =
+    let answer : Totals = record { loads = ls; heaviest = heaviest ls } in
+    let none : Totals = record { loads = replicate mostWorkers 0; heaviest = 0 } in
+    cond (eqb number 0) answer none

@@ -1,16 +1,19 @@
 // The loads of the workers, in recording and in replay (document 01, "Trace, log, run list"): at a steal the weight from the stolen
-// step to the end of its task, with all that is spawned there, leaves the victim's load for the thief's; and the heaviest worker.
+// step to the end of its task, with all that is spawned there, leaves the victim's load for the thief's; and the totals that a call
+// answers at its end, which are each worker's load and the heaviest worker.
 ghost use mathlib.Core.Path.{_≡_};
 ghost use Prim.Native.Nat.{_+_, _≤_, _<_};
 ghost use lib.ListN.{length, getD};
+ghost use Rattle.rules.specs.Scheduling.{mostWorkers};
 ghost use Rattle.rules.specs.Traces.{heaviest as heaviestOf};
-ghost use Rattle.loads.specs.Terms.{loadMoved, weightBetween, Movable};
+ghost use Rattle.loads.specs.Terms.{loadMoved, weightBetween, Movable, totalsOf};
 use policy::WORKERS;
 use tree_tables::wide;
 
 // Some weight leaves the victim's load for the thief's.
-pub fn move_load(loads: &mut [u64; WORKERS], thief: usize, victim: usize, weight: u64)
-    requires { ⌜ (thief < 16) × (victim < 16) × (thief ≡ victim → ⊥) × (weight ≤ getD (now loads) victim 0) × (getD (now loads) thief 0 + weight < 18446744073709551616) ⌝ }
+fn move_load(loads: &mut [u64; WORKERS], thief: usize, victim: usize, weight: u64)
+    requires { ⌜ (thief < mostWorkers) × (victim < mostWorkers) × (thief ≡ victim → ⊥) ⌝ }
+    requires { ⌜ (weight ≤ getD (now loads) victim 0) × (getD (now loads) thief 0 + weight < 18446744073709551616) ⌝ }
     ensures { λ r. ⌜ now (loads .exit) ≡ loadMoved (now (loads .entry)) thief victim weight ⌝ }
 {
     loads[victim] -= weight;
@@ -26,9 +29,11 @@ pub fn move_part(
     victim: usize,
     step: usize,
 )
-    requires { ⌜ (thief < 16) × (victim < 16) × (thief ≡ victim → ⊥) ⌝ }
+    requires { ⌜ (thief < mostWorkers) × (victim < mostWorkers) × (thief ≡ victim → ⊥) ⌝ }
     requires { ⌜ Movable (now ends) (now sums) (now loads) thief victim step ⌝ }
-    ensures { λ r. ⌜ now (loads .exit) ≡ loadMoved (now (loads .entry)) thief victim (weightBetween (now (ends .entry)) (now (sums .entry)) step) ⌝ }
+    ensures { λ r.
+        let weight = weightBetween (now (ends .entry)) (now (sums .entry)) step in
+        ⌜ now (loads .exit) ≡ loadMoved (now (loads .entry)) thief victim weight ⌝ }
 {
     let end = wide(ends[step]);
     let weight = sums[end] - sums[step];
@@ -36,8 +41,8 @@ pub fn move_part(
 }
 
 // The heaviest worker, the lowest numbered among equals.
-pub fn heaviest(loads: &[u64; WORKERS]) -> usize
-    requires { ⌜ length (now loads) ≡ 16 ⌝ }
+fn heaviest(loads: &[u64; WORKERS]) -> usize
+    requires { ⌜ length (now loads) ≡ mostWorkers ⌝ }
     ensures { λ r. ⌜ r ≡ heaviestOf (now (loads .entry)) ⌝ }
 {
     let mut best = 0;
@@ -50,4 +55,27 @@ pub fn heaviest(loads: &[u64; WORKERS]) -> usize
         }
     }
     best
+}
+
+// What a call answers of its workers' work.
+pub struct Totals {
+    pub loads: [u64; WORKERS],
+    pub heaviest: usize,
+}
+
+// The totals on what a walk comes to, its refusal or 0 and the loads: all 0 beside a refusal.
+pub fn totals_of(number: u8, loads: [u64; WORKERS]) -> Totals
+    ensures { λ r. ⌜ r ≡ totalsOf number loads ⌝ }
+{
+    if number != 0 {
+        return Totals {
+            loads: [0; WORKERS],
+            heaviest: 0,
+        };
+    }
+    let most = heaviest(&loads);
+    Totals {
+        loads,
+        heaviest: most,
+    }
 }

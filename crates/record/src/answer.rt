@@ -16,21 +16,6 @@ pub struct Recorded {
     pub heaviest: usize,
 }
 
-// A refusal: all other answers are 0.
-pub fn refused(number: u8, position: usize) -> Recorded
-    ensures { λ r. ⌜ r ≡ refusal number position ⌝ }
-{
-    Recorded {
-        number,
-        position,
-        logs: 0,
-        steals: 0,
-        finished: false,
-        loads: [0; WORKERS],
-        heaviest: 0,
-    }
-}
-
 // The answer on events whose walk is refused, or has come to these counts and loads; `last` is the tree's last step.
 pub fn answer(
     number: u8,
@@ -42,17 +27,34 @@ pub fn answer(
 ) -> Recorded
     ensures { λ r. ⌜ r ≡ answered number position logs steals last loads ⌝ }
 {
+    let totals = loads::totals_of(number, loads);
+    let each = totals.loads;
     if number != 0 {
-        return refused(number, position);
+        return Recorded {
+            number,
+            position,
+            logs: 0,
+            steals: 0,
+            finished: false,
+            loads: each,
+            heaviest: totals.heaviest,
+        };
     }
-    let heaviest = loads::heaviest(&loads);
     Recorded {
         number: 0,
         position: 0,
         logs,
         steals,
         finished: last < logs,
-        loads,
-        heaviest,
+        loads: each,
+        heaviest: totals.heaviest,
     }
+}
+
+// The answer on a call that is refused before any walk: all but number and position is 0.
+pub fn refused(number: u8, position: usize) -> Recorded
+    requires { ⌜ (number ≡ 0 → ⊥) ⌝ }
+    ensures { λ r. ⌜ r ≡ refusal number position ⌝ }
+{
+    answer(number, position, 0, 0, 0, [0; WORKERS])
 }

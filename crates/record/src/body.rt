@@ -15,7 +15,9 @@ const TRACE_BYTES: usize = RECORD * MOST_STEALS;
 // Walks the events. The lent log and trace are written where no event is refused.
 pub fn run(tree: &[u8], policy: u8, events: &[u8], log: &mut [u8], trace: &mut [u8]) -> Ended
     requires { ⌜ Admitted policy (now tree) (now log) (now trace) ⌝ }
-    ensures { λ r. ⌜ Outcome policy (now (tree .entry)) (now (events .entry)) (now (log .entry)) (now (trace .entry)) r (now (log .exit)) (now (trace .exit)) ⌝ }
+    ensures { λ r.
+        ⌜ Outcome policy (now (tree .entry)) (now (events .entry)) (now (log .entry)) (now (trace .entry)) r
+        (now (log .exit)) (now (trace .exit)) ⌝ }
 {
     let mut own_log: [u8; LOG_BYTES] = [0; LOG_BYTES];
     let mut own_trace: [u8; TRACE_BYTES] = [0; TRACE_BYTES];

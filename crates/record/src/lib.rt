@@ -4,15 +4,22 @@ pub mod answer;
 pub mod body;
 
 ghost use mathlib.Core.Path.{_≡_};
+ghost use Rattle.rules.specs.Scheduling.{mostWorkers};
 ghost use Rattle.rules.specs.Calls.{recordCall};
 ghost use Rattle.record.specs.Contract.{answers};
 use answer::Recorded;
 
 // Records a list of events: refusals 1 to 12, or the log and the trace at the front of the lent buffers.
 pub fn record(tree: &[u8], policy: u8, events: &[u8], log: &mut [u8], trace: &mut [u8]) -> Recorded
-    ensures answers { λ r. ⌜ r ≡ answers (recordCall 16 policy (now (tree .entry)) (now (events .entry)) (now (log .entry)) (now (trace .entry))) ⌝ }
-    ensures log { λ r. ⌜ now (log .exit) ≡ recordCall 16 policy (now (tree .entry)) (now (events .entry)) (now (log .entry)) (now (trace .entry)) .log ⌝ }
-    ensures trace { λ r. ⌜ now (trace .exit) ≡ recordCall 16 policy (now (tree .entry)) (now (events .entry)) (now (log .entry)) (now (trace .entry)) .trace ⌝ }
+    ensures answers { λ r.
+        let call = recordCall mostWorkers policy (now (tree .entry)) (now (events .entry)) (now (log .entry)) (now (trace .entry)) in
+        ⌜ r ≡ answers call ⌝ }
+    ensures log { λ r.
+        let call = recordCall mostWorkers policy (now (tree .entry)) (now (events .entry)) (now (log .entry)) (now (trace .entry)) in
+        ⌜ now (log .exit) ≡ call .log ⌝ }
+    ensures trace { λ r.
+        let call = recordCall mostWorkers policy (now (tree .entry)) (now (events .entry)) (now (log .entry)) (now (trace .entry)) in
+        ⌜ now (trace .exit) ≡ call .trace ⌝ }
 {
     let admitted = arguments::admit_record(tree, policy, events, log.len(), trace.len());
     if admitted.number != 0 {

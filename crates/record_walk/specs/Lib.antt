@@ -1,3 +1,5 @@
 -- The walk over a list of events.
---     Laws   what the loop over the events holds (proved)
+--     Terms     what the walk comes to
+--     Laws      what the loop over the events holds (proved)
+pub mod Terms
 pub mod Laws

@@ -1,17 +1,18 @@
 // The walk over a list of events: each goes through the same functions as a single event, on arrays of the walk's own and with the
 // tree's tables, which are filled once. What it comes to is a refusal with its position, or the log, the trace and the loads.
-pub mod output;
+mod output;
 
 ghost use mathlib.Core.Path.{_≡_};
-ghost use Prim.Native.Nat.{_<_};
-ghost use lib.ListN.{length};
-ghost use Rattle.rules.specs.Tree.{kinds, weights};
-ghost use Rattle.rules.specs.Calls.{startVerdict};
+ghost use Prim.Native.Nat.{_+_, _*_, _/_, _<_};
+ghost use lib.ListN.{length, getD};
+ghost use Rattle.rules.specs.Tree.{mostSteps, kinds, weights};
+ghost use Rattle.rules.specs.Calls.{mostTraceRecords, startVerdict};
 ghost use Rattle.tree_tables.specs.Terms.{Ends, Openers, Sums};
-ghost use Rattle.record_walk.specs.Laws.Recording.{Walks};
+ghost use Rattle.record_walk.specs.Terms.{Walks};
 use buffers::EVENT;
 use policy::WORKERS;
 use run_deques::NOT_RUN;
+use run_spec::Event;
 use run_spec::NO_STEP;
 use run_spec::Outcome;
 use tree::MOST_STEPS;
@@ -27,6 +28,19 @@ pub struct Ended {
     pub loads: [u64; WORKERS],
 }
 
+// Event k of the list.
+fn event_at(events: &[u8], k: usize) -> Event
+    requires { ⌜ k < length (now events) / 2 ⌝ }
+    ensures { λ r.
+        let bytes = now (events .entry) in
+        ⌜ r ≡ record { first = getD bytes (2 * k) 0; second = getD bytes (2 * k + 1) 0 } ⌝ }
+{
+    Event {
+        first: events[EVENT * k],
+        second: events[EVENT * k + 1],
+    }
+}
+
 // Runs the events from the start on, up to the first that is refused, with the tree's tables.
 fn walk(
     tree: &[u8],
@@ -39,10 +53,10 @@ fn walk(
     trace: &mut [u8],
 ) -> Ended
     requires { ⌜ startVerdict policy (now tree) .number ≡ 0 ⌝ }
-    requires { ⌜ (length (now ends) ≡ length (kinds (now tree))) × Ends (kinds (now tree)) (now ends) (length (now ends)) ⌝ }
-    requires { ⌜ (length (now openers) ≡ length (kinds (now tree))) × Openers (kinds (now tree)) (now openers) (length (now openers)) ⌝ }
-    requires { ⌜ (length (kinds (now tree)) < length (now sums)) × Sums (weights (now tree)) (now sums) (length (kinds (now tree))) ⌝ }
-    requires { ⌜ (length (now log) ≡ 16380) × (length (now trace) ≡ 8188) ⌝ }
+    requires { let ks = kinds (now tree) in ⌜ (length (now ends) ≡ length ks) × Ends ks (now ends) (length (now ends)) ⌝ }
+    requires { let ks = kinds (now tree) in ⌜ (length (now openers) ≡ length ks) × Openers ks (now openers) (length (now openers)) ⌝ }
+    requires { let n = length (kinds (now tree)) in ⌜ (n < length (now sums)) × Sums (weights (now tree)) (now sums) n ⌝ }
+    requires { ⌜ (length (now log) ≡ 4 * mostSteps) × (length (now trace) ≡ 4 * mostTraceRecords) ⌝ }
     ensures { λ r. ⌜ Walks policy (now (tree .entry)) (now (events .entry)) r (now (log .exit)) (now (trace .exit)) ⌝ }
 {
     let n = tree::steps(tree);
@@ -60,8 +74,7 @@ fn walk(
     while k < events.len() / EVENT {
         let at = k;
         k += 1;
-        let first = events[EVENT * at];
-        let second = events[EVENT * at + 1];
+        let event = event_at(events, at);
         let moved = run_event::event_on(
             tree,
             ends,
@@ -73,8 +86,7 @@ fn walk(
             &mut base,
             steals,
             policy,
-            first,
-            second,
+            event,
         );
         let before = wide(steals);
         let outcome = moved.outcome;
@@ -85,18 +97,8 @@ fn walk(
                 logs += 1;
             }
             Outcome::Stole(number) => {
-                let step = wide(held[first as usize]);
-                output::trace_steal(
-                    ends,
-                    sums,
-                    trace,
-                    &mut loads,
-                    before,
-                    first,
-                    second,
-                    step,
-                    number,
-                );
+                let step = wide(held[event.first as usize]);
+                output::trace_steal(ends, sums, trace, &mut loads, before, event, step, number);
             }
             Outcome::Refused(number) => {
                 return Ended {
@@ -118,7 +120,7 @@ fn walk(
     }
 }
 
-// The same, with tables of its own.
+// Fills the tables of an accepted tree, and walks the events.
 pub fn walk_events(
     tree: &[u8],
     policy: u8,
@@ -127,7 +129,7 @@ pub fn walk_events(
     trace: &mut [u8],
 ) -> Ended
     requires { ⌜ startVerdict policy (now tree) .number ≡ 0 ⌝ }
-    requires { ⌜ (length (now log) ≡ 16380) × (length (now trace) ≡ 8188) ⌝ }
+    requires { ⌜ (length (now log) ≡ 4 * mostSteps) × (length (now trace) ≡ 4 * mostTraceRecords) ⌝ }
     ensures { λ r. ⌜ Walks policy (now (tree .entry)) (now (events .entry)) r (now (log .exit)) (now (trace .exit)) ⌝ }
 {
     let n = tree::steps(tree);

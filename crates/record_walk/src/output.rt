@@ -5,10 +5,11 @@ ghost use mathlib.Core.Path.{_≡_};
 ghost use Prim.Native.Nat.{_+_, _*_, _/_, _%_, _≤_, _<_};
 ghost use lib.ListN.{length};
 ghost use Rattle.buffers.specs.Terms.{recordPut};
-ghost use Rattle.loads.specs.Terms.{loadMoved};
-ghost use Rattle.loads.specs.Terms.{weightBetween, Movable};
+ghost use Rattle.loads.specs.Terms.{weightBetween, Movable, loadMoved};
+ghost use Rattle.rules.specs.Scheduling.{mostWorkers};
 ghost use Rattle.run_spec.specs.Numbers.{numberValue};
 use policy::WORKERS;
+use run_spec::Event;
 use run_spec::TraceNumber;
 use tree::Phase;
 use tree::Step;
@@ -29,23 +30,21 @@ pub fn trace_steal(
     trace: &mut [u8],
     loads: &mut [u64; WORKERS],
     k: usize,
-    thief: u8,
-    victim: u8,
+    event: Event,
     step: usize,
     number: TraceNumber,
 )
     requires { ⌜ 4 * k + 4 ≤ length (now trace) ⌝ }
-    requires { ⌜ (thief < 16) × (victim < 16) × (thief ≡ victim → ⊥) ⌝ }
-    requires { ⌜ Movable (now ends) (now sums) (now loads) thief victim step ⌝ }
-    ensures trace { λ r. ⌜ now (trace .exit) ≡ recordPut (now (trace .entry)) k thief victim (numberValue number) ⌝ }
-    ensures loads { λ r. ⌜ now (loads .exit) ≡ loadMoved (now (loads .entry)) thief victim (weightBetween (now (ends .entry)) (now (sums .entry)) step) ⌝ }
+    requires { ⌜ (event .first < mostWorkers) × (event .second < mostWorkers) × (event .first ≡ event .second → ⊥) ⌝ }
+    requires { ⌜ Movable (now ends) (now sums) (now loads) (event .first) (event .second) step ⌝ }
+    ensures trace { λ r. ⌜ now (trace .exit) ≡ recordPut (now (trace .entry)) k (event .first) (event .second) (numberValue number) ⌝ }
+    ensures loads { λ r.
+        let weight = weightBetween (now (ends .entry)) (now (sums .entry)) step in
+        ⌜ now (loads .exit) ≡ loadMoved (now (loads .entry)) (event .first) (event .second) weight ⌝ }
 {
-    buffers::put_record(
-        trace,
-        k,
-        thief,
-        victim,
-        run_event::number::encode_number(number),
-    );
+    let thief = event.first;
+    let victim = event.second;
+    let n = run_event::number::encode_number(number);
+    buffers::put_record(trace, k, thief, victim, n);
     loads::move_part(ends, sums, loads, thief as usize, victim as usize, step);
 }

@@ -13,32 +13,34 @@ pub struct Replayed {
     pub heaviest: usize,
 }
 
-// A refusal: all other answers are 0.
-pub fn refused(number: u8, position: usize) -> Replayed
-    ensures { λ r. ⌜ r ≡ refusal number position ⌝ }
-{
-    Replayed {
-        number,
-        position,
-        phases: 0,
-        loads: [0; WORKERS],
-        heaviest: 0,
-    }
-}
-
 // The answer on a trace whose walk is refused, or has come to so many phases with these loads.
 pub fn answer(number: u8, position: usize, phases: usize, loads: [u64; WORKERS]) -> Replayed
     ensures { λ r. ⌜ r ≡ answered number position phases loads ⌝ }
 {
+    let totals = loads::totals_of(number, loads);
+    let each = totals.loads;
     if number != 0 {
-        return refused(number, position);
+        return Replayed {
+            number,
+            position,
+            phases: 0,
+            loads: each,
+            heaviest: totals.heaviest,
+        };
     }
-    let heaviest = loads::heaviest(&loads);
     Replayed {
         number: 0,
         position: 0,
         phases,
-        loads,
-        heaviest,
+        loads: each,
+        heaviest: totals.heaviest,
     }
+}
+
+// The answer on a call that is refused before any walk: all but number and position is 0.
+pub fn refused(number: u8, position: usize) -> Replayed
+    requires { ⌜ (number ≡ 0 → ⊥) ⌝ }
+    ensures { λ r. ⌜ r ≡ refusal number position ⌝ }
+{
+    answer(number, position, 0, [0; WORKERS])
 }

@@ -17,6 +17,7 @@ ghost use Rattle.run_spec.specs.Moves.{fieldsOf, moveOf, runMove, stealMove, ev
 ghost use Rattle.run_spec.specs.Terms.{Hints};
 use policy::MOST_PHASES;
 use policy::WORKERS;
+use run_spec::Event;
 use run_spec::Outcome;
 use run_spec::Taken;
 use tree::MOST_STEPS;
@@ -114,7 +115,7 @@ pub fn steal_on(
     }
 }
 
-// An event of two bytes: equal, that worker runs its step; different, the first steals from the second.
+// An event: of equal bytes, that worker runs its step; of different ones, the first steals from the second.
 pub fn event_on(
     tree: &[u8],
     ends: &[u16],
@@ -126,14 +127,28 @@ pub fn event_on(
     base: &mut [u16; WORKERS],
     steals: u16,
     policy: u8,
-    first: u8,
-    second: u8,
+    event: Event,
 ) -> Moved
     requires { ⌜ Hints (now tree) (now ends) (now openers) (now place) (now held) (now low) ⌝ }
-    ensures { λ r. ⌜ moveOf (r .outcome) (fieldsOf (now (place .exit)) (now (held .exit)) (now (phase .exit)) (now (low .exit)) (now (base .exit)) (r .steals) policy) ≡ eventMove (fieldsOf (now (place .entry)) (now (held .entry)) (now (phase .entry)) (now (low .entry)) (now (base .entry)) steals policy) (now (tree .entry)) first second ⌝ }
+    ensures { λ r.
+        let before =
+        fieldsOf (now (place .entry)) (now (held .entry)) (now (phase .entry)) (now (low .entry)) (now (base .entry)) steals policy in
+        let after =
+        fieldsOf (now (place .exit)) (now (held .exit)) (now (phase .exit)) (now (low .exit)) (now (base .exit)) (r .steals) policy in
+        ⌜ moveOf (r .outcome) after ≡ eventMove before (now (tree .entry)) (event .first) (event .second) ⌝ }
 {
-    if first == second {
-        let outcome = run_on(tree, ends, openers, place, held, phase, low, policy, first);
+    if event.first == event.second {
+        let outcome = run_on(
+            tree,
+            ends,
+            openers,
+            place,
+            held,
+            phase,
+            low,
+            policy,
+            event.first,
+        );
         return Moved { outcome, steals };
     }
     steal_on(
@@ -146,7 +161,7 @@ pub fn event_on(
         base,
         steals,
         policy,
-        first,
-        second,
+        event.first,
+        event.second,
     )
 }

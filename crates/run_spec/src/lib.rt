@@ -8,6 +8,12 @@ use tree::Step;
 // What a state has for the held step of a worker that holds none.
 pub const NO_STEP: u16 = 65535;
 
+// An event's two bytes: equal, that worker runs its step; different, the first steals from the second.
+pub struct Event {
+    pub first: u8,
+    pub second: u8,
+}
+
 // The pusher of a step of a deque, or none.
 pub enum Pusher {
     At(Step),

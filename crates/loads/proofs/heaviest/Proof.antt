@@ -1,5 +1,5 @@
--- `loads::heaviest` meets its contract: the loop holds which worker leads so far, and a law says what each turn does to that.
--- Assumes nothing.
+-- `loads::heaviest` meets its contract: of the workers looked at, `best` is the first of the heaviest, since only a heavier one takes
+-- its place; at the end all are looked at. Assumes nothing.
 use Prim.Native.Nat.{_-_}
 use native.Mathlib.Omega.{arith}
 use Rattle.loads.specs.Laws.Heaviest.{Leads, leads-start, leads-more, leads-still, leads-done}
@@ -35,16 +35,18 @@ loop-less c = omega arith
 
 loop-again : tie.Need-loop-again Inv-loop μ-loop
 loop-again c =
-    let loop = c .before .before .before .before .loop in
-    leads-more (c .before .before .before .before .before .args .loads .now) (loop .best) (loop .w) (loop .inv) (omega arith) (c .if1 .taken)
+    let at = c .before .before .before .before in
+    let loop = at .loop in
+    leads-more (at .before .args .loads .now) (loop .best) (loop .w) (loop .inv) (omega arith) (c .if1 .taken)
 
 loop-less-2 : tie.Need-loop-less-2 Inv-loop μ-loop
 loop-less-2 c = omega arith
 
 loop-again-2 : tie.Need-loop-again-2 Inv-loop μ-loop
 loop-again-2 c =
-    let loop = c .before .before .before .before .loop in
-    leads-still (c .before .before .before .before .before .args .loads .now) (loop .best) (loop .w) (loop .inv) (omega arith) (c .if1 .left)
+    let at = c .before .before .before .before in
+    let loop = at .loop in
+    leads-still (at .before .args .loads .now) (loop .best) (loop .w) (loop .inv) (omega arith) (c .if1 .left)
 
 returns : tie.Need-returns Inv-loop μ-loop
 returns c =

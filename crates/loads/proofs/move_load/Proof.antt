@@ -1,4 +1,5 @@
--- `loads::move_load` meets its contract: the first store leaves the thief's load. Assumes nothing.
+-- `loads::move_load` meets its contract: thief and victim are two workers, so the store to the victim's load leaves the thief's as it
+-- was, and the caller says that the weight is in the one and fits the other. Assumes nothing.
 use Prim.Native.Nat.{_-_}
 use mathlib.Core.Path.{refl}
 use native.Mathlib.Omega.{arith}
@@ -30,7 +31,8 @@ element-copy-out-loads-2 c = search needs
 add-loads : tie.Need-add-loads
 add-loads c =
     let a = c .before .before .args in
-    omega (arith, getD-set-other (a .loads .now) (a .victim) (a .thief) (getD (a .loads .now) (a .victim) 0 - a .weight) 0 (c .before .before .pre .2))
+    let lighter = getD (a .loads .now) (a .victim) 0 - a .weight in
+    omega (arith, getD-set-other (a .loads .now) (a .victim) (a .thief) lighter 0 (c .before .before .pre .0 .2))
 
 element-write-loads-2 : tie.Need-element-write-loads-2
 element-write-loads-2 c = search needs

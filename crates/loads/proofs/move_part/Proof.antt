@@ -1,4 +1,5 @@
--- `loads::move_part` meets its contract: what it subtracts is the weight that its caller says can move. Assumes nothing.
+-- `loads::move_part` meets its contract: the sum at the end of the step's task less the sum at the step is the weight of the part, and
+-- that is the weight which its caller says can move. Assumes nothing.
 use Prim.Native.Nat.{_-_}
 use mathlib.Core.Path.{_≡_, refl}
 use native.Mathlib.Omega.{arith}
@@ -44,7 +45,7 @@ move-load-requires : tie.Need-move-load-requires
 move-load-requires c κs =
     let at = c .before .before .before in
     let movable = at .before .before .before .before .pre .1 in
-    (omega arith, omega arith, omega arith, rw (weighs at) (movable .leaves), rw (weighs at) (movable .fits))
+    ((omega arith, omega arith, omega arith), (rw (weighs at) (movable .leaves), rw (weighs at) (movable .fits)))
 
 returns : tie.Need-returns
 returns c = rw (← weighs (c .before .before .before .before)) (c .move-load .ensures)

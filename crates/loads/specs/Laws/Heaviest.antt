@@ -7,6 +7,7 @@ use native.Mathlib.Omega.{arith}
 use borrow.Author.Count.{below-more}
 use borrow.Author.Tests.{eq-eqb, ne-eqb}
 use lib.ListN.{length, getD}
+use Rattle.rules.specs.Scheduling.{mostWorkers}
 use Rattle.rules.specs.Traces.{largest, firstAt, heaviest}
 
 -- ---- the largest load, and where it stands first
@@ -37,7 +38,7 @@ first-stands x (y ∷ ys) i (suc b) l e h =
 -- Of the loads below w, `best` has the first of the largest.
 pub record Leads (ls : List ℕ) (best w : ℕ) : Type 0 where
   pub below : best < w
-  pub within : w ≤ 16
+  pub within : w ≤ mostWorkers
   pub most : (k : ℕ) → k < w → getD ls k 0 ≤ getD ls best 0
   pub first : (k : ℕ) → k < best → getD ls k 0 < getD ls best 0
 
@@ -51,7 +52,7 @@ module _ (ls : List ℕ) where
         first = λ k l. omega arith;
       }
 
-  module _ (best w : ℕ) (s : Leads ls best w) (left : w < 16) where
+  module _ (best w : ℕ) (s : Leads ls best w) (left : w < mostWorkers) where
     -- A heavier worker takes the lead.
     pub leads-more : getD ls best 0 < getD ls w 0 → Leads ls w (w + 1)
     leads-more m =
@@ -62,7 +63,7 @@ module _ (ls : List ℕ) where
           first = λ k l. omega (arith, s .most k l);
         }
 
-    -- A worker that is no heavier does not.
+    -- A worker that is no heavier leaves the lead where it is.
     pub leads-still : getD ls w 0 ≤ getD ls best 0 → Leads ls best (w + 1)
     leads-still m =
         record {
@@ -72,7 +73,7 @@ module _ (ls : List ℕ) where
           first = s .first;
         }
 
-  pub leads-done : (best w : ℕ) → Leads ls best w → (w < 16 → ⊥) → length ls ≡ 16 → best ≡ heaviest ls
+  pub leads-done : (best w : ℕ) → Leads ls best w → (w < mostWorkers → ⊥) → length ls ≡ mostWorkers → best ≡ heaviest ls
   unfolding heaviest
   leads-done best w s past e =
       let inside : best < length ls = omega (arith, s .below, s .within) in

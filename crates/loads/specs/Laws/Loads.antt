@@ -22,8 +22,7 @@ use Rattle.tree_tables.specs.Terms.{Ends, Sums, weightBefore}
 use Rattle.run_invariant.specs.Laws.Counts.{any-one, any-sum, sum-plus, sum-two}
 use Rattle.run_invariant.specs.Laws.Weights.{span, end-within}
 use Rattle.run_invariant.specs.Laws.Moves.{sum-one, sum-set, robbed}
-use Rattle.loads.specs.Terms.{loadMoved}
-use Rattle.loads.specs.Terms.{weightBetween, Movable}
+use Rattle.loads.specs.Terms.{weightBetween, Movable, loadMoved}
 
 -- ---- sums
 
@@ -79,7 +78,8 @@ moved-is ls new t v x size h l n more less same =
     ext-getD 0 new (loadMoved ls t v x) (size ∙ sym sized) (λ u b.
     elim (ℕ-discrete u t) [
       | yes e ↦
-          rw (e, getD-set-same (set ls v lighter) t (getD (set ls v lighter) t 0 + x) 0 (lt-length-set ls v lighter h), getD-set-other ls v t lighter 0 n) more
+          let less = set ls v lighter in
+          rw (e, getD-set-same less t (getD less t 0 + x) 0 (lt-length-set ls v lighter h), getD-set-other ls v t lighter 0 n) more
       | no m ↦
           rw (getD-set-other (set ls v lighter) t u (getD (set ls v lighter) t 0 + x) 0 m)
           (elim (ℕ-discrete u v) [
@@ -258,7 +258,7 @@ module _ (ks ws : List ℕ) (sh : Shape (length ks) (endAt ks) (sizeAt ks)) {phs
         fresh-share ks ws u t o,
       ))
 
-  -- By worker.
+  -- The victim's load loses the part, the thief's gains it, and every other stays.
   victim-less : workerLoad ks ws (begin phs t k o) v + partWeight ks ws o ≡ workerLoad ks ws phs v
   victim-less =
       let moves = load-moves v in

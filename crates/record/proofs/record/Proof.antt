@@ -1,4 +1,5 @@
--- `record::record` meets its contract: a law for what the call is given, and one for the walk over the events. Assumes nothing.
+-- `record::record` meets its contract: the rules judge what the call is given before its events, as the code does, and the answer is on
+-- the first that is refused, or on the run. Assumes nothing.
 use mathlib.Core.Path.{_≡_}
 use lib.ListN.{length}
 use borrow.Author.Needs.{needs}
@@ -68,7 +69,8 @@ returns-2 c =
     let at = one .before .before in
     let a = entry at .args in
     walk-answered (a .policy) (a .tree .now) (a .events .now) (a .log .now) (a .trace .now) (at .admit-record .result) (judged at)
-    (one .if1 .left) (run .result) (run .last .1 .1 .1 .0) (run .last .1 .1 .1 .1 .0) (run .ensures) (c .answer .result) (c .answer .ensures)
+    (one .if1 .left) (run .result) (run .last .1 .1 .1 .0) (run .last .1 .1 .1 .1 .0) (run .ensures) (c .answer .result)
+    (c .answer .ensures)
 
 pub record-spec : {M : Type 1} → statement M
 record-spec =

@@ -1,3 +1,3 @@
 -- What need not be believed: everything here is proved from the definitions.
---     Results   each return of the code, from what the walk over the events comes to
+--     Results   the returns, from what the walk over the events comes to
 pub mod Results

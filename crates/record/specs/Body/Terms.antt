@@ -6,7 +6,7 @@ use lib.ListN.{length}
 use lib.Dec.{ltb}
 use Rattle.rules.specs.Bytes.{records}
 use Rattle.rules.specs.Tree.{kinds, weights}
-use Rattle.rules.specs.Scheduling.{Run}
+use Rattle.rules.specs.Scheduling.{mostWorkers, Run}
 use Rattle.rules.specs.Traces.{traceBytes, entryBytes, loads}
 use Rattle.rules.specs.Calls.{written, startVerdict, recordWalk, finished}
 use Rattle.record_walk.specs.declared.Ended.{Ended}
@@ -23,14 +23,14 @@ pub record Told (p : ℕ) (tree : List ℕ) (s : Run) (log trace : List ℕ) (r 
   pub logs : r .logs ≡ length (s .log)
   pub steals : r .steals ≡ length (s .steals)
   pub finished : ltb (length (kinds tree) - 1) (r .logs) ≡ finished (kinds tree) s
-  pub loaded : r .loads ≡ loads 16 (kinds tree) (weights tree) (s .phases)
+  pub loaded : r .loads ≡ loads mostWorkers (kinds tree) (weights tree) (s .phases)
   pub logged : log-after ≡ written (entryBytes (s .log)) log
   pub traced : trace-after ≡ written (traceBytes p (kinds tree) (s .steals)) trace
 
 -- The verdict on the events; then either log and trace are as they were, or the run of the events is answered.
 pub record Outcome (p : ℕ) (tree events log trace : List ℕ) (r : Ended) (log-after trace-after : List ℕ) : Type 0 where
-  pub number : r .number ≡ recordWalk 16 p (kinds tree) (records 2 events) .verdict .number
-  pub position : r .position ≡ recordWalk 16 p (kinds tree) (records 2 events) .verdict .position
+  pub number : r .number ≡ recordWalk mostWorkers p (kinds tree) (records 2 events) .verdict .number
+  pub position : r .position ≡ recordWalk mostWorkers p (kinds tree) (records 2 events) .verdict .position
   pub same : (r .number ≡ 0 → ⊥) → (log-after ≡ log) × (trace-after ≡ trace)
   pub told : r .number ≡ 0
-      → Told p tree (recordWalk 16 p (kinds tree) (records 2 events) .state) log trace r log-after trace-after
+      → Told p tree (recordWalk mostWorkers p (kinds tree) (records 2 events) .state) log trace r log-after trace-after

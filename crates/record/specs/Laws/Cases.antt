@@ -7,7 +7,8 @@ use lib.Dec.{ltb}
 use borrow.Author.Tests.{eq-eqb, ne-eqb, ltb-false}
 use Rattle.rules.specs.Bytes.{records, wholeRecords, Verdict, accepted, firstRefused}
 use Rattle.rules.specs.Tree.{kinds}
-use Rattle.rules.specs.Calls.{startVerdict, recordWalk, recordVerdict, recordOf, recordRefused, recordCall}
+use Rattle.rules.specs.Scheduling.{mostWorkers}
+use Rattle.rules.specs.Calls.{mostEvents, startVerdict, recordWalk, recordVerdict, recordOf, recordRefused, recordCall}
 use Rattle.tree.specs.declared.Accepted.{Accepted}
 use Rattle.tree.specs.Laws.Verdicts.{first-accepts}
 use Rattle.run_invariant.specs.Laws.Counts.{or-none}
@@ -36,7 +37,7 @@ module _ (w p : ℕ) (tree events log trace : List ℕ) where
 
 -- The call is not refused for what it is given.
 abbrev pub Ready : ℕ → List ℕ → List ℕ → List ℕ → List ℕ → Type 0
-Ready p tree events log trace = Given p tree (wholeRecords 2 8192 events) (tooShort (length (kinds tree)) (length log) (length trace))
+Ready p tree events log trace = Given p tree (wholeRecords 2 mostEvents events) (tooShort (length (kinds tree)) (length log) (length trace))
 
 -- Then log and trace have room.
 pub ready-admitted : {p : ℕ} {tree log trace : List ℕ} (events : List ℕ) → Ready p tree events log trace → Admitted p tree log trace
@@ -52,14 +53,14 @@ ready-admitted {p} {tree} {log} {trace} events ready =
 
 module _ (p : ℕ) (tree events log trace : List ℕ) where
   -- The answer that a refusal makes.
-  by-refused : (v : Verdict) → recordVerdict 16 p tree events log trace ≡ v → (v .number ≡ 0 → ⊥)
-      → recordRefused 16 v log trace ≡ recordCall 16 p tree events log trace
+  by-refused : (v : Verdict) → recordVerdict mostWorkers p tree events log trace ≡ v → (v .number ≡ 0 → ⊥)
+      → recordRefused mostWorkers v log trace ≡ recordCall mostWorkers p tree events log trace
   unfolding recordCall
   by-refused v e n = rw (e, ne-eqb (v .number) 0 n) refl
 
   module _ (a : Accepted) (is : a ≡ recordAdmitted p tree events (length log) (length trace)) where
     pub record-given : (a .number ≡ 0 → ⊥)
-        → recordRefused 16 (record { number = a .number; position = a .position }) log trace ≡ recordCall 16 p tree events log trace
+        → recordRefused mostWorkers (record { number = a .number; position = a .position }) log trace ≡ recordCall mostWorkers p tree events log trace
     unfolding recordVerdict recordAdmitted tooShort
     record-given n = by-refused _ (given-refused p tree _ _ a is n _) n
 
@@ -69,19 +70,19 @@ module _ (p : ℕ) (tree events log trace : List ℕ) where
 
   module _ (ready : Ready p tree events log trace) where
     -- The events decide.
-    by-walk : recordVerdict 16 p tree events log trace ≡ firstRefused (recordWalk 16 p (kinds tree) (records 2 events) .verdict ∷ [])
+    by-walk : recordVerdict mostWorkers p tree events log trace ≡ firstRefused (recordWalk mostWorkers p (kinds tree) (records 2 events) .verdict ∷ [])
     unfolding recordVerdict tooShort
     by-walk = given-last ready _
 
-    pub record-event : (v : Verdict) → v ≡ recordWalk 16 p (kinds tree) (records 2 events) .verdict → (v .number ≡ 0 → ⊥)
-        → recordRefused 16 v log trace ≡ recordCall 16 p tree events log trace
+    pub record-event : (v : Verdict) → v ≡ recordWalk mostWorkers p (kinds tree) (records 2 events) .verdict → (v .number ≡ 0 → ⊥)
+        → recordRefused mostWorkers v log trace ≡ recordCall mostWorkers p tree events log trace
     unfolding firstRefused
     record-event v e n = by-refused v (by-walk ∙ rw (← e, ne-eqb (v .number) 0 n) refl) n
 
-    pub record-all : recordWalk 16 p (kinds tree) (records 2 events) .verdict .number ≡ 0
-        → recordOf 16 p tree (recordWalk 16 p (kinds tree) (records 2 events) .state) log trace
-        ≡ recordCall 16 p tree events log trace
+    pub record-all : recordWalk mostWorkers p (kinds tree) (records 2 events) .verdict .number ≡ 0
+        → recordOf mostWorkers p tree (recordWalk mostWorkers p (kinds tree) (records 2 events) .state) log trace
+        ≡ recordCall mostWorkers p tree events log trace
     unfolding firstRefused accepted
     record-all e =
-        by-accepted 16 p tree events log trace
-        (rw (by-walk, eq-eqb (recordWalk 16 p (kinds tree) (records 2 events) .verdict .number) 0 e) refl)
+        by-accepted mostWorkers p tree events log trace
+        (rw (by-walk, eq-eqb (recordWalk mostWorkers p (kinds tree) (records 2 events) .verdict .number) 0 e) refl)

@@ -1,4 +1,4 @@
--- Each return of the code beside the whole call: the refusals, and what an accepted call answers and leaves.
+-- The returns of the whole call: the refusals, and what an accepted call answers and leaves.
 use Prim.Native.Nat.{ℕ, _-_, _≤_}
 use mathlib.Core.Path.{_≡_, refl, sym, ap, _∙_}
 use mathlib.Core.Bool.{Bool}
@@ -8,7 +8,7 @@ use lib.ListN.{length}
 use borrow.Author.Tests.{eq-eqb, ne-eqb}
 use Rattle.rules.specs.Bytes.{records, Verdict, accepted}
 use Rattle.rules.specs.Tree.{kinds, weights}
-use Rattle.rules.specs.Scheduling.{Run}
+use Rattle.rules.specs.Scheduling.{mostWorkers, Run}
 use Rattle.rules.specs.Traces.{loads, heaviest}
 use Rattle.rules.specs.Calls.{recordWalk, finished, recordOf, recordRefused, recordCall, Recorded as Call}
 use Rattle.tree.specs.declared.Accepted.{Accepted}
@@ -28,7 +28,7 @@ abbrev pub Meets : Call → Recorded → List ℕ → List ℕ → Type 0
 Meets call r log trace = (r ≡ answers call) × ((log ≡ call .log) × (trace ≡ call .trace))
 
 -- A refusal in the terms of the code: the buffers are as they were.
-refusal-meets : (v : Verdict) (log trace : List ℕ) (call : Call) → recordRefused 16 v log trace ≡ call
+refusal-meets : (v : Verdict) (log trace : List ℕ) (call : Call) → recordRefused mostWorkers v log trace ≡ call
     → (r : Recorded) → r ≡ refusal (v .number) (v .position) → Meets call r log trace
 unfolding recordRefused refusal answers
 refusal-meets v log trace call e r f =
@@ -37,16 +37,16 @@ refusal-meets v log trace call e r f =
 -- The answers on a run, by its counts, whether it has finished and its loads.
 run-answers : (p : ℕ) (tree : List ℕ) (r : Run) (log trace : List ℕ) (logs steals : ℕ) (done : Bool) (ls : List ℕ)
     → logs ≡ length (r .log) → steals ≡ length (r .steals) → done ≡ finished (kinds tree) r
-    → ls ≡ loads 16 (kinds tree) (weights tree) (r .phases)
+    → ls ≡ loads mostWorkers (kinds tree) (weights tree) (r .phases)
     → _≡_ {A = Recorded}
     (record { number = 0; position = 0; logs = logs; steals = steals; finished = done; loads = ls; heaviest = heaviest ls })
-    (answers (recordOf 16 p tree r log trace))
+    (answers (recordOf mostWorkers p tree r log trace))
 unfolding answers recordOf accepted
 run-answers p tree r log trace logs steals done ls e f g h = rw (e, f, g, h) refl
 
 module _ (p : ℕ) (tree events log trace : List ℕ) (a : Accepted) (is : a ≡ recordAdmitted p tree events (length log) (length trace)) where
   pub given-refusal : (a .number ≡ 0 → ⊥) → (r : Recorded) → r ≡ refusal (a .number) (a .position)
-      → Meets (recordCall 16 p tree events log trace) r log trace
+      → Meets (recordCall mostWorkers p tree events log trace) r log trace
   given-refusal n = refusal-meets _ log trace _ (record-given p tree events log trace a is n)
 
   pub some-steps : a .number ≡ 0 → 1 ≤ a .steps
@@ -58,18 +58,18 @@ module _ (p : ℕ) (tree events log trace : List ℕ) (a : Accepted) (is : a ≡
   -- The walk over the events, and the answer on what it comes to.
   module _ (z : a .number ≡ 0) (w : Ended) (log-out trace-out : List ℕ) (so : Outcome p tree events log trace w log-out trace-out)
       (r : Recorded) (answer : r ≡ answered (w .number) (w .position) (w .logs) (w .steals) (a .steps - 1) (w .loads)) where
-    event-refusal : (w .number ≡ 0 → ⊥) → Meets (recordCall 16 p tree events log trace) r log-out trace-out
+    event-refusal : (w .number ≡ 0 → ⊥) → Meets (recordCall mostWorkers p tree events log trace) r log-out trace-out
     unfolding answered
     event-refusal n =
         let v : Verdict = record { number = w .number; position = w .position } in
-        let judged : v ≡ recordWalk 16 p (kinds tree) (records 2 events) .verdict =
+        let judged : v ≡ recordWalk mostWorkers p (kinds tree) (records 2 events) .verdict =
         λ k. record { number = so .number k; position = so .position k }
         in
         let kept = so .same n in
         let call = record-event p tree events log trace (record-ready p tree events log trace a is z) v judged n in
         rw (kept .0, kept .1) (refusal-meets v log trace _ call r (answer ∙ rw (ne-eqb (w .number) 0 n) refl))
 
-    all-answered : w .number ≡ 0 → Meets (recordCall 16 p tree events log trace) r log-out trace-out
+    all-answered : w .number ≡ 0 → Meets (recordCall mostWorkers p tree events log trace) r log-out trace-out
     unfolding answered recordOf recordAdmitted
     all-answered none =
         let told = so .told none in
@@ -82,5 +82,5 @@ module _ (p : ℕ) (tree events log trace : List ℕ) (a : Accepted) (is : a ≡
           (told .logged ∙ ap (λ (c : Call). c .log) all, told .traced ∙ ap (λ (c : Call). c .trace) all),
         )
 
-    pub walk-answered : Meets (recordCall 16 p tree events log trace) r log-out trace-out
+    pub walk-answered : Meets (recordCall mostWorkers p tree events log trace) r log-out trace-out
     walk-answered = elim (ℕ-discrete (w .number) 0) [ yes none ↦ all-answered none | no n ↦ event-refusal n ]

@@ -1,11 +1,12 @@
--- `walks::walk` meets its contract: the loop holds what the events so far have come to, and a law says what each kind of event does to
--- that. Assumes nothing.
+-- `record_walk::walk` meets its contract: after each event that is not refused the arrays show the rules' run so far, and the log, the
+-- trace and the loads are that run's; so the event that is refused is the rules' too. Assumes nothing.
 use Prim.Native.Nat.{_+_, _-_, _*_, _/_, _≤_, _<_}
-use mathlib.Core.Path.{_≡_, refl, sym, _∙_}
+use mathlib.Core.Path.{_≡_, refl, sym, ap, _∙_}
 use native.Mathlib.Omega.{arith}
 use lib.ListN.{length, getD}
 use borrow.Author.Needs.{needs}
 use Rattle.rules.specs.Tree.{kinds}
+use Rattle.run_spec.specs.declared.Event.{Event}
 use Rattle.run_spec.specs.Moves.{Fields, fieldsOf}
 use Rattle.run_refinement.specs.Laws.Hints.{shows-hints}
 use Rattle.tree_tables.specs.Laws.Fronts.{start-frame}
@@ -56,8 +57,12 @@ state c =
 
 -- ---- a turn
 
+-- Where the event's bytes have been read.
+abbrev read : tie.After-event-on Inv-loop μ-loop → tie.After-event-at Inv-loop μ-loop
+read c = c .before .before .before .before .before .before
+
 abbrev top : tie.After-event-on Inv-loop μ-loop → tie.At-loop Inv-loop μ-loop
-top c = c .before .before .before .before .before .before .before .before .before
+top c = read c .before .before
 
 -- The state after the event.
 abbrev next : tie.After-event-on Inv-loop μ-loop → Fields
@@ -70,18 +75,18 @@ turn : (c : tie.After-event-on Inv-loop μ-loop)
     let a = entry at .args in
     let l = at .loop in
     Turn (a .policy) (a .tree .now) (a .events .now) (l .k) (state at) (l .log) (l .trace) (l .loads) (l .logs)
-    (getD (a .events .now) (2 * l .k) 0) (getD (a .events .now) (2 * l .k + 1) 0) (c .event-on .result .outcome) (next c)
+    (read c .event-at .result .first) (read c .event-at .result .second) (c .event-on .result .outcome) (next c)
 turn c =
     record {
       accepts = entry (top c) .pre .0;
       so = top c .loop .inv .1;
-      more = c .before .before .before .before .before .before .before .before .loop-test .taken;
-      first = refl;
-      second = refl;
+      more = read c .before .loop-test .taken;
+      first = ap (λ (e : Event). e .first) (read c .event-at .ensures);
+      second = ap (λ (e : Event). e .second) (read c .event-at .ensures);
       moved = c .event-on .ensures;
     }
 
--- It has run a step, or stolen one.
+-- The event has run a step, or stolen one.
 abbrev ran : tie.After-outcome Inv-loop μ-loop → tie.After-event-on Inv-loop μ-loop
 ran c = c .before .before .before
 
@@ -118,24 +123,12 @@ loop-holds c =
 add-k : tie.Need-add-k Inv-loop μ-loop
 add-k c = omega arith
 
-mul-first : tie.Need-mul-first Inv-loop μ-loop
-mul-first c = search needs
-
-shared-slice-read-first : tie.Need-shared-slice-read-first Inv-loop μ-loop
-shared-slice-read-first c = search needs
-
-mul-second : tie.Need-mul-second Inv-loop μ-loop
-mul-second c = search needs
-
-add-second : tie.Need-add-second Inv-loop μ-loop
-add-second c = search needs
-
-shared-slice-read-second : tie.Need-shared-slice-read-second Inv-loop μ-loop
-shared-slice-read-second c = search needs
+event-at-requires : tie.Need-event-at-requires Inv-loop μ-loop
+event-at-requires c κs = c .loop-test .taken
 
 event-on-requires : tie.Need-event-on-requires Inv-loop μ-loop
 event-on-requires c κs =
-    let at = c .before .before .before .before .before .before .before .before in
+    let at = c .before .before .before .before .before .before .before in
     let a = entry at .args in
     let tables = entry at .pre .1 in
     let so = at .loop .inv .1 in
@@ -173,27 +166,26 @@ enum-known-outcome-2 c = search needs
 -- A steal's record has room, and it names two of the workers.
 fits : (c : tie.After-outcome2 Inv-loop μ-loop)
     → let at = top (stole c) in
-    let events = entry at .args .events .now in
-    let k = at .loop .k in
-    (4 * at .loop .steals + 4 ≤ length (at .loop .trace)) × (getD events (2 * k) 0 < 16) × (getD events (2 * k + 1) 0 < 16)
-    × (getD events (2 * k) 0 ≡ getD events (2 * k + 1) 0 → ⊥)
+    let event = read (stole c) .event-at .result in
+    (4 * at .loop .steals + 4 ≤ length (at .loop .trace)) × (event .first < 16) × (event .second < 16)
+    × (event .first ≡ event .second → ⊥)
 fits c = stole-fits (turn (stole c)) (c .outcome2 .given .1) _ refl
 
 cast-wide : tie.Need-cast-wide Inv-loop μ-loop
-cast-wide c = omega (arith, fits (c .before))
+cast-wide c = omega (arith, fits (c .before .before))
 
 mul-wide : tie.Need-mul-wide Inv-loop μ-loop
-mul-wide c = omega (arith, fits (c .before))
+mul-wide c = omega (arith, fits (c .before .before))
 
 array-read-wide : tie.Need-array-read-wide Inv-loop μ-loop
-array-read-wide c = omega (arith, fits (c .before))
+array-read-wide c = omega (arith, fits (c .before .before))
 
 wide-requires-2 : tie.Need-wide-requires-2 Inv-loop μ-loop
 wide-requires-2 c κs = search needs
 
 trace-steal-requires : tie.Need-trace-steal-requires Inv-loop μ-loop
 trace-steal-requires c κs =
-    let o = c .before .before .before .before in
+    let o = c .before .before .before .before .before in
     let room = fits o in
     let step = c .before .before .wide2 in (
       rw (o .before .before .wide .ensures) (room .0),
@@ -201,11 +193,11 @@ trace-steal-requires c κs =
     )
 
 loop-less-2 : tie.Need-loop-less-2 Inv-loop μ-loop
-loop-less-2 c = omega (arith, turn (stole (c .before .before .before .before .before .before .before)) .more)
+loop-less-2 c = omega (arith, turn (stole (c .before .before .before .before .before .before .before .before)) .more)
 
 loop-again-2 : tie.Need-loop-again-2 Inv-loop μ-loop
 loop-again-2 c =
-    let o = c .before .before .before .before .before .before .before in
+    let o = c .before .before .before .before .before .before .before .before in
     let t = turn (stole o) in
     let step = c .before .before .before .before .before .wide2 in
     let traced = c .before .before .trace-steal .ensures in (
@@ -217,7 +209,7 @@ loop-again-2 c =
 enum-known-outcome-3 : tie.Need-enum-known-outcome-3 Inv-loop μ-loop
 enum-known-outcome-3 c = search needs
 
--- It is refused.
+-- The event is refused.
 abbrev refused : tie.After-known-told3 Inv-loop μ-loop → tie.After-event-on Inv-loop μ-loop
 refused c = c .before .before .before .before
 
@@ -242,7 +234,7 @@ same-length-4 c = lent-trace (c .before .before)
 returns-2 : tie.Need-returns-2 Inv-loop μ-loop
 returns-2 c =
     let at = c .before .before in
-    rw (c .wide3 .ensures) (turn-done (entry at .pre .0) (at .loop .inv .1) (at .loop .inv .0) (c .before .loop-test .left))
+    rw (c .wide3 .ensures) (turn-done (entry at .pre .0) (at .loop .inv .1) (c .before .loop-test .left))
 
 pub walk-spec : {M : Type 1} → statement M
 walk-spec =
@@ -257,11 +249,7 @@ walk-spec =
     array-write-loads
     loop-holds
     add-k
-    mul-first
-    shared-slice-read-first
-    mul-second
-    add-second
-    shared-slice-read-second
+    event-at-requires
     event-on-requires
     wide-requires
     enum-known-outcome

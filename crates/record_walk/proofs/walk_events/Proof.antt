@@ -1,4 +1,4 @@
--- `walks::walk_events` meets its contract: of the arrays that the tables fill, the walk is lent the part that the tree has steps for.
+-- `record_walk::walk_events` meets its contract: of the arrays that the tables fill, the walk is lent the part that the tree has steps for.
 -- Assumes nothing.
 use Prim.Native.Nat.{ℕ, _≤_, _<_}
 use mathlib.Core.Path.{_≡_, sym}

@@ -7,15 +7,15 @@ use mathlib.Core.List.{List, [], _∷_, flatten}
 use mathlib.Core.Option.{some}
 use native.Mathlib.Numerals.{add-one}
 use native.Mathlib.Omega.{arith}
-use lib.ListN.{length, take, drop, getD, set, replicate, length-append}
+use lib.ListN.{length, drop, getD, set, replicate, length-append}
 use lib.Dec.{eqb}
 use borrow.Author.Tests.{eqb-true, eqb-false}
 use Rattle.rules.specs.Bytes.{records, Verdict, accepted, sum, Walked, walk}
-use Rattle.rules.specs.Tree.{kinds, weights}
+use Rattle.rules.specs.Tree.{mostSteps, kinds, weights}
 use Rattle.rules.specs.Scheduling.{mostWorkers, phaseAt, Worker, Run, start, workerAt, isRun, holdsStep, oldest, steal}
 use Rattle.rules.specs.Scheduling.{judgeEvent, nextRun}
 use Rattle.rules.specs.Traces.{traceNumber, traceBytes, entryBytes, loads}
-use Rattle.rules.specs.Calls.{startVerdict, eventCall, recordWalk}
+use Rattle.rules.specs.Calls.{mostTraceRecords, startVerdict, eventCall, recordWalk}
 use Rattle.tree.specs.declared.Phase.{Phase}
 use Rattle.tree.specs.declared.Step.{Step}
 use Rattle.tree.specs.Laws.Records.{length-records, field-at}
@@ -34,29 +34,25 @@ use Rattle.run_spec.specs.declared.Outcome.{Outcome}
 use Rattle.run_spec.specs.declared.Outcome.the-variants.{Ran, Stole, Refused}
 use Rattle.run_spec.specs.Numbers.{numberValue}
 use Rattle.run_spec.specs.Moves.{Fields, fresh, eventMove}
-use Rattle.record_walk.specs.declared.Ended.{Ended}
 use Rattle.run_refinement.specs.Tie.{Shows, heldStep, told}
 use Rattle.run_refinement.specs.Laws.Follows.{number-traced}
 use Rattle.run_refinement.specs.Laws.Moves.{Known, held-some}
 use Rattle.run_refinement.specs.Laws.Events.{start-shows, event-tells, event-shows}
 use Rattle.buffers.specs.Terms.{recordPut}
-use Rattle.loads.specs.Terms.{loadMoved}
 use Rattle.buffers.specs.Laws.Records.{length-entries, entries-one, length-trace, trace-one, put-length, put-front}
-use Rattle.loads.specs.Terms.{Movable}
+use Rattle.loads.specs.Terms.{Movable, loadMoved}
 use Rattle.loads.specs.Laws.Loads.{partWeight, start-loads, Takes, begin-loads, begin-whole, begin-movable}
+use Rattle.record_walk.specs.Terms.{Front}
 
--- The bytes stand at the front of an array.
-abbrev pub Front : List ℕ → List ℕ → Type 0
-Front bytes buffer = take (length bytes) buffer ≡ bytes
-
+-- After the first k events, none of them refused: the rules' run and the state that shows it, and log, trace and loads so far.
 pub record Recording (p : ℕ) (tree events : List ℕ) (k : ℕ) (s : Fields) (log trace ls : List ℕ) (logs steals : ℕ) : Type 0 where
   pub run : Run
   pub walked : recordWalk mostWorkers p (kinds tree) (records 2 events)
       ≡ walk (judgeEvent (kinds tree)) (nextRun p (kinds tree)) k run (drop k (records 2 events))
   pub invariant : Invariant p (kinds tree) run
   pub shows : Shows p (kinds tree) s run
-  pub logRoom : length log ≡ 16380
-  pub traceRoom : length trace ≡ 8188
+  pub logRoom : length log ≡ 4 * mostSteps
+  pub traceRoom : length trace ≡ 4 * mostTraceRecords
   pub logCount : logs ≡ length (run .log)
   pub stealCount : steals ≡ length (run .steals)
   pub logged : Front (entryBytes (run .log)) log
@@ -74,7 +70,7 @@ record Runs (p : ℕ) (ks : List ℕ) (r : Run) (e : List ℕ) (a phase step : �
   latest : phase ≡ workerAt r a .phase
   next : nextRun p ks r e ≡ ranBy p ks r a step
 
--- It is a steal, by worker a from b, and `number` goes into its trace record.
+-- By the rules the event e of the run r is a steal, by worker a from b, and `number` goes into its trace record.
 record Steals (p : ℕ) (ks : List ℕ) (r : Run) (e : List ℕ) (a b number : ℕ) : Type 0 where
   fine : judgeEvent ks r e ≡ 0
   small : a < length (r .workers)
@@ -160,7 +156,7 @@ module _ (p : ℕ) (tree events : List ℕ) (accepts : startVerdict p tree .numb
   known : (s : Fields) (r : Run) → Invariant p (kinds tree) r → Shows p (kinds tree) s r → Known p (kinds tree) s r
   known s r inv shows = record { some-step = frame .some; most = frame .most; shape = frame .shape; inv = inv; shows = shows }
 
-  pub recording-start : (log trace : List ℕ) → length log ≡ 16380 → length trace ≡ 8188
+  pub recording-start : (log trace : List ℕ) → length log ≡ 4 * mostSteps → length trace ≡ 4 * mostTraceRecords
       → Recording p tree events 0 (fresh p) log trace
       (set (replicate mostWorkers 0) 0 (weightBefore (weights tree) (length (kinds tree)))) 0 0
   unfolding recordWalk start entryBytes traceBytes flatten sum
@@ -180,7 +176,7 @@ module _ (p : ℕ) (tree events : List ℕ) (accepts : startVerdict p tree .numb
         whole = omega arith;
       }
 
-  module _ (k : ℕ) (s : Fields) (log trace ls : List ℕ) (logs steals : ℕ) (so : Recording p tree events k s log trace ls logs steals) where
+  module _ {k : ℕ} {s : Fields} {log trace ls : List ℕ} {logs steals : ℕ} (so : Recording p tree events k s log trace ls logs steals) where
     -- All events are done.
     pub recording-done : length events / 2 ≤ k
         → recordWalk mostWorkers p (kinds tree) (records 2 events) ≡ record { verdict = accepted; state = so .run }
@@ -189,7 +185,7 @@ module _ (p : ℕ) (tree events : List ℕ) (accepts : startVerdict p tree .numb
         ∙ walk-end (judgeEvent (kinds tree)) (nextRun p (kinds tree)) (records 2 events) [] k (so .run) (rw (length-records 2 events) h)
 
     -- The next event has bytes a and b.
-    module _ (more : k < length events / 2) (a b : ℕ) (first : a ≡ getD events (2 * k) 0) (second : b ≡ getD events (2 * k + 1) 0) where
+    module _ (more : k < length events / 2) {a b : ℕ} (first : a ≡ getD events (2 * k) 0) (second : b ≡ getD events (2 * k + 1) 0) where
       abbrev event : List ℕ
       event = getD (records 2 events) k []
 
@@ -205,24 +201,24 @@ module _ (p : ℕ) (tree events : List ℕ) (accepts : startVerdict p tree .numb
       tells : eventMove s tree a b .outcome ≡ told p (kinds tree) (so .run) event
       tells = rw (first-byte, second-byte) at (event-tells p tree frame s (so .run) (so .invariant) (so .shows) event)
 
-      -- It is refused.
+      -- The event is refused.
       pub event-refused : (x : ℕ) → eventMove s tree a b .outcome ≡ Refused x
           → (_≡_ {A = Verdict} (record { number = x; position = k }) (recordWalk mostWorkers p (kinds tree) (records 2 events) .verdict))
           × (x ≡ 0 → ⊥)
       event-refused x e =
           let by = told-refusal p (kinds tree) (so .run) event x (sym tells ∙ e) in
-          let stop =
-          walk-stop (judgeEvent (kinds tree)) (nextRun p (kinds tree)) (records 2 events) [] k (so .run) (rw (length-records 2 events) more) (by .0)
-          in
+          let left : k < length (records 2 events) = rw (length-records 2 events) more in
+          let stop = walk-stop (judgeEvent (kinds tree)) (nextRun p (kinds tree)) (records 2 events) [] k (so .run) left (by .0) in
           (sym (ap (λ (w : Walked Run). w .verdict) (so .walked ∙ stop) ∙ rw (by .1) refl), λ z. by .0 (by .1 ∙ z))
 
-      -- It is accepted and leads to the run `next`.
+      -- The event is accepted and leads to the run `next`.
       module _ (fine : judgeEvent (kinds tree) (so .run) event ≡ 0) (next : Run) (to : nextRun p (kinds tree) (so .run) event ≡ next) where
         next-walked : recordWalk mostWorkers p (kinds tree) (records 2 events)
             ≡ walk (judgeEvent (kinds tree)) (nextRun p (kinds tree)) (k + 1) next (drop (k + 1) (records 2 events))
         next-walked =
+            let left : k < length (records 2 events) = rw (length-records 2 events) more in
             so .walked
-            ∙ walk-on (judgeEvent (kinds tree)) (nextRun p (kinds tree)) (records 2 events) [] k (so .run) (rw (length-records 2 events) more) fine
+            ∙ walk-on (judgeEvent (kinds tree)) (nextRun p (kinds tree)) (records 2 events) [] k (so .run) left fine
             ∙ rw (to, add-one k) refl
 
         called : eventCall p (kinds tree) (so .run) event .state ≡ next
@@ -235,7 +231,7 @@ module _ (p : ℕ) (tree events : List ℕ) (accepts : startVerdict p tree .numb
             (rw called at (event-keeps p (kinds tree) (frame .some) (frame .shape) (so .run) (so .invariant) event))
             (rw (called, first-byte, second-byte) at (event-shows p tree frame s (so .run) (so .invariant) (so .shows) event))
 
-      -- It runs a step.
+      -- The event runs a step.
       module _ (phase step : ℕ) (ran : eventMove s tree a b .outcome ≡ Ran (record { 0 = phase }) (record { 0 = step })) where
         runs : Runs p (kinds tree) (so .run) event a phase step
         runs = rw first-byte at (told-run p (kinds tree) (so .run) event phase step (sym tells ∙ ran))
@@ -276,7 +272,7 @@ module _ (p : ℕ) (tree events : List ℕ) (accepts : startVerdict p tree .numb
               whole = so .whole;
             }
 
-      -- It steals one, which the thief then holds.
+      -- The event steals a step, which the thief then holds.
       module _ (number : TraceNumber) (stole : eventMove s tree a b .outcome ≡ Stole number) (step : ℕ)
           (held : step ≡ getD (eventMove s tree a b .after .held) a 0) where
         theft : Steals p (kinds tree) (so .run) event a b (numberValue number)
@@ -398,11 +394,3 @@ module _ (p : ℕ) (tree events : List ℕ) (accepts : startVerdict p tree .numb
               loaded = stole-loads;
               whole = rw stole-loads stole-whole;
             }
-
--- ---- the whole walk
-
--- What the walk comes to: the rules' verdict and, where that accepts, all of the rules' run.
-pub record Walks (p : ℕ) (tree events : List ℕ) (w : Ended) (log trace : List ℕ) : Type 0 where
-  pub verdict : _≡_ {A = Verdict} (record { number = w .number; position = w .position })
-      (recordWalk mostWorkers p (kinds tree) (records 2 events) .verdict)
-  pub recorded : w .number ≡ 0 → (s : Fields) × Recording p tree events (length events / 2) s log trace (w .loads) (w .logs) (w .steals)

@@ -4,10 +4,10 @@ use mathlib.Core.Path.{_≡_, refl, sym, ap, subst, _∙_}
 use mathlib.Core.List.{List}
 use native.Mathlib.Omega.{arith}
 use lib.ListN.{length, getD, set, replicate}
-use Rattle.rules.specs.Bytes.{accepted, Walked}
-use Rattle.rules.specs.Tree.{kinds, weights}
-use Rattle.rules.specs.Scheduling.{Run}
-use Rattle.rules.specs.Calls.{startVerdict}
+use Rattle.rules.specs.Bytes.{Verdict, accepted, Walked}
+use Rattle.rules.specs.Tree.{mostSteps, kinds, weights}
+use Rattle.rules.specs.Scheduling.{mostWorkers, Run}
+use Rattle.rules.specs.Calls.{mostTraceRecords, startVerdict}
 use Rattle.tree_tables.specs.Terms.{Ends, Sums, weightBefore}
 use Rattle.run_spec.specs.declared.TraceNumber.{TraceNumber}
 use Rattle.run_spec.specs.declared.Outcome.{Outcome}
@@ -15,13 +15,14 @@ use Rattle.run_spec.specs.declared.Outcome.the-variants.{Ran, Stole, Refused}
 use Rattle.run_spec.specs.Numbers.{numberValue}
 use Rattle.run_spec.specs.Moves.{Fields, Move, fieldsOf, moveOf, fresh, eventMove}
 use Rattle.buffers.specs.Terms.{recordPut}
-use Rattle.loads.specs.Terms.{loadMoved}
 use Rattle.tree.specs.declared.Phase.{Phase}
 use Rattle.tree.specs.declared.Step.{Step}
-use Rattle.loads.specs.Terms.{weightBetween, Movable}
+use Rattle.loads.specs.Terms.{weightBetween, Movable, loadMoved}
 use Rattle.loads.specs.Laws.Loads.{part-between}
 use Rattle.tree_tables.specs.Laws.Fronts.{start-frame}
-use Rattle.record_walk.specs.Laws.Recording.{Recording, Walks, recording-start, recording-done, event-refused, ran-room}
+use Rattle.record_walk.specs.declared.Ended.{Ended}
+use Rattle.record_walk.specs.Terms.{Reached, Walks}
+use Rattle.record_walk.specs.Laws.Recording.{Recording, recording-start, recording-done, event-refused, ran-room}
 use Rattle.record_walk.specs.Laws.Recording.{ran-next, stole-room, stole-weight, stole-next}
 
 -- What holds of a state holds of an equal one, and the count of steals is the state's.
@@ -33,31 +34,44 @@ at-state {p} {tree} {events} {k} {s} {log} {trace} {ls} {logs} after e so =
 
 -- The arrays that the walk begins with are those of a start.
 pub fresh-arrays : (p : ℕ)
-    → fieldsOf (replicate 4095 17) (set (replicate 16 65535) 0 0) (replicate 16 0) (replicate 16 0) (replicate 16 0) 0 p ≡ fresh p
+    → (let none : List ℕ = replicate mostWorkers 0 in
+    fieldsOf (replicate mostSteps 17) (set (replicate mostWorkers 65535) 0 0) none none none 0 p ≡ fresh p)
 unfolding fresh
 fresh-arrays p = refl
 
--- The start: all weight is worker 0's.
+-- The loop begins with all weight in worker 0's load.
 pub turn-start : (p : ℕ) (tree events : List ℕ) → startVerdict p tree .number ≡ 0
     → (sums : List ℕ) → Sums (weights tree) sums (length (kinds tree)) → (n : ℕ) → n ≡ length (kinds tree)
-    → (log trace : List ℕ) → length log ≡ 16380 → length trace ≡ 8188
-    → (s : Fields) → s ≡ fresh p → (ls : List ℕ) → ls ≡ set (replicate 16 0) 0 (getD sums n 0)
+    → (log trace : List ℕ) → length log ≡ 4 * mostSteps → length trace ≡ 4 * mostTraceRecords
+    → (s : Fields) → s ≡ fresh p → (ls : List ℕ) → ls ≡ set (replicate mostWorkers 0) 0 (getD sums n 0)
     → Recording p tree events 0 s log trace ls 0 (s .steals)
 turn-start p tree events accepts sums right n m log trace h l s e ls f =
     rw (f, m, right (length (kinds tree)) (omega arith))
     (at-state s (sym e) (recording-start p tree events accepts log trace h l))
 
--- The end.
+-- All events are done.
 pub turn-done : {p : ℕ} {tree events : List ℕ} {k : ℕ} {s : Fields} {log trace ls : List ℕ} {logs : ℕ}
     → startVerdict p tree .number ≡ 0 → Recording p tree events k s log trace ls logs (s .steals)
-    → k ≤ length events / 2 → length events / 2 ≤ k
+    → length events / 2 ≤ k
     → Walks p tree events (record { number = 0; position = 0; logs = logs; steals = s .steals; loads = ls }) log trace
 unfolding accepted
-turn-done {p} {tree} {events} {k} {s} {log} {trace} {ls} {logs} accepts so h l =
-    let all : k ≡ length events / 2 = omega arith in
+turn-done {p} {tree} {events} {k} {s} {log} {trace} {ls} {logs} accepts so l =
+    let done = recording-done p tree events accepts so l in
+    let ended : Ended = record { number = 0; position = 0; logs = logs; steals = s .steals; loads = ls } in
+    let reached : Reached p tree (so .run) ended log trace =
     record {
-      verdict = sym (ap (λ (w : Walked Run). w .verdict) (recording-done p tree events accepts k s log trace ls logs (s .steals) so l));
-      recorded = λ z. (s, rw all at so);
+      invariant = so .invariant;
+      logs = so .logCount;
+      steals = so .stealCount;
+      loaded = so .loaded;
+      logged = so .logged;
+      traced = so .traced;
+    }
+    in
+    record {
+      number = sym (ap (λ (w : Walked Run). w .verdict .number) done);
+      position = sym (ap (λ (w : Walked Run). w .verdict .position) done);
+      reached = λ z. subst (λ (x : Run). Reached p tree x ended log trace) (sym (ap (λ (w : Walked Run). w .state) done)) reached;
     }
 
 -- Event k, of bytes a and b, with outcome o and the state after it.
@@ -86,19 +100,23 @@ module _ {p : ℕ} {tree events : List ℕ} {k : ℕ} {s : Fields} {log trace ls
   state : eventMove s tree a b .after ≡ after
   state = sym (ap (λ (x : Move). x .after) (turn .moved))
 
-  -- It is refused.
+  -- The event is refused.
   pub turn-refused : (x : ℕ) → o ≡ Refused x → (loads : List ℕ) (mine yours : List ℕ)
       → Walks p tree events (record { number = x; position = k; logs = 0; steals = 0; loads = loads }) mine yours
   turn-refused x e loads mine yours =
-      let by = event-refused p tree events (turn .accepts) k s log trace ls logs (s .steals) (turn .so) (turn .more) a b (turn .first) (turn .second) x (outcome ∙ e) in
-      record { verdict = by .0; recorded = λ z. absurd (by .1 z) }
+      let by = event-refused p tree events (turn .accepts) (turn .so) (turn .more) (turn .first) (turn .second) x (outcome ∙ e) in
+      record {
+        number = ap (λ (v : Verdict). v .number) (by .0);
+        position = ap (λ (v : Verdict). v .position) (by .0);
+        reached = λ z. absurd (by .1 z);
+      }
 
-  -- It has run a step.
+  -- The event has run a step.
   module _ {phase : Phase} {step : Step} (ran : o ≡ Ran phase step) where
-    pub ran-fits : (4 * logs + 4 ≤ length log) × (logs < 4095)
+    pub ran-fits : (4 * logs + 4 ≤ length log) × (logs < mostSteps)
     ran-fits =
         let most = start-frame p tree (turn .accepts) .most in
-        let room = ran-room p tree events (turn .accepts) k s log trace ls logs (s .steals) (turn .so) (turn .more) a b (turn .first) (turn .second) (phase .0) (step .0) (outcome ∙ ran) in
+        let room = ran-room p tree events (turn .accepts) (turn .so) (turn .more) (turn .first) (turn .second) (phase .0) (step .0) (outcome ∙ ran) in
         (omega (arith, room, turn .so .logRoom, most), omega (arith, room, most))
 
     pub ran-turn : (longer : List ℕ) → longer ≡ recordPut log logs (phase .0 % 256) (phase .0 / 256 % 256) (step .0)
@@ -106,17 +124,17 @@ module _ {p : ℕ} {tree events : List ℕ} {k : ℕ} {s : Fields} {log trace ls
     ran-turn longer e =
         rw e
         (at-state after state
-        (ran-next p tree events (turn .accepts) k s log trace ls logs (s .steals) (turn .so) (turn .more) a b (turn .first) (turn .second) (phase .0) (step .0) (outcome ∙ ran)))
+        (ran-next p tree events (turn .accepts) (turn .so) (turn .more) (turn .first) (turn .second) (phase .0) (step .0) (outcome ∙ ran)))
 
-  -- It has stolen one, which the thief holds now.
+  -- The event has stolen a step, which the thief holds now.
   module _ {number : TraceNumber} (stole : o ≡ Stole number) (step : ℕ) (held : step ≡ getD (after .held) a 0) where
     taken : step ≡ getD (eventMove s tree a b .after .held) a 0
     taken = held ∙ ap (λ (x : Fields). getD (x .held) a 0) (sym state)
 
-    room : (a < 16) × (b < 16) × (a ≡ b → ⊥) × (2 * s .steals + 2 < length (kinds tree)) × (step < length (kinds tree))
-    room = stole-room p tree events (turn .accepts) k s log trace ls logs (s .steals) (turn .so) (turn .more) a b (turn .first) (turn .second) number (outcome ∙ stole) step taken
+    room : (a < mostWorkers) × (b < mostWorkers) × (a ≡ b → ⊥) × (2 * s .steals + 2 < length (kinds tree)) × (step < length (kinds tree))
+    room = stole-room p tree events (turn .accepts) (turn .so) (turn .more) (turn .first) (turn .second) number (outcome ∙ stole) step taken
 
-    pub stole-fits : (4 * s .steals + 4 ≤ length trace) × (a < 16) × (b < 16) × (a ≡ b → ⊥)
+    pub stole-fits : (4 * s .steals + 4 ≤ length trace) × (a < mostWorkers) × (b < mostWorkers) × (a ≡ b → ⊥)
     stole-fits =
         (omega (arith, room, turn .so .traceRoom, start-frame p tree (turn .accepts) .most), room .0, room .1, room .2)
 
@@ -126,7 +144,7 @@ module _ {p : ℕ} {tree events : List ℕ} {k : ℕ} {s : Fields} {log trace ls
 
       pub stole-movable : Movable ends sums ls a b step
       stole-movable =
-          stole-weight p tree events (turn .accepts) k s log trace ls logs (s .steals) (turn .so) (turn .more) a b (turn .first) (turn .second) number (outcome ∙ stole) step taken
+          stole-weight p tree events (turn .accepts) (turn .so) (turn .more) (turn .first) (turn .second) number (outcome ∙ stole) step taken
           ends sums (omega (arith, weighed .sized)) filled (weighed .longer) (weighed .added) (weighed .light)
 
       pub stole-turn : (further : List ℕ) → further ≡ recordPut trace (s .steals) a b (numberValue number)
@@ -136,4 +154,4 @@ module _ {p : ℕ} {tree events : List ℕ} {k : ℕ} {s : Fields} {log trace ls
           let frame = start-frame p tree (turn .accepts) in
           rw (e, f, part-between (kinds tree) (weights tree) (frame .shape) ends sums filled (weighed .added) step (room .4))
           (at-state after state
-          (stole-next p tree events (turn .accepts) k s log trace ls logs (s .steals) (turn .so) (turn .more) a b (turn .first) (turn .second) number (outcome ∙ stole) step taken))
+          (stole-next p tree events (turn .accepts) (turn .so) (turn .more) (turn .first) (turn .second) number (outcome ∙ stole) step taken))

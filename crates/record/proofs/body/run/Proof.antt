@@ -1,8 +1,9 @@
--- `copies::run` meets its contract: a law for each return. Assumes nothing.
+-- `record::body::run` meets its contract: the walk leaves its log and trace at the front of the call's own arrays, and they have room in
+-- the lent ones; after a refusal nothing is copied. Assumes nothing.
 use native.Mathlib.Omega.{arith}
 use mathlib.Core.Path.{refl}
 use borrow.Author.Needs.{needs}
-use Rattle.record_walk.specs.Laws.Recording.{Walks}
+use Rattle.record_walk.specs.Terms.{Walks}
 use Rattle.record.specs.Body.Laws.Results.{lost-outcome, bytes-most, log-room, trace-room, done-outcome}
 use Rattle.record.proofs.body.run.Statement.{statement}
 use Rattle.record.proofs.body.run.Tie as tie

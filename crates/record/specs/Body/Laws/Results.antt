@@ -1,5 +1,5 @@
--- Each return of the code: from what the walk over the events comes to, what the call does.
-use Prim.Native.Nat.{ℕ, _-_, _*_, _/_, _≤_}
+-- The returns of an admitted recording: from what the walk over the events comes to, what the call answers and leaves.
+use Prim.Native.Nat.{ℕ, _-_, _*_, _≤_}
 use mathlib.Core.Path.{_≡_, refl, sym, ap, _∙_}
 use mathlib.Core.Bool.{Bool, true, false, true≢false}
 use mathlib.Core.List.{List}
@@ -8,18 +8,17 @@ use native.Mathlib.Omega.{arith}
 use lib.ListN.{length, take}
 use lib.Dec.{ltb}
 use borrow.Author.Tests.{lt-ltb, le-ltb}
-use Rattle.rules.specs.Bytes.{records, Verdict, Walked}
-use Rattle.rules.specs.Tree.{kinds}
+use Rattle.rules.specs.Bytes.{records}
+use Rattle.rules.specs.Tree.{mostSteps, kinds}
 use Rattle.rules.specs.Scheduling.{mostWorkers, Run}
 use Rattle.rules.specs.Traces.{traceBytes, entryBytes}
-use Rattle.rules.specs.Calls.{written, recordWalk, finished}
+use Rattle.rules.specs.Calls.{mostTraceRecords, written, recordWalk, finished}
 use Rattle.tree_scan.specs.Laws.Starts.{start-tree-accepts}
 use Rattle.tree_scan.specs.Laws.Frames.{Frame, accepted-frame}
-use Rattle.run_spec.specs.Moves.{Fields}
 use Rattle.run_invariant.specs.Laws.Consequences.{runs-most, steals-most, finished-runs, runs-finished}
 use Rattle.buffers.specs.Laws.Records.{length-entries, length-trace}
 use Rattle.record_walk.specs.declared.Ended.{Ended}
-use Rattle.record_walk.specs.Laws.Recording.{Recording, recording-done, Walks}
+use Rattle.record_walk.specs.Terms.{Reached, Walks}
 use Rattle.record.specs.Body.Terms.{Admitted, Told, Outcome}
 
 module _ {p : ℕ} {tree events log trace : List ℕ} {w : Ended} {own-log own-trace : List ℕ}
@@ -28,8 +27,8 @@ module _ {p : ℕ} {tree events log trace : List ℕ} {w : Ended} {own-log own-t
   pub lost-outcome : (w .number ≡ 0 → ⊥) → Outcome p tree events log trace w log trace
   lost-outcome n =
       record {
-        number = ap (λ (v : Verdict). v .number) (walks .verdict);
-        position = ap (λ (v : Verdict). v .position) (walks .verdict);
+        number = walks .number;
+        position = walks .position;
         same = λ z. (refl, refl);
         told = λ z. absurd (n z);
       }
@@ -39,25 +38,22 @@ module _ {p : ℕ} {tree events log trace : List ℕ} {w : Ended} {own-log own-t
     frame : Frame tree
     frame = accepted-frame tree (start-tree-accepts p tree (ready .started))
 
-    abbrev ended : Fields
-    ended = walks .recorded none .0
+    -- The run that the walk has come to.
+    abbrev run : Run
+    run = recordWalk mostWorkers p (kinds tree) (records 2 events) .state
 
-    so : Recording p tree events (length events / 2) ended own-log own-trace (w .loads) (w .logs) (w .steals)
-    so = walks .recorded none .1
-
-    -- The run of the walk's end is the rules'.
-    same : so .run ≡ recordWalk mostWorkers p (kinds tree) (records 2 events) .state
-    same = sym (ap (λ (x : Walked Run). x .state) (recording-done p tree events (ready .started) _ _ _ _ _ _ _ so (omega arith)))
+    so : Reached p tree run w own-log own-trace
+    so = walks .reached none
 
     -- The records fit: the log's for each step, the trace's for each spawned task.
     logs-fit : w .logs ≤ length (kinds tree)
-    logs-fit = omega (arith, so .logCount, runs-most p (kinds tree) (frame .some) (frame .shape) (so .run) (so .invariant))
+    logs-fit = omega (arith, so .logs, runs-most p (kinds tree) (frame .some) (frame .shape) run (so .invariant))
 
     steals-fit : 4 * w .steals ≤ 2 * (length (kinds tree) - 1)
-    steals-fit = omega (arith, so .stealCount, steals-most p (kinds tree) (frame .some) (frame .shape) (so .run) (so .invariant))
+    steals-fit = omega (arith, so .steals, steals-most p (kinds tree) (frame .some) (frame .shape) run (so .invariant))
 
     -- So the numbers of their bytes are small,
-    pub bytes-most : (4 * w .logs ≤ 16380) × (4 * w .steals ≤ 8188)
+    pub bytes-most : (4 * w .logs ≤ 4 * mostSteps) × (4 * w .steals ≤ 4 * mostTraceRecords)
     bytes-most = (omega (arith, logs-fit, frame .most), omega (arith, steals-fit, frame .most))
 
     -- and they have room in the lent buffers.
@@ -68,32 +64,32 @@ module _ {p : ℕ} {tree events log trace : List ℕ} {w : Ended} {own-log own-t
     trace-room = omega (arith, steals-fit, ready .trace-fits)
 
     -- Every step has run exactly when more than n - 1 have.
-    all-run : ltb (length (kinds tree) - 1) (w .logs) ≡ finished (kinds tree) (so .run)
-    all-run = by (finished (kinds tree) (so .run)) refl
+    all-run : ltb (length (kinds tree) - 1) (w .logs) ≡ finished (kinds tree) run
+    all-run = by (finished (kinds tree) run) refl
       where
-        by : (b : Bool) → finished (kinds tree) (so .run) ≡ b → ltb (length (kinds tree) - 1) (w .logs) ≡ b
+        by : (b : Bool) → finished (kinds tree) run ≡ b → ltb (length (kinds tree) - 1) (w .logs) ≡ b
         by true e =
             lt-ltb (length (kinds tree) - 1) (w .logs)
-            (omega (arith, frame .some, so .logCount, finished-runs p (kinds tree) (frame .some) (frame .shape) (so .run) (so .invariant) e))
+            (omega (arith, frame .some, so .logs, finished-runs p (kinds tree) (frame .some) (frame .shape) run (so .invariant) e))
         by false e =
             le-ltb (length (kinds tree) - 1) (w .logs)
             (elim (ℕ-discrete (w .logs) (length (kinds tree))) [
               | yes f ↦ absurd
                   (true≢false
-                  (sym (runs-finished p (kinds tree) (frame .some) (frame .shape) (so .run) (so .invariant) (sym (so .logCount) ∙ f)) ∙ e))
+                  (sym (runs-finished p (kinds tree) (frame .some) (frame .shape) run (so .invariant) (sym (so .logs) ∙ f)) ∙ e))
               | no n ↦ omega (arith, logs-fit)
             ])
 
     module _ (log-out trace-out : List ℕ) (logged : log-out ≡ written (take (4 * w .logs) own-log) log)
         (traced : trace-out ≡ written (take (4 * w .steals) own-trace) trace) where
-      run-told : Told p tree (so .run) log trace w log-out trace-out
+      run-told : Told p tree run log trace w log-out trace-out
       run-told =
-          let log-bytes : 4 * w .logs ≡ length (entryBytes (so .run .log)) = omega (arith, so .logCount, length-entries (so .run .log)) in
-          let trace-bytes : 4 * w .steals ≡ length (traceBytes p (kinds tree) (so .run .steals)) =
-          omega (arith, so .stealCount, length-trace p (kinds tree) (so .run .steals)) in
+          let log-bytes : 4 * w .logs ≡ length (entryBytes (run .log)) = omega (arith, so .logs, length-entries (run .log)) in
+          let trace-bytes : 4 * w .steals ≡ length (traceBytes p (kinds tree) (run .steals)) =
+          omega (arith, so .steals, length-trace p (kinds tree) (run .steals)) in
           record {
-            logs = so .logCount;
-            steals = so .stealCount;
+            logs = so .logs;
+            steals = so .steals;
             finished = all-run;
             loaded = so .loaded;
             logged = logged ∙ ap (λ (x : List ℕ). written x log) (ap (λ (m : ℕ). take m own-log) log-bytes ∙ so .logged);
@@ -103,8 +99,8 @@ module _ {p : ℕ} {tree events log trace : List ℕ} {w : Ended} {own-log own-t
       pub done-outcome : Outcome p tree events log trace w log-out trace-out
       done-outcome =
           record {
-            number = ap (λ (v : Verdict). v .number) (walks .verdict);
-            position = ap (λ (v : Verdict). v .position) (walks .verdict);
+            number = walks .number;
+            position = walks .position;
             same = λ n. absurd (n none);
-            told = λ z. rw same at run-told;
+            told = λ z. run-told;
           }

@@ -1,4 +1,5 @@
--- `turns::log_run` meets its contract: it stores the record's four bytes. Assumes nothing.
+-- `record_walk::output::log_run` meets its contract: it stores the record of four bytes, the phase's two bytes before the step's.
+-- Assumes nothing.
 use borrow.Author.Needs.{needs}
 use Rattle.record_walk.proofs.output.log_run.Statement.{statement}
 use Rattle.record_walk.proofs.output.log_run.Tie as tie

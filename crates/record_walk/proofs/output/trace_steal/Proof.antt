@@ -1,4 +1,5 @@
--- `turns::trace_steal` meets its contract: a record is stored, and a weight moves that its caller says can. Assumes nothing.
+-- `record_walk::output::trace_steal` meets its contract: it stores the steal's record, and moves the weight that its caller says can
+-- move. Assumes nothing.
 use borrow.Author.Needs.{needs}
 use Rattle.record_walk.proofs.output.trace_steal.Statement.{statement}
 use Rattle.record_walk.proofs.output.trace_steal.Tie as tie
@@ -9,6 +10,12 @@ encode-number-requires c κs = search needs
 put-record-requires : tie.Need-put-record-requires
 put-record-requires c κs = search needs
 
+cast-move-part : tie.Need-cast-move-part
+cast-move-part c = search needs
+
+cast-move-part-2 : tie.Need-cast-move-part-2
+cast-move-part-2 c = search needs
+
 move-part-requires : tie.Need-move-part-requires
 move-part-requires c κs = search needs
 
@@ -18,7 +25,7 @@ same-length c = search needs
 returns : tie.Need-returns
 returns c =
     let put = c .before .before .before .before in
-    (rw (← put .before .encode-number .ensures) (put .put-record .ensures), c .move-part .ensures)
+    (rw (← put .before .before .encode-number .ensures) (put .put-record .ensures), c .move-part .ensures)
 
 pub trace-steal-spec : {M : Type 1} → statement M
 trace-steal-spec =
@@ -26,6 +33,8 @@ trace-steal-spec =
     (tie.spec
     encode-number-requires
     put-record-requires
+    cast-move-part
+    cast-move-part-2
     move-part-requires
     same-length
     returns)

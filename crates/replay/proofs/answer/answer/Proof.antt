@@ -1,29 +1,43 @@
--- `replayed::answer` meets its contract: a return where the walk is refused, and one where it is not. Assumes nothing.
-use mathlib.Core.Path.{refl, _∙_}
+-- `replay::answer::answer` meets its contract: the counts are told where the walk is not refused, and the totals are 0 beside a refusal.
+-- Assumes nothing.
+use mathlib.Core.Path.{_∙_}
 use borrow.Author.Needs.{needs}
 use borrow.Author.Tests.{eq-eqb, ne-eqb}
-use Rattle.replay.specs.Answer.Terms.{answered}
+use Rattle.loads.specs.Laws.Totals.{totals-refused, totals-accepted}
+use Rattle.replay.specs.Answer.Terms.{refusal, answered}
 use Rattle.replay.proofs.answer.answer.Statement.{statement}
 use Rattle.replay.proofs.answer.answer.Tie as tie
 
-refused-requires : tie.Need-refused-requires
-refused-requires c κs = search needs
+totals-of-requires : tie.Need-totals-of-requires
+totals-of-requires c κs = search needs
 
 returns : tie.Need-returns
-unfolding answered
-returns c = c .refused .ensures ∙ rw (ne-eqb (c .before .before .args .number) 0 (c .before .if1 .taken)) refl
-
-heaviest-requires : tie.Need-heaviest-requires
-heaviest-requires c κs = search needs
+unfolding answered refusal
+returns c =
+    let a = c .before .before .before .args in
+    let none = c .before .before .totals-of .ensures ∙ totals-refused (a .number) (a .loads) (c .if1 .taken) in
+    rw (ne-eqb (a .number) 0 (c .if1 .taken))
+    (λ k. record {
+      number = a .number;
+      position = a .position;
+      phases = 0;
+      loads = none k .loads;
+      heaviest = none k .heaviest;
+    })
 
 returns-2 : tie.Need-returns-2
 unfolding answered
 returns-2 c =
-    let one = c .before .before in
-    let a = one .before .args in
-    let loads = a .t4 in
-    rw (eq-eqb (a .number) 0 (one .if1 .left))
-    (λ k. record { number = 0; position = 0; phases = a .phases; loads = loads; heaviest = c .heaviest .ensures k })
+    let a = c .before .before .before .args in
+    let all = c .before .before .totals-of .ensures ∙ totals-accepted (a .number) (a .loads) (c .if1 .left) in
+    rw (eq-eqb (a .number) 0 (c .if1 .left))
+    (λ k. record {
+      number = 0;
+      position = 0;
+      phases = a .phases;
+      loads = all k .loads;
+      heaviest = all k .heaviest;
+    })
 
 pub answer-spec : {M : Type 1} → statement M
-answer-spec = tie.close (tie.spec refused-requires returns heaviest-requires returns-2)
+answer-spec = tie.close (tie.spec totals-of-requires returns returns-2)
