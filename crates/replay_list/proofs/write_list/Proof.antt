@@ -7,8 +7,8 @@ use lib.ListN.{length}
 use borrow.Author.Needs.{needs}
 use Rattle.rules.specs.Tree.{kinds}
 use Rattle.buffers.specs.Laws.Fronts.{front-length}
-use Rattle.replay_list.specs.Laws.Lists.{Listing, listing-start, listing-done, list-fits, phase-writable, count-fits}
-use Rattle.replay_list.specs.Laws.Lists.{phase-listed}
+use Rattle.replay_spec.specs.Laws.Lists.{Listing, listing-start, listing-done, list-fits, phase-writable, count-fits}
+use Rattle.replay_spec.specs.Laws.Lists.{phase-listed}
 use Rattle.replay_list.proofs.write_list.Statement.{statement}
 use Rattle.replay_list.proofs.write_list.Tie as tie
 

@@ -16,10 +16,10 @@ use Rattle.tree.specs.Laws.Counts.{count-snoc}
 use Rattle.tree_scan.specs.Laws.Frames.{Frame, accepted-frame}
 use Rattle.buffers.specs.Laws.Records.{length-entries}
 use Rattle.buffers.specs.Laws.Fronts.{partOf, withPart, Front, front-none, front-within, front-room, front-next}
 use Rattle.replay_spec.specs.Orders.{phaseOrder, inPhase, Writable}
 use Rattle.replay_spec.specs.Laws.Orders.{length-in-phase, order-labelled}
-use Rattle.replay_list.specs.Terms.{listed, Listable}
-use Rattle.replay_list.specs.Laws.Orders.{orders-fit}
+use Rattle.replay_spec.specs.Lists.{listed, Listable}
+use Rattle.replay_spec.specs.Laws.RunLists.{orders-fit}
 
 pub record Listing (p : ℕ) (ks labels firsts : List ℕ) (phases : ℕ) (before list stack : List ℕ) (k at : ℕ) : Type 0 where
   pub upto : k ≤ phases
