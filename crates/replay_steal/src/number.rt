@@ -58,8 +58,8 @@ fn async_or_after_finish(tree: &[u8], openers: &[u16], step: Step) -> bool
     }
 }
 
-// The step that a number names in a phase; `run_event::number` has the way from a step to its number. Work-first it is found from `base`, a step of the frontier task, whose ordinal is
-// given; help-first it is the number itself.
+// The step that a number names in a phase; `run_event::number` has the way from a step to its number. Work-first it is found
+// from `base`, a step of the frontier task, whose ordinal is given; help-first it is the number itself.
 pub fn decode_number(
     tree: &[u8],
     ends: &[u16],

@@ -40,7 +40,8 @@ module _ (p : ℕ) (tree trace list : List ℕ) where
           }
 
       -- The trace's records decide.
-      by-walk : replayVerdict mostWorkers p tree trace list ≡ firstRefused (replayWalk mostWorkers p (kinds tree) (records 4 trace) .verdict ∷ [])
+      by-walk : replayVerdict mostWorkers p tree trace list
+          ≡ firstRefused (replayWalk mostWorkers p (kinds tree) (records 4 trace) .verdict ∷ [])
       unfolding replayVerdict replayAdmitted
       by-walk = given-last (given p tree _ _ a is z) _
 

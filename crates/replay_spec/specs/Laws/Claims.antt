@@ -1,5 +1,5 @@
--- Labelling the free steps above a step, as a loop does it: an invariant with named parts, and a law for its start, for each
--- turn and for its end, in the terms of the code. And what taking a step comes to: a law for each way that it can go.
+-- Labelling the free steps above a step, as `replay_labels::claim` does it: what its loop holds at the start, after each turn
+-- and at the end. And what taking a step comes to, by the step's label.
 use Prim.Native.Nat.{ℕ, zero, suc, _≤_, _<_}
 use mathlib.Core.Path.{_≡_, refl, sym, ap, _∙_}
 use mathlib.Core.Bool.{false}

@@ -1,5 +1,5 @@
--- What the loop over the phases holds: the records of the phases so far stand at the front of the list. One law for the start,
--- for a turn, and for the end.
+-- What the loop of `replay_list::write_list` holds: the records of the phases so far stand at the front of the list. This is
+-- so at the start and after each turn, and at the end it is the run list.
 use Prim.Native.Nat.{ℕ, _+_, _*_, _≤_, _<_}
 use mathlib.Core.Path.{_≡_, refl, sym, _∙_}
 use mathlib.Core.List.{List, [], _∷_, _++_, map, flatten, append-assoc, append-nil}

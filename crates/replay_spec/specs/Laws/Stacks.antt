@@ -1,6 +1,6 @@
--- What the loop that writes one phase holds: the phase has run alone so far, the stack has what is pending behind the step that
--- is run next, and the records so far stand at the front of the phase's part of the list. One law for the start, for each kind
--- of turn, and for the end.
+-- What the loop of `replay_list::phase::write_phase` holds: the phase has run alone so far, the stack has what is pending
+-- behind the step that is run next, and the records so far stand at the front of the phase's part of the list. This is so at
+-- the start and after each kind of turn, and at the end it is the phase's whole order.
 use Prim.Native.Nat.{ℕ, _+_, _-_, _*_, _/_, _%_, _≤_, _<_}
 use mathlib.Core.Path.{_≡_, refl, sym, _∙_}
 use mathlib.Core.Bool.{true, false, not}
@@ -112,7 +112,8 @@ module _ (p : ℕ) (tree labels : List ℕ) (accepts : treeVerdict tree .number 
     size = rw (length-entries, length-in-phase, so .counted) refl
 
     -- The step is one of the tree, its record has room, and the stack is not overfull.
-    pub record-fits : (i < length (kinds tree)) × (4 * count + 4 ≤ length before) × (length list ≡ length before) × (depth ≤ mostTraceRecords)
+    pub record-fits : (i < length (kinds tree)) × (4 * count + 4 ≤ length before)
+        × (length list ≡ length before) × (depth ≤ mostTraceRecords)
     record-fits =
         let within = alone-within p (kinds tree) (frame .shape) ph (cut (so .from)) (so .log) i (so .deque) (so .alone) in
         let room : 4 * count + 4 ≤ length before = omega (arith, within .1, so .from .fits, so .counted) in (

@@ -1,4 +1,5 @@
--- `reads::read` meets its contract: a law for each way that it returns. Assumes nothing.
+-- `replay_steal::read_steal` meets its contract: the step that the number names is a step of the tree, so it has a label, and
+-- the labels tell whether it can be stolen from the phase. Assumes nothing.
 use Prim.Native.Nat.{ℕ, _<_}
 use mathlib.Core.Path.{_≡_, sym, _∙_}
 use mathlib.Core.Option.{Option}

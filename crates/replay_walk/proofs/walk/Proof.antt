@@ -6,9 +6,11 @@ use mathlib.Core.List.{List}
 use native.Mathlib.Omega.{arith}
 use lib.ListN.{length, getD}
 use borrow.Author.Needs.{needs}
-use Rattle.rules.specs.Tree.{kinds}
+use Rattle.rules.specs.Tree.{mostSteps, kinds}
+use Rattle.rules.specs.Scheduling.{mostWorkers}
 use Rattle.tree_scan.specs.Laws.Starts.{start-tree-accepts}
 use Rattle.replay_invariant.specs.Laws.Labels.{free, labelOf}
+use Rattle.replay_spec.specs.Begins.{mostPhases}
 use Rattle.replay_spec.specs.Naming.{named}
 use Rattle.replay_spec.specs.Reading.{Reading}
 use Rattle.loads.specs.Terms.{Movable}
@@ -75,11 +77,11 @@ fine c =
     sym (c .before .judge-workers .ensures) ∙ c .if1 .left
 
 workers : (c : tie.Else1 Inv-loop μ-loop)
-    → (thief (bytes c) < 16) × (victim (bytes c) < 16) × (thief (bytes c) ≡ victim (bytes c) → ⊥) × (from c ≡ free → ⊥)
+    → (thief (bytes c) < mostWorkers) × (victim (bytes c) < mostWorkers) × (thief (bytes c) ≡ victim (bytes c) → ⊥) × (from c ≡ free → ⊥)
 workers c = two-workers (top (bytes c) .loop .inv) (this (bytes c)) (fine c)
 
 ready : (c : tie.Else1 Inv-loop μ-loop)
-    → (top (bytes c) .loop .k + 1 < 2048) × (from c < top (bytes c) .loop .k + 1)
+    → (top (bytes c) .loop .k + 1 < mostPhases) × (from c < top (bytes c) .loop .k + 1)
     × (getD (top (bytes c) .loop .bases) (from c) 0 < length (kinds (entry (top (bytes c)) .args .tree .now)))
     × (labelOf (top (bytes c) .loop .labels) 0 ≡ free → ⊥)
 ready c = read-ready (top (bytes c) .loop .inv) (this (bytes c)) (fine c)
@@ -116,7 +118,7 @@ step c = c .before .step .given .0 .0 .0
 given : (c : tie.After-known-told Inv-loop μ-loop)
     → let a = entry (start (told c)) .args in
     (step c < length (kinds (a .tree .now))) × (getD (a .openers .now) (step c) 0 < step c)
-    × (length (kinds (a .tree .now)) ≤ 4095)
+    × (length (kinds (a .tree .now)) ≤ mostSteps)
 given c =
     let l = told c in
     begin-ready (start l .loop .inv) (this (bytes (turn l))) (fine (turn l)) (tables (start l)) _ _ (reading l) (kept l)

@@ -103,7 +103,8 @@ unfolding wholeRecords
 records-most trace e =
     leb-true (length trace / 4) mostTraceRecords (and-both (eqb (length trace % 4) 0) (leb (length trace / 4) mostTraceRecords) e .1)
 
-module _ (p : ℕ) (tree trace : List ℕ) (accepts : startVerdict p tree .number ≡ 0) (fits : wholeRecords 4 mostTraceRecords trace ≡ true) where
+module _ (p : ℕ) (tree trace : List ℕ) (accepts : startVerdict p tree .number ≡ 0)
+    (fits : wholeRecords 4 mostTraceRecords trace ≡ true) where
   frame : Frame tree
   frame = accepted-frame tree (start-tree-accepts p tree accepts)
 

@@ -1,4 +1,5 @@
--- `names::name` meets its contract: a law for each way that it returns. Assumes nothing.
+-- `replay_steal::number::decode_number` meets its contract: work-first the walk over children finds the step of the ordinal,
+-- which must be above that of the base; help-first the number is asked whether it can have been pushed. Assumes nothing.
 use native.Mathlib.Omega.{arith}
 use borrow.Author.Needs.{needs}
 use Rattle.rules.specs.Tree.{kinds}
