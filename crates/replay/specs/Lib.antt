@@ -1,6 +1,8 @@
 -- Replay: a trace to the run list.
 --     Contract  what the call answers, by the rules (to be believed)
---     Laws      each of its answers (proved)
+--     Body      what an admitted replay comes to: the walk, then the run list
+--     Answer    what the call answers by that
+--     Laws      that this is the rules' call (proved)
 pub mod Contract
 pub mod Laws
 pub mod Answer

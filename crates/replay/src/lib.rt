@@ -4,14 +4,19 @@ pub mod answer;
 pub mod body;
 
 ghost use mathlib.Core.Path.{_≡_};
+ghost use Rattle.rules.specs.Scheduling.{mostWorkers};
 ghost use Rattle.rules.specs.Calls.{replayCall};
 ghost use Rattle.replay.specs.Contract.{answers};
 use answer::Replayed;
 
 // Replays a trace: refusals 1 to 8 and 13 to 15, or the run list at the front of the lent buffer.
 pub fn replay(tree: &[u8], policy: u8, trace: &[u8], list: &mut [u8]) -> Replayed
-    ensures answers { λ r. ⌜ r ≡ answers (replayCall 16 policy (now (tree .entry)) (now (trace .entry)) (now (list .entry))) ⌝ }
-    ensures list { λ r. ⌜ now (list .exit) ≡ replayCall 16 policy (now (tree .entry)) (now (trace .entry)) (now (list .entry)) .list ⌝ }
+    ensures answers { λ r.
+        let call = replayCall mostWorkers policy (now (tree .entry)) (now (trace .entry)) (now (list .entry)) in
+        ⌜ r ≡ answers call ⌝ }
+    ensures list { λ r.
+        let call = replayCall mostWorkers policy (now (tree .entry)) (now (trace .entry)) (now (list .entry)) in
+        ⌜ now (list .exit) ≡ call .list ⌝ }
 {
     let admitted = arguments::admit_replay(tree, policy, trace, list.len());
     if admitted.number != 0 {

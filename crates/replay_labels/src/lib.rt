@@ -6,7 +6,7 @@ ghost use mathlib.Core.Path.{_≡_};
 ghost use mathlib.Core.Bool.{not};
 ghost use Prim.Native.Nat.{_≤_, _<_};
 ghost use lib.ListN.{length};
-ghost use Rattle.replay_invariant.specs.Laws.Labels.{labelOf};
+ghost use Rattle.replay_invariant.specs.Laws.Labels.{free, labelOf};
 ghost use Rattle.replay_spec.specs.Labels.{Upward, Claimed, Taking, dropped};
 use replay_spec::FREE;
 use tree_tables::wide;
@@ -14,7 +14,7 @@ use tree_tables::wide;
 // Labels the free steps above a step with a phase, from opener to opener, up to the first labelled one. Gives that one's label.
 fn claim(openers: &[u16], labels: &mut [u16], step: usize, phase: u16) -> u16
     requires { ⌜ (0 < step) × (step < length (now openers)) × (length (now openers) ≤ length (now labels)) × Upward (now openers) ⌝ }
-    requires { ⌜ (labelOf (now labels) 0 ≡ 65535 → ⊥) ⌝ }
+    requires { ⌜ (labelOf (now labels) 0 ≡ free → ⊥) ⌝ }
     ensures { λ r. ⌜ Claimed (now (openers .entry)) (now (labels .entry)) step phase (now (labels .exit)) r ⌝ }
 {
     let mut j = wide(openers[step]);
@@ -29,7 +29,7 @@ fn claim(openers: &[u16], labels: &mut [u16], step: usize, phase: u16) -> u16
 // then.
 pub fn take(openers: &[u16], labels: &mut [u16], step: usize, phase: u16) -> bool
     requires { ⌜ (step < length (now openers)) × (length (now openers) ≤ length (now labels)) × Upward (now openers) ⌝ }
-    requires { ⌜ (labelOf (now labels) 0 ≡ 65535 → ⊥) ⌝ }
+    requires { ⌜ (labelOf (now labels) 0 ≡ free → ⊥) ⌝ }
     ensures { λ r. ⌜ Taking (now (openers .entry)) (now (labels .entry)) step phase r (now (labels .exit)) ⌝ }
 {
     if labels[step] != FREE {

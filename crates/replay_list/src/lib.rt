@@ -1,5 +1,5 @@
 // The run list (document 01, "Trace, log, run list"): phase 0 first, each phase's records in running order, in their own part
-// of the lent list.
+// of the lent list. Module `phase` writes one phase.
 pub mod phase;
 
 ghost use mathlib.Core.Path.{_≡_};
@@ -8,7 +8,8 @@ ghost use Rattle.rules.specs.Tree.{kinds, treeVerdict};
 ghost use Rattle.rules.specs.Traces.{entryBytes};
 ghost use Rattle.rules.specs.Calls.{written};
 ghost use Rattle.tree_tables.specs.Terms.{Ends};
-ghost use Rattle.replay_list.specs.Terms.{listed, Listable};
+ghost use Rattle.replay_spec.specs.Begins.{mostPhases};
+ghost use Rattle.replay_spec.specs.Lists.{listed, Listable};
 use phase::write_phase;
 use policy::MOST_STEALS;
 use tree_tables::wide;
@@ -24,9 +25,11 @@ pub fn write_list(
     list: &mut [u8],
 )
     requires { ⌜ (treeVerdict (now tree) .number ≡ 0) × Ends (kinds (now tree)) (now ends) (length (now ends)) ⌝ }
-    requires { ⌜ (length (now labels) ≡ length (kinds (now tree))) × (length (now firsts) ≡ 2048) ⌝ }
+    requires { ⌜ (length (now labels) ≡ length (kinds (now tree))) × (length (now firsts) ≡ mostPhases) ⌝ }
     requires { ⌜ Listable policy (kinds (now tree)) (now labels) (now firsts) phases (length (now list)) ⌝ }
-    ensures { λ r. ⌜ now (list .exit) ≡ written (entryBytes (listed policy (kinds (now (tree .entry))) (now (labels .entry)) (now (firsts .entry)) phases)) (now (list .entry)) ⌝ }
+    ensures { λ r.
+        let records = listed policy (kinds (now (tree .entry))) (now (labels .entry)) (now (firsts .entry)) phases in
+        ⌜ now (list .exit) ≡ written (entryBytes records) (now (list .entry)) ⌝ }
 {
     let mut stack: [u16; MOST_STEALS] = [0; MOST_STEALS];
     let mut k = 0;

@@ -5,7 +5,7 @@ ghost use mathlib.Core.Path.{_≡_};
 ghost use lib.ListN.{length};
 ghost use Rattle.rules.specs.Tree.{kinds, treeVerdict};
 ghost use Rattle.rules.specs.Traces.{entryBytes};
-ghost use Rattle.rules.specs.Calls.{written};
+ghost use Rattle.rules.specs.Calls.{mostTraceRecords, written};
 ghost use Rattle.tree_tables.specs.Terms.{Ends};
 ghost use Rattle.replay_spec.specs.Orders.{phaseOrder, inPhase, Writable};
 use policy::held_after;
@@ -29,10 +29,12 @@ pub fn write_phase(
     list: &mut [u8],
 ) -> usize
     requires { ⌜ (treeVerdict (now tree) .number ≡ 0) × Ends (kinds (now tree)) (now ends) (length (now ends)) ⌝ }
-    requires { ⌜ (length (now labels) ≡ length (kinds (now tree))) × (length (now stack) ≡ 2047) ⌝ }
+    requires { ⌜ (length (now labels) ≡ length (kinds (now tree))) × (length (now stack) ≡ mostTraceRecords) ⌝ }
     requires { ⌜ Writable policy (kinds (now tree)) (now labels) phase first (length (now list)) ⌝ }
     ensures counts { λ r. ⌜ r ≡ length (phaseOrder policy (kinds (now (tree .entry))) (now (labels .entry)) phase first) ⌝ }
-    ensures list { λ r. ⌜ now (list .exit) ≡ written (entryBytes (inPhase phase (phaseOrder policy (kinds (now (tree .entry))) (now (labels .entry)) phase first))) (now (list .entry)) ⌝ }
+    ensures list { λ r.
+        let order = phaseOrder policy (kinds (now (tree .entry))) (now (labels .entry)) phase first in
+        ⌜ now (list .exit) ≡ written (entryBytes (inPhase phase order)) (now (list .entry)) ⌝ }
 {
     let mut i = first;
     let mut depth: usize = 0;

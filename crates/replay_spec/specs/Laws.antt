@@ -6,8 +6,11 @@
 --     Dropping   the pushed steps that a phase drops
 --     Taking     what a reading comes to, case by case
 --     Reading    reading a steal by labels and continuations is the rules' way
+--     Begins     the tables of phases are right once one begins
 --     Orders     running a phase alone by labels is the rules' running order
 --     Stacks     the loop that writes one phase, turn by turn
+--     RunLists   all phases' records are the rules' run list
+--     Lists      the loop over the phases, turn by turn
 pub mod Entries
 pub mod Workers
 pub mod Naming
@@ -15,5 +18,8 @@ pub mod Claims
 pub mod Dropping
 pub mod Taking
 pub mod Reading
+pub mod Begins
 pub mod Orders
 pub mod Stacks
+pub mod RunLists
+pub mod Lists

@@ -1,5 +1,6 @@
-// One trace record and one phase in the tables of replay (document 01, "Trace, log, run list"): what reading a steal and running a
-// phase alone come to, as definitions and laws in `specs`, and the types that they speak of. The functions are in the crates above.
+// One trace record and one phase in the tables of replay (document 01, "Trace, log, run list"): what reading a steal, beginning a
+// phase and running a phase alone come to, as definitions and laws in `specs`, and the types that they speak of. The functions
+// are in the crates above.
 use tree::Step;
 
 // The latest phase of a worker that has had none.
@@ -19,4 +20,13 @@ pub struct TraceRecord {
 pub enum Named {
     At(Step),
     Nothing,
+}
+
+// A phase that begins: its worker `thief` steals `step` from phase `from`, as a trace record's number names it.
+pub struct Begun {
+    pub phase: usize,
+    pub from: u16,
+    pub thief: usize,
+    pub step: usize,
+    pub number: u16,
 }

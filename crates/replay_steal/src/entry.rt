@@ -4,8 +4,10 @@
 ghost use mathlib.Core.Path.{_≡_};
 ghost use Prim.Native.Nat.{_+_, _*_, _/_, _<_};
 ghost use lib.ListN.{length};
+ghost use Rattle.rules.specs.Scheduling.{mostWorkers};
 ghost use Rattle.replay_spec.specs.Entries.{judgedWorkers, Entry};
 use policy::WORKERS;
+use policy::no_worker;
 use replay_spec::NO_PHASE;
 use replay_spec::TraceRecord;
 
@@ -23,14 +25,14 @@ pub fn record_at(trace: &[u8], k: usize) -> TraceRecord
 }
 
 // Refusals 8, 13 and 14 of a record, 0 for none.
-pub fn judge(latest: &[u16; WORKERS], thief: u8, victim: u8) -> u8
-    requires { ⌜ length (now latest) ≡ 16 ⌝ }
+pub fn judge_workers(latest: &[u16; WORKERS], thief: u8, victim: u8) -> u8
+    requires { ⌜ length (now latest) ≡ mostWorkers ⌝ }
     ensures { λ r. ⌜ r ≡ judgedWorkers (now (latest .entry)) thief victim ⌝ }
 {
-    if 15 < thief {
+    if no_worker(thief) {
         return 8;
     }
-    if 15 < victim {
+    if no_worker(victim) {
         return 8;
     }
     if thief == victim {

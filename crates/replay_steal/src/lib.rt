@@ -1,5 +1,6 @@
-// How replay reads a steal (document 01, "Trace, log, run list"): the step that a trace number names against the victim's phase,
-// if all from it to the end of its task is still in the phase.
+// One steal of a trace (document 01, "Trace, log, run list"), in three modules: `entry` has a trace record's bytes and its workers,
+// `number` the step that its number names, `phase` what beginning a phase stores. `read_steal` reads a number against the victim's
+// phase: it names a step, if all from that step to the end of its task is still in the phase.
 pub mod entry;
 pub mod number;
 pub mod phase;
@@ -9,7 +10,8 @@ ghost use Prim.Native.Nat.{_<_};
 ghost use lib.ListN.{length, getD};
 ghost use Rattle.rules.specs.Tree.{kinds, treeVerdict};
 ghost use Rattle.tree_tables.specs.Terms.{Ends, Openers};
-ghost use Rattle.replay_invariant.specs.Laws.Labels.{labelOf};
+ghost use Rattle.replay_invariant.specs.Laws.Labels.{free, labelOf};
+ghost use Rattle.replay_spec.specs.Begins.{mostPhases};
 ghost use Rattle.replay_spec.specs.Naming.{named};
 ghost use Rattle.replay_spec.specs.Reading.{Reading};
 use policy::MOST_PHASES;
@@ -18,7 +20,7 @@ use tree_tables::wide;
 
 // Reads a number against a phase: gives the step that it names, if that step can be stolen from the phase. The steps above it
 // are labelled then. The tables have for each phase a step of its frontier task, and that step's ordinal.
-pub fn read(
+pub fn read_steal(
     tree: &[u8],
     ends: &[u16],
     openers: &[u16],
@@ -29,17 +31,21 @@ pub fn read(
     phase: u16,
     number: u16,
 ) -> Named
-    requires { ⌜ (treeVerdict (now tree) .number ≡ 0) × (phase < 2048) × (getD (now bases) phase 0 < length (kinds (now tree))) ⌝ }
+    requires { ⌜ (treeVerdict (now tree) .number ≡ 0) × (phase < mostPhases) × (getD (now bases) phase 0 < length (kinds (now tree))) ⌝ }
     requires { ⌜ Ends (kinds (now tree)) (now ends) (length (now ends)) ⌝ }
     requires { ⌜ (length (now openers) ≡ length (kinds (now tree))) × Openers (kinds (now tree)) (now openers) (length (now openers)) ⌝ }
-    requires { ⌜ (length (now labels) ≡ length (kinds (now tree))) × (labelOf (now labels) 0 ≡ 65535 → ⊥) ⌝ }
-    requires { ⌜ (length (now bases) ≡ 2048) × (length (now ordinals) ≡ 2048) ⌝ }
-    ensures { λ r. ⌜ Reading (now (openers .entry)) (now (labels .entry)) phase (named policy (kinds (now (tree .entry))) (getD (now (bases .entry)) phase 0) (getD (now (ordinals .entry)) phase 0) number) r (now (labels .exit)) ⌝ }
+    requires { ⌜ (length (now labels) ≡ length (kinds (now tree))) × (labelOf (now labels) 0 ≡ free → ⊥) ⌝ }
+    requires { ⌜ (length (now bases) ≡ mostPhases) × (length (now ordinals) ≡ mostPhases) ⌝ }
+    ensures { λ r.
+        let base = getD (now (bases .entry)) phase 0 in
+        let ordinal = getD (now (ordinals .entry)) phase 0 in
+        let step = named policy (kinds (now (tree .entry))) base ordinal number in
+        ⌜ Reading (now (openers .entry)) (now (labels .entry)) phase step r (now (labels .exit)) ⌝ }
 {
     let at = wide(phase);
     let base = wide(bases[at]);
     let ordinal = wide(ordinals[at]);
-    match number::name(tree, ends, openers, policy, base, ordinal, wide(number)) {
+    match number::decode_number(tree, ends, openers, policy, base, ordinal, wide(number)) {
         Named::At(step) => {
             if !replay_labels::take(openers, labels, step.0, phase) {
                 return Named::Nothing;

@@ -41,7 +41,9 @@ fn hop(tree: &[u8], ends: &[u16], from: Step, children: usize) -> Named
 // Whether a step is the first of an async child, or the step after a finish child.
 fn async_or_after_finish(tree: &[u8], openers: &[u16], step: Step) -> bool
     requires { ⌜ Openers (kinds (now tree)) (now openers) (length (now openers)) ⌝ }
-    ensures { λ r. ⌜ r ≡ startsAsync (kinds (now (tree .entry))) (step .0) || followsFinish (kinds (now (tree .entry))) (step .0) ⌝ }
+    ensures { λ r.
+        let ks = kinds (now (tree .entry)) in
+        ⌜ r ≡ startsAsync ks (step .0) || followsFinish ks (step .0) ⌝ }
 {
     let s = step.0;
     if s == 0 {
@@ -56,9 +58,9 @@ fn async_or_after_finish(tree: &[u8], openers: &[u16], step: Step) -> bool
     }
 }
 
-// The step that a number names in a phase. Work-first it is found from `base`, a step of the frontier task, whose ordinal is
-// given; help-first it is the number itself.
-pub fn name(
+// The step that a number names in a phase; `run_event::number` has the way from a step to its number. Work-first it is found
+// from `base`, a step of the frontier task, whose ordinal is given; help-first it is the number itself.
+pub fn decode_number(
     tree: &[u8],
     ends: &[u16],
     openers: &[u16],

@@ -2,10 +2,13 @@
 // steps, for each phase the step and the ordinal from which its frontier task is walked, and the workers' latest phases.
 
 ghost use mathlib.Core.Path.{_≡_};
-ghost use Prim.Native.Nat.{_+_, _<_};
+ghost use Prim.Native.Nat.{_<_};
 ghost use lib.ListN.{length, getD, set};
+ghost use Rattle.rules.specs.Scheduling.{mostWorkers};
+ghost use Rattle.replay_spec.specs.Begins.{mostPhases, basesBegun, ordinalsBegun};
 use policy::MOST_PHASES;
 use policy::WORKERS;
+use replay_spec::Begun;
 
 // Phase 0 begins: worker 0 has step 0 and all the weight.
 pub fn begin_first(
@@ -15,7 +18,8 @@ pub fn begin_first(
     loads: &mut [u64; WORKERS],
     weight: u64,
 )
-    requires { ⌜ (0 < length (now labels)) × (length (now firsts) ≡ 2048) × (length (now latest) ≡ 16) × (length (now loads) ≡ 16) ⌝ }
+    requires { ⌜ (0 < length (now labels)) × (length (now firsts) ≡ mostPhases) ⌝ }
+    requires { ⌜ (length (now latest) ≡ mostWorkers) × (length (now loads) ≡ mostWorkers) ⌝ }
     ensures labels { λ r. ⌜ now (labels .exit) ≡ set (now (labels .entry)) 0 0 ⌝ }
     ensures firsts { λ r. ⌜ now (firsts .exit) ≡ set (now (firsts .entry)) 0 0 ⌝ }
     ensures latest { λ r. ⌜ now (latest .exit) ≡ set (now (latest .entry)) 0 0 ⌝ }
@@ -27,9 +31,8 @@ pub fn begin_first(
     loads[0] = weight;
 }
 
-// A phase begins with a step that its worker steals from phase `from`, as a trace record's number names it. The victim's
-// frontier task is now the child whose end stands just before the step: it is walked from its first step, which follows the
-// step's opener.
+// A phase begins with a step that is stolen from another. The victim's frontier task is now the child whose end stands just
+// before the step: it is walked from its first step, which follows the step's opener.
 pub fn begin(
     openers: &[u16],
     labels: &mut [u16],
@@ -37,26 +40,29 @@ pub fn begin(
     bases: &mut [u16; MOST_PHASES],
     ordinals: &mut [u16; MOST_PHASES],
     latest: &mut [u16; WORKERS],
-    phase: usize,
-    from: u16,
-    thief: usize,
-    step: usize,
-    number: u16,
+    begun: Begun,
 )
-    requires { ⌜ (phase < 2048) × (from < 2048) × (thief < 16) × (step < 65536) × (step < length (now openers)) × (getD (now openers) step 0 < 65535) ⌝ }
-    requires { ⌜ (step < length (now labels)) × (length (now firsts) ≡ 2048) × (length (now bases) ≡ 2048) × (length (now ordinals) ≡ 2048) × (length (now latest) ≡ 16) ⌝ }
-    ensures labels { λ r. ⌜ now (labels .exit) ≡ set (now (labels .entry)) step phase ⌝ }
-    ensures firsts { λ r. ⌜ now (firsts .exit) ≡ set (now (firsts .entry)) phase step ⌝ }
-    ensures bases { λ r. ⌜ now (bases .exit) ≡ set (set (now (bases .entry)) from (getD (now (openers .entry)) step 0 + 1)) phase step ⌝ }
-    ensures ordinals { λ r. ⌜ now (ordinals .exit) ≡ set (set (now (ordinals .entry)) from 0) phase number ⌝ }
-    ensures latest { λ r. ⌜ now (latest .exit) ≡ set (now (latest .entry)) thief phase ⌝ }
+    requires { ⌜ (begun .phase < mostPhases) × (begun .from < mostPhases) × (begun .thief < mostWorkers) ⌝ }
+    requires { ⌜ (begun .step < 65536) × (begun .step < length (now openers)) × (getD (now openers) (begun .step) 0 < 65535) ⌝ }
+    requires { ⌜ (begun .step < length (now labels)) × (length (now firsts) ≡ mostPhases) × (length (now bases) ≡ mostPhases) ⌝ }
+    requires { ⌜ (length (now ordinals) ≡ mostPhases) × (length (now latest) ≡ mostWorkers) ⌝ }
+    ensures labels { λ r. ⌜ now (labels .exit) ≡ set (now (labels .entry)) (begun .step) (begun .phase) ⌝ }
+    ensures firsts { λ r. ⌜ now (firsts .exit) ≡ set (now (firsts .entry)) (begun .phase) (begun .step) ⌝ }
+    ensures bases { λ r.
+        let after = basesBegun (now (openers .entry)) (now (bases .entry)) (begun .from) (begun .phase) (begun .step) in
+        ⌜ now (bases .exit) ≡ after ⌝ }
+    ensures ordinals { λ r. ⌜ now (ordinals .exit) ≡ ordinalsBegun (now (ordinals .entry)) (begun .from) (begun .phase) (begun .number) ⌝ }
+    ensures latest { λ r. ⌜ now (latest .exit) ≡ set (now (latest .entry)) (begun .thief) (begun .phase) ⌝ }
 {
-    let at = from as usize;
+    let phase = begun.phase;
+    let from = begun.from as usize;
+    let thief = begun.thief;
+    let step = begun.step;
     labels[step] = phase as u16;
     firsts[phase] = step as u16;
-    bases[at] = openers[step] + 1;
+    bases[from] = openers[step] + 1;
     bases[phase] = step as u16;
-    ordinals[at] = 0;
-    ordinals[phase] = number;
+    ordinals[from] = 0;
+    ordinals[phase] = begun.number;
     latest[thief] = phase as u16;
 }

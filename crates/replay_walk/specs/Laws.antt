@@ -1,7 +1,5 @@
 -- What need not be believed: everything here is proved from the rules.
---     Begins      the tables of phases when one begins
 --     Retracing   what the loop over the records holds: the start, the end, a record refused for its workers
 --     Turns       a record whose number is read: it is refused, or a phase begins
-pub mod Begins
 pub mod Retracing
 pub mod Turns

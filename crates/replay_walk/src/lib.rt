@@ -8,11 +8,15 @@ ghost use Prim.Native.Nat.{_<_};
 ghost use lib.ListN.{length, replicate};
 ghost use Rattle.rules.specs.Tree.{kinds, weights};
 ghost use Rattle.rules.specs.Bytes.{wholeRecords};
-ghost use Rattle.rules.specs.Calls.{startVerdict};
+ghost use Rattle.rules.specs.Scheduling.{mostWorkers};
+ghost use Rattle.rules.specs.Calls.{mostTraceRecords, startVerdict};
 ghost use Rattle.tree_tables.specs.Terms.{Ends, Openers, Sums};
+ghost use Rattle.replay_invariant.specs.Laws.Labels.{free};
+ghost use Rattle.replay_spec.specs.Begins.{mostPhases};
 ghost use Rattle.replay_walk.specs.Terms.{Retraced};
 use policy::MOST_PHASES;
 use policy::WORKERS;
+use replay_spec::Begun;
 use replay_spec::NO_PHASE;
 use replay_spec::Named;
 
@@ -26,7 +30,7 @@ pub struct Ended {
 
 // A refusal at a position.
 fn refused(number: u8, position: usize) -> Ended
-    ensures { λ r. ⌜ r ≡ record { number = number; position = position; phases = 0; loads = replicate 16 0 } ⌝ }
+    ensures { λ r. ⌜ r ≡ record { number = number; position = position; phases = 0; loads = replicate mostWorkers 0 } ⌝ }
 {
     Ended {
         number,
@@ -48,11 +52,14 @@ pub fn walk(
     labels: &mut [u16],
     firsts: &mut [u16; MOST_PHASES],
 ) -> Ended
-    requires { ⌜ (startVerdict policy (now tree) .number ≡ 0) × (wholeRecords 4 2047 (now trace) ≡ true) ⌝ }
-    requires { ⌜ (length (now ends) ≡ length (kinds (now tree))) × Ends (kinds (now tree)) (now ends) (length (now ends)) ⌝ }
-    requires { ⌜ (length (now openers) ≡ length (kinds (now tree))) × Openers (kinds (now tree)) (now openers) (length (now openers)) ⌝ }
-    requires { ⌜ (length (kinds (now tree)) < length (now sums)) × Sums (weights (now tree)) (now sums) (length (kinds (now tree))) ⌝ }
-    requires { ⌜ (now labels ≡ replicate (length (kinds (now tree))) 65535) × (length (now firsts) ≡ 2048) ⌝ }
+    requires { ⌜ (startVerdict policy (now tree) .number ≡ 0) × (wholeRecords 4 mostTraceRecords (now trace) ≡ true) ⌝ }
+    requires { let ks = kinds (now tree) in
+        ⌜ (length (now ends) ≡ length ks) × Ends ks (now ends) (length (now ends)) ⌝ }
+    requires { let ks = kinds (now tree) in
+        ⌜ (length (now openers) ≡ length ks) × Openers ks (now openers) (length (now openers)) ⌝ }
+    requires { let n = length (kinds (now tree)) in
+        ⌜ (n < length (now sums)) × Sums (weights (now tree)) (now sums) n ⌝ }
+    requires { ⌜ (now labels ≡ replicate (length (kinds (now tree))) free) × (length (now firsts) ≡ mostPhases) ⌝ }
     ensures { λ r. ⌜ Retraced policy (now (tree .entry)) (now (trace .entry)) r (now (labels .exit)) (now (firsts .exit)) ⌝ }
 {
     let mut bases: [u16; MOST_PHASES] = [0; MOST_PHASES];
@@ -66,7 +73,7 @@ pub fn walk(
         let at = k;
         k += 1;
         let steal = replay_steal::entry::record_at(trace, at);
-        let refusal = replay_steal::entry::judge(&latest, steal.thief, steal.victim);
+        let refusal = replay_steal::entry::judge_workers(&latest, steal.thief, steal.victim);
         if refusal != 0 {
             return refused(refusal, at);
         }
@@ -74,7 +81,7 @@ pub fn walk(
         let victim = steal.victim as usize;
         // The victim's latest phase. The record begins phase k.
         let phase = latest[victim];
-        match replay_steal::read(
+        match replay_steal::read_steal(
             tree,
             ends,
             openers,
@@ -93,11 +100,13 @@ pub fn walk(
                     &mut bases,
                     &mut ordinals,
                     &mut latest,
-                    k,
-                    phase,
-                    thief,
-                    step.0,
-                    steal.number,
+                    Begun {
+                        phase: k,
+                        from: phase,
+                        thief,
+                        step: step.0,
+                        number: steal.number,
+                    },
                 );
                 loads::move_part(ends, sums, &mut loads, thief, victim, step.0);
             }

@@ -1,4 +1,5 @@
--- `replay::replay` meets its contract: a law for what the call is given, and one for the walk over the trace. Assumes nothing.
+-- `replay::replay` meets its contract: the call is judged in the order of the rules' refusals, first what it is given, then
+-- the trace record by record, and the list is left as it was unless every record is accepted. Assumes nothing.
 use mathlib.Core.Path.{_≡_}
 use lib.ListN.{length}
 use borrow.Author.Needs.{needs}

@@ -4,27 +4,27 @@ use mathlib.Core.Path.{_≡_}
 use mathlib.Core.Bool.{true}
 use mathlib.Core.List.{List}
 use lib.ListN.{length}
-use Rattle.rules.specs.Bytes.{records, wholeRecords}
+use Rattle.rules.specs.Bytes.{wholeRecords}
 use Rattle.rules.specs.Tree.{kinds, weights}
-use Rattle.rules.specs.Traces.{entryBytes, replayWalk, runList, loads}
-use Rattle.rules.specs.Calls.{written, startVerdict}
+use Rattle.rules.specs.Scheduling.{mostWorkers}
+use Rattle.rules.specs.Traces.{entryBytes, runList, loads}
+use Rattle.rules.specs.Calls.{mostTraceRecords, written, startVerdict}
 use Rattle.replay_walk.specs.declared.Ended.{Ended}
+use Rattle.replay_walk.specs.Terms.{ruled}
 
 -- The call is not refused for policy and tree, the trace's length and the room in the lent list; n is the count of steps.
 pub record Admitted (p : ℕ) (tree trace : List ℕ) (n : ℕ) (list : List ℕ) : Type 0 where
   pub started : startVerdict p tree .number ≡ 0
-  pub traced : wholeRecords 4 2047 trace ≡ true
+  pub traced : wholeRecords 4 mostTraceRecords trace ≡ true
   pub steps : n ≡ length (kinds tree)
   pub fits : 4 * length (kinds tree) ≤ length list
 
 -- The verdict on the trace's records; then either the lent list is as it was, or the phases are answered and their run list
 -- stands at the front of it.
 pub record Outcome (p : ℕ) (tree trace list : List ℕ) (r : Ended) (after : List ℕ) : Type 0 where
-  pub number : r .number ≡ replayWalk 16 p (kinds tree) (records 4 trace) .verdict .number
-  pub position : r .position ≡ replayWalk 16 p (kinds tree) (records 4 trace) .verdict .position
+  pub number : r .number ≡ ruled p tree trace .verdict .number
+  pub position : r .position ≡ ruled p tree trace .verdict .position
   pub same : (r .number ≡ 0 → ⊥) → after ≡ list
-  pub phases : r .number ≡ 0 → r .phases ≡ length (replayWalk 16 p (kinds tree) (records 4 trace) .state)
-  pub loaded : r .number ≡ 0
-      → r .loads ≡ loads 16 (kinds tree) (weights tree) (replayWalk 16 p (kinds tree) (records 4 trace) .state)
-  pub listed : r .number ≡ 0
-      → after ≡ written (entryBytes (runList p (kinds tree) (replayWalk 16 p (kinds tree) (records 4 trace) .state))) list
+  pub phases : r .number ≡ 0 → r .phases ≡ length (ruled p tree trace .state)
+  pub loaded : r .number ≡ 0 → r .loads ≡ loads mostWorkers (kinds tree) (weights tree) (ruled p tree trace .state)
+  pub listed : r .number ≡ 0 → after ≡ written (entryBytes (runList p (kinds tree) (ruled p tree trace .state))) list

@@ -6,6 +6,7 @@ use lib.ListN.{length}
 use borrow.Author.Tests.{eq-eqb, ne-eqb, ltb-false}
 use Rattle.rules.specs.Bytes.{records, Verdict, accepted, firstRefused}
 use Rattle.rules.specs.Tree.{kinds}
+use Rattle.rules.specs.Scheduling.{mostWorkers}
 use Rattle.rules.specs.Traces.{replayWalk}
 use Rattle.rules.specs.Calls.{replayVerdict, replayOf, replayRefused, replayCall}
 use Rattle.tree.specs.declared.Accepted.{Accepted}
@@ -15,14 +16,14 @@ use Rattle.replay.specs.Body.Terms.{Admitted}
 
 module _ (p : ℕ) (tree trace list : List ℕ) where
   -- The answer that a refusal makes.
-  by-refused : (v : Verdict) → replayVerdict 16 p tree trace list ≡ v → (v .number ≡ 0 → ⊥)
-      → replayRefused 16 v list ≡ replayCall 16 p tree trace list
+  by-refused : (v : Verdict) → replayVerdict mostWorkers p tree trace list ≡ v → (v .number ≡ 0 → ⊥)
+      → replayRefused mostWorkers v list ≡ replayCall mostWorkers p tree trace list
   unfolding replayCall
   by-refused v e n = rw (e, ne-eqb (v .number) 0 n) refl
 
   module _ (a : Accepted) (is : a ≡ replayAdmitted p tree trace (length list)) where
     pub replay-given : (a .number ≡ 0 → ⊥)
-        → replayRefused 16 (record { number = a .number; position = a .position }) list ≡ replayCall 16 p tree trace list
+        → replayRefused mostWorkers (record { number = a .number; position = a .position }) list ≡ replayCall mostWorkers p tree trace list
     unfolding replayVerdict replayAdmitted
     replay-given n = by-refused _ (given-refused p tree _ _ a is n _) n
 
@@ -39,18 +40,19 @@ module _ (p : ℕ) (tree trace list : List ℕ) where
           }
 
       -- The trace's records decide.
-      by-walk : replayVerdict 16 p tree trace list ≡ firstRefused (replayWalk 16 p (kinds tree) (records 4 trace) .verdict ∷ [])
+      by-walk : replayVerdict mostWorkers p tree trace list
+          ≡ firstRefused (replayWalk mostWorkers p (kinds tree) (records 4 trace) .verdict ∷ [])
       unfolding replayVerdict replayAdmitted
       by-walk = given-last (given p tree _ _ a is z) _
 
-      pub record-refused : (v : Verdict) → v ≡ replayWalk 16 p (kinds tree) (records 4 trace) .verdict → (v .number ≡ 0 → ⊥)
-          → replayRefused 16 v list ≡ replayCall 16 p tree trace list
+      pub record-refused : (v : Verdict) → v ≡ replayWalk mostWorkers p (kinds tree) (records 4 trace) .verdict → (v .number ≡ 0 → ⊥)
+          → replayRefused mostWorkers v list ≡ replayCall mostWorkers p tree trace list
       unfolding firstRefused
       record-refused v e n = by-refused v (by-walk ∙ rw (← e, ne-eqb (v .number) 0 n) refl) n
 
-      pub none-refused : replayWalk 16 p (kinds tree) (records 4 trace) .verdict .number ≡ 0
-          → replayOf 16 p tree (replayWalk 16 p (kinds tree) (records 4 trace) .state) list
-          ≡ replayCall 16 p tree trace list
+      pub none-refused : replayWalk mostWorkers p (kinds tree) (records 4 trace) .verdict .number ≡ 0
+          → replayOf mostWorkers p tree (replayWalk mostWorkers p (kinds tree) (records 4 trace) .state) list
+          ≡ replayCall mostWorkers p tree trace list
       unfolding replayCall firstRefused accepted
       none-refused e =
-          rw (by-walk, eq-eqb (replayWalk 16 p (kinds tree) (records 4 trace) .verdict .number) 0 e) refl
+          rw (by-walk, eq-eqb (replayWalk mostWorkers p (kinds tree) (records 4 trace) .verdict .number) 0 e) refl

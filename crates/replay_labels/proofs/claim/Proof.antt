@@ -1,5 +1,5 @@
--- `labels::claim` meets its contract: the loop is the climb, whose laws say what holds at its start, after each step and at its
--- end. Assumes nothing.
+-- `replay_labels::claim` meets its contract: each opener stands before its step and step 0 is labelled, so the climb ends; it has
+-- labelled the free steps on its way and no others. Assumes nothing.
 use Prim.Native.Nat.{_<_}
 use native.Mathlib.Omega.{arith}
 use lib.ListN.{length, getD}

@@ -1,4 +1,5 @@
--- `labels::stays` meets its contract: an entry of the labels decides. Assumes nothing.
+-- `replay_labels::stays` meets its contract: a pushed step is dropped exactly where it has the label of another phase. Assumes
+-- nothing.
 use borrow.Author.Needs.{needs}
 use Rattle.replay_spec.specs.Laws.Dropping.{entry-free, entry-other}
 use Rattle.replay_labels.proofs.stays.Statement.{statement}

@@ -1,4 +1,5 @@
--- `labels::take` meets its contract: a law for each way that it returns. Assumes nothing.
+-- `replay_labels::take` meets its contract: a labelled step can be stolen no more, and a free one is in the phase of the first
+-- labelled step above it, which the climb finds. Assumes nothing.
 use Prim.Native.Nat.{_<_}
 use native.Mathlib.Omega.{arith}
 use lib.ListN.{length}

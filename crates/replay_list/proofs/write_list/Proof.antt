@@ -1,5 +1,5 @@
--- `lists::write_list` meets its contract: the loop holds that the phases so far stand at the front of the list, and a law says
--- that the next one goes behind them. Assumes nothing.
+-- `replay_list::write_list` meets its contract: the phases so far stand at the front of the list and the next one goes behind
+-- them; all together have a record for each step, so they fit. Assumes nothing.
 use Prim.Native.Nat.{_+_, _-_, _*_, _≤_, _<_}
 use mathlib.Core.Path.{refl}
 use native.Mathlib.Omega.{arith}
@@ -7,8 +7,8 @@ use lib.ListN.{length}
 use borrow.Author.Needs.{needs}
 use Rattle.rules.specs.Tree.{kinds}
 use Rattle.buffers.specs.Laws.Fronts.{front-length}
-use Rattle.replay_list.specs.Laws.Lists.{Listing, listing-start, listing-done, list-fits, phase-writable, count-fits}
-use Rattle.replay_list.specs.Laws.Lists.{phase-listed}
+use Rattle.replay_spec.specs.Laws.Lists.{Listing, listing-start, listing-done, list-fits, phase-writable, count-fits}
+use Rattle.replay_spec.specs.Laws.Lists.{phase-listed}
 use Rattle.replay_list.proofs.write_list.Statement.{statement}
 use Rattle.replay_list.proofs.write_list.Tie as tie
 

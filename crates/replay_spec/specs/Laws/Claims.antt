@@ -1,5 +1,5 @@
--- Labelling the free steps above a step, as a loop does it: an invariant with named parts, and a law for its start, for each
--- turn and for its end, in the terms of the code. And what taking a step comes to: a law for each way that it can go.
+-- Labelling the free steps above a step, as `replay_labels::claim` does it: what its loop holds at the start, after each turn
+-- and at the end. And what taking a step comes to, by the step's label.
 use Prim.Native.Nat.{ℕ, zero, suc, _≤_, _<_}
 use mathlib.Core.Path.{_≡_, refl, sym, ap, _∙_}
 use mathlib.Core.Bool.{false}
@@ -72,14 +72,14 @@ module _ (openers first : List ℕ) (s k : ℕ) where
     claim-reads : getD labels j 0 ≡ labelOf first j
     claim-reads = label-read labels j (claim-room .1) ∙ c .same j (omega arith)
 
-    pub claim-less : Upward openers → (labelOf first 0 ≡ free → ⊥) → getD labels j 0 ≡ 65535 → getD openers j 0 < j
+    pub claim-less : Upward openers → (labelOf first 0 ≡ free → ⊥) → getD labels j 0 ≡ free → getD openers j 0 < j
     claim-less up root f =
         elim (ℕ-discrete j 0) [
           | yes z ↦ absurd (root (rw z at (sym claim-reads ∙ f)))
           | no n ↦ up j (omega arith) (claim-room .0)
         ]
 
-    pub claim-turn : Upward openers → (labelOf first 0 ≡ free → ⊥) → getD labels j 0 ≡ 65535
+    pub claim-turn : Upward openers → (labelOf first 0 ≡ free → ⊥) → getD labels j 0 ≡ free
         → (next : ℕ) → next ≡ getD openers j 0 → Claiming openers first s k (set labels j k) next
     unfolding labelOf
     claim-turn up root f next e =
@@ -93,7 +93,7 @@ module _ (openers first : List ℕ) (s k : ℕ) where
           before = omega (arith, c .before);
         }
 
-    pub claim-end : (getD labels j 0 ≡ 65535 → ⊥) → Claimed openers first s k labels (getD labels j 0)
+    pub claim-end : (getD labels j 0 ≡ free → ⊥) → Claimed openers first s k labels (getD labels j 0)
     claim-end n =
         record {
           path = c .path;
@@ -105,7 +105,7 @@ module _ (openers first : List ℕ) (s k : ℕ) where
 
 -- ---- what taking a step comes to
 
-pub free-past : (labels : List ℕ) (s : ℕ) → (labelOf labels 0 ≡ free → ⊥) → s < length labels → getD labels s 0 ≡ 65535 → 0 < s
+pub free-past : (labels : List ℕ) (s : ℕ) → (labelOf labels 0 ≡ free → ⊥) → s < length labels → getD labels s 0 ≡ free → 0 < s
 free-past labels s root l f =
     elim (ℕ-discrete s 0) [
       | yes z ↦ absurd (root (rw z at (sym (label-read labels s l) ∙ f)))
@@ -113,9 +113,9 @@ free-past labels s root l f =
     ]
 
 module _ (openers labels : List ℕ) (s k : ℕ) (l : s < length labels) where
-  pub take-labelled : (getD labels s 0 ≡ 65535 → ⊥) → (after : List ℕ) → Taking openers labels s k false after
+  pub take-labelled : (getD labels s 0 ≡ free → ⊥) → (after : List ℕ) → Taking openers labels s k false after
   take-labelled n after = inl ((λ f. n (label-read labels s l ∙ f)), refl)
 
-  pub take-claimed : getD labels s 0 ≡ 65535 → (after : List ℕ) (found : ℕ) → Claimed openers labels s k after found
+  pub take-claimed : getD labels s 0 ≡ free → (after : List ℕ) (found : ℕ) → Claimed openers labels s k after found
       → Taking openers labels s k (eqb found k) after
   take-claimed f after found c = inr ((sym (label-read labels s l) ∙ f), (found, c, refl))

@@ -1,4 +1,4 @@
--- The pushed steps that a phase drops, by their labels.
+-- The pushed steps that a phase drops, by their labels, as `replay_labels::stays` tells them.
 use Prim.Native.Nat.{ℕ, _<_}
 use mathlib.Core.Path.{_≡_, refl, sym, _∙_}
 use mathlib.Core.Bool.{true, false, not, and-false}

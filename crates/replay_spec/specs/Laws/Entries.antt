@@ -1,4 +1,4 @@
--- A trace record by its bytes.
+-- A trace record by its bytes, as `replay_steal::entry::record_at` reads them.
 use Prim.Native.Nat.{ℕ, _+_, _*_, _/_, _<_}
 use mathlib.Core.Path.{_≡_}
 use mathlib.Core.List.{List, []}

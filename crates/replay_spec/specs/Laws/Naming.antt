@@ -1,4 +1,5 @@
--- The step that a number names: the walk over children as a loop does it, and a law for each case, in the terms of the code.
+-- The step that a number names, as `replay_steal::number` finds it: the walk over children turn by turn, and the number under
+-- each policy. A step that is named is a step of the tree.
 use Prim.Native.Nat.{ℕ, zero, suc, _-_, _≤_, _<_}
 use mathlib.Core.Path.{_≡_, refl, ap}
 use mathlib.Core.Bool.{Bool, true, false, cond, _&&_, _||_, not, and-false, or-true}

@@ -1,6 +1,6 @@
--- What the loop that writes one phase holds: the phase has run alone so far, the stack has what is pending behind the step that
--- is run next, and the records so far stand at the front of the phase's part of the list. One law for the start, for each kind
--- of turn, and for the end.
+-- What the loop of `replay_list::phase::write_phase` holds: the phase has run alone so far, the stack has what is pending
+-- behind the step that is run next, and the records so far stand at the front of the phase's part of the list. This is so at
+-- the start and after each kind of turn, and at the end it is the phase's whole order.
 use Prim.Native.Nat.{ℕ, _+_, _-_, _*_, _/_, _%_, _≤_, _<_}
 use mathlib.Core.Path.{_≡_, refl, sym, _∙_}
 use mathlib.Core.Bool.{true, false, not}
@@ -10,10 +10,10 @@ use lib.ListN.{length, take, drop, getD, set, length-append, length-set}
 use lib.Seq.{getD-set-same, getD-set-other, sets-eq, take-append-seam, drop-append-add, drop-drop}
 use borrow.Author.Tests.{eq-eqb, ne-eqb}
 use Rattle.rules.specs.Bytes.{twoBytes}
-use Rattle.rules.specs.Tree.{kinds, kindAt, isEnd, treeVerdict}
+use Rattle.rules.specs.Tree.{mostSteps, kinds, kindAt, isEnd, treeVerdict}
 use Rattle.rules.specs.Scheduling.{holds, pushes, Phase, phaseAt}
 use Rattle.rules.specs.Traces.{covers, entryBytes}
-use Rattle.rules.specs.Calls.{written}
+use Rattle.rules.specs.Calls.{mostTraceRecords, written}
 use Rattle.tree_scan.specs.Laws.Frames.{Frame, accepted-frame}
 use Rattle.run_invariant.specs.Laws.Counts.{has-head}
 use Rattle.run_invariant.specs.Laws.Weights.{pushed-within}
@@ -38,7 +38,7 @@ pub record Writing (p : ℕ) (tree labels : List ℕ) (k first : ℕ) (before st
   pub alone : Alone p (kinds tree) (phaseAt (from .phs) k) log (i ∷ deque)
   pub counted : count ≡ length log
   pub deep : depth ≡ length deque
-  pub room : length stack ≡ 2047
+  pub room : length stack ≡ mostTraceRecords
   pub stacked : Stacked stack deque
   pub filled : list ≡ written (entryBytes (inPhase k log)) before
 
@@ -85,7 +85,7 @@ module _ (p : ℕ) (tree labels : List ℕ) (accepts : treeVerdict tree .number 
   cut : (w : Writable p (kinds tree) labels k first (length before)) → Cut p (kinds tree) (phaseAt (w .phs) k)
   cut w = w .split .cuts k (w .begun)
 
-  pub writing-start : Writable p (kinds tree) labels k first (length before) → (stack : List ℕ) → length stack ≡ 2047
+  pub writing-start : Writable p (kinds tree) labels k first (length before) → (stack : List ℕ) → length stack ≡ mostTraceRecords
       → Writing p tree labels k first before stack before first 0 0
   unfolding entryBytes inPhase written flatten
   writing-start w stack room =
@@ -112,7 +112,8 @@ module _ (p : ℕ) (tree labels : List ℕ) (accepts : treeVerdict tree .number 
     size = rw (length-entries, length-in-phase, so .counted) refl
 
     -- The step is one of the tree, its record has room, and the stack is not overfull.
-    pub record-fits : (i < length (kinds tree)) × (4 * count + 4 ≤ length before) × (length list ≡ length before) × (depth ≤ 2047)
+    pub record-fits : (i < length (kinds tree)) × (4 * count + 4 ≤ length before)
+        × (length list ≡ length before) × (depth ≤ mostTraceRecords)
     record-fits =
         let within = alone-within p (kinds tree) (frame .shape) ph (cut (so .from)) (so .log) i (so .deque) (so .alone) in
         let room : 4 * count + 4 ≤ length before = omega (arith, within .1, so .from .fits, so .counted) in (
@@ -132,7 +133,7 @@ module _ (p : ℕ) (tree labels : List ℕ) (accepts : treeVerdict tree .number 
       counted = omega (arith, length-append (so .log) (i ∷ []), so .counted)
 
       -- What is common to the turns that go on.
-      goes-on : (stack : List ℕ) (x : ℕ) (deque : List ℕ) → Alone p (kinds tree) ph ran (x ∷ deque) → length stack ≡ 2047
+      goes-on : (stack : List ℕ) (x : ℕ) (deque : List ℕ) → Alone p (kinds tree) ph ran (x ∷ deque) → length stack ≡ mostTraceRecords
           → Stacked stack deque → (depth : ℕ) → depth ≡ length deque
           → Writing p tree labels k first before stack next x depth (count + 1)
       goes-on stack x deque alone room stacked depth deep =
@@ -211,7 +212,7 @@ module _ (p : ℕ) (tree labels : List ℕ) (accepts : treeVerdict tree .number 
               rw pushing (alone-keeps p (kinds tree) (frame .shape) ph (cut (so .from)) (so .log) i (so .deque) (so .alone)
               opening (stays ∙ kept))
 
-          pub push-fits : depth < 2047
+          pub push-fits : depth < mostTraceRecords
           push-fits =
               let within =
               alone-within p (kinds tree) (frame .shape) ph (cut (so .from)) ran (holds p (kinds tree) i)
@@ -227,7 +228,7 @@ module _ (p : ℕ) (tree labels : List ℕ) (accepts : treeVerdict tree .number 
 
   -- What an opening step pushes is a step of the tree.
   pub pushed-inside : (i : ℕ) → i < length (kinds tree) → (kindAt (kinds tree) i ≡ 3 → ⊥)
-      → (pushed : ℕ) → pushed ≡ pushes p (kinds tree) i → (pushed < length (kinds tree)) × (pushed < 4095)
+      → (pushed : ℕ) → pushed ≡ pushes p (kinds tree) i → (pushed < length (kinds tree)) × (pushed < mostSteps)
   unfolding isEnd
   pushed-inside i h n pushed e =
       omega (

@@ -1,4 +1,4 @@
--- What a reading comes to: a law for each way that it can go.
+-- What `replay_steal::read_steal` comes to: the number names no step, or the labels tell whether the step can be stolen.
 use Prim.Native.Nat.{ℕ}
 use mathlib.Core.Path.{_≡_, refl, sym, ap, _∙_}
 use mathlib.Core.Bool.{Bool, true, false, cond, not}

@@ -1,5 +1,5 @@
--- What `judge` answers by the table of the workers' latest phases, and that it is what the rules say of a record before they
--- look at its number.
+-- What `replay_steal::entry::judge_workers` answers by the table of the workers' latest phases, case by case, and that it is
+-- what the rules say of a record before they look at its number.
 use Prim.Native.Nat.{ℕ, _≤_, _<_}
 use mathlib.Core.Path.{_≡_, refl, sym}
 use mathlib.Core.Bool.{Bool, true, false, cond, _||_, or-true}
@@ -10,16 +10,17 @@ use native.Mathlib.Omega.{arith}
 use lib.ListN.{length, getD, set}
 use lib.Seq.{getD-set-same, getD-set-other}
 use lib.Dec.{eqb, leb}
-use borrow.Author.Tests.{leb-false, eqb-true, eqb-false, le-leb, lt-leb, eq-eqb, ne-eqb}
+use borrow.Author.Tests.{leb-false, eqb-true, eqb-false, lt-leb, eq-eqb, ne-eqb}
 use Rattle.rules.specs.Scheduling.{mostWorkers, Phase, phaseAt, begin}
 use Rattle.rules.specs.Traces.{latestPhase, numberAllowed, recordNumber, judgeRead, judgeTraceRecord}
 use Rattle.run_invariant.specs.Laws.Counts.{or-none}
+use Rattle.replay_invariant.specs.Laws.Labels.{free}
 use Rattle.replay_invariant.specs.Laws.Always.{latest-own, latest-begin}
 use Rattle.replay_spec.specs.Entries.{judgedWorkers}
 
 -- A worker's latest phase, by the table.
 abbrev pub LatestShown : Option ℕ → ℕ → Type 0
-LatestShown none x = x ≡ 65535
+LatestShown none x = x ≡ free
 LatestShown (some k) x = x ≡ k
 
 -- The table shows all workers' latest phases.
@@ -29,29 +30,29 @@ Latest phs latest = (w : ℕ) → w < mostWorkers → LatestShown (latestPhase w
 -- ---- each answer
 
 module _ (latest : List ℕ) (thief victim : ℕ) where
-  pub thief-refused : 15 < thief → 8 ≡ judgedWorkers latest thief victim
+  pub thief-refused : leb mostWorkers thief ≡ true → 8 ≡ judgedWorkers latest thief victim
   unfolding judgedWorkers
-  thief-refused h = rw (le-leb 16 thief (omega arith)) refl
+  thief-refused e = rw e refl
 
-  pub victim-refused : 15 < victim → 8 ≡ judgedWorkers latest thief victim
+  pub victim-refused : leb mostWorkers victim ≡ true → 8 ≡ judgedWorkers latest thief victim
   unfolding judgedWorkers
-  victim-refused h = rw (le-leb 16 victim (omega arith), or-true (leb 16 thief)) refl
+  victim-refused e = rw (e, or-true (leb mostWorkers thief)) refl
 
-  module _ (t : thief ≤ 15) (v : victim ≤ 15) where
+  module _ (t : leb mostWorkers thief ≡ false) (v : leb mostWorkers victim ≡ false) where
     pub same-refused : thief ≡ victim → 13 ≡ judgedWorkers latest thief victim
     unfolding judgedWorkers
-    same-refused e = rw (lt-leb 16 thief (omega arith), lt-leb 16 victim (omega arith), eq-eqb thief victim e) refl
+    same-refused e = rw (t, v, eq-eqb thief victim e) refl
 
     -- Two workers: the table decides.
-    by-table : (thief ≡ victim → ⊥) → judgedWorkers latest thief victim ≡ cond (eqb (getD latest victim 0) 65535) 14 0
+    by-table : (thief ≡ victim → ⊥) → judgedWorkers latest thief victim ≡ cond (eqb (getD latest victim 0) free) 14 0
     unfolding judgedWorkers
-    by-table n = rw (lt-leb 16 thief (omega arith), lt-leb 16 victim (omega arith), ne-eqb thief victim n) refl
+    by-table n = rw (t, v, ne-eqb thief victim n) refl
 
-    pub unseen-refused : (thief ≡ victim → ⊥) → getD latest victim 0 ≡ 65535 → 14 ≡ judgedWorkers latest thief victim
-    unseen-refused n e = rw (by-table n, eq-eqb (getD latest victim 0) 65535 e) refl
+    pub unseen-refused : (thief ≡ victim → ⊥) → getD latest victim 0 ≡ free → 14 ≡ judgedWorkers latest thief victim
+    unseen-refused n e = rw (by-table n, eq-eqb (getD latest victim 0) free e) refl
 
-    pub none-refused : (thief ≡ victim → ⊥) → (getD latest victim 0 ≡ 65535 → ⊥) → 0 ≡ judgedWorkers latest thief victim
-    none-refused n m = rw (by-table n, ne-eqb (getD latest victim 0) 65535 m) refl
+    pub none-refused : (thief ≡ victim → ⊥) → (getD latest victim 0 ≡ free → ⊥) → 0 ≡ judgedWorkers latest thief victim
+    none-refused n m = rw (by-table n, ne-eqb (getD latest victim 0) free m) refl
 
 -- ---- what no refusal says
 
@@ -64,14 +65,14 @@ refused-none false false false true e = absurd (omega arith)
 refused-none false false false false e = (refl, refl, refl, refl)
 
 pub fine-workers : (latest : List ℕ) (thief victim : ℕ) → judgedWorkers latest thief victim ≡ 0
-    → (thief < mostWorkers) × (victim < mostWorkers) × (thief ≡ victim → ⊥) × (getD latest victim 0 ≡ 65535 → ⊥)
+    → (thief < mostWorkers) × (victim < mostWorkers) × (thief ≡ victim → ⊥) × (getD latest victim 0 ≡ free → ⊥)
 unfolding judgedWorkers
 fine-workers latest thief victim e =
-    let by = refused-none (leb 16 thief) (leb 16 victim) (eqb thief victim) (eqb (getD latest victim 0) 65535) e in (
-      leb-false 16 thief (by .0),
-      leb-false 16 victim (by .1),
+    let by = refused-none (leb mostWorkers thief) (leb mostWorkers victim) (eqb thief victim) (eqb (getD latest victim 0) free) e in (
+      leb-false mostWorkers thief (by .0),
+      leb-false mostWorkers victim (by .1),
       eqb-false thief victim (by .2),
-      eqb-false (getD latest victim 0) 65535 (by .3),
+      eqb-false (getD latest victim 0) free (by .3),
     )
 
 -- ---- the rules
@@ -87,7 +88,7 @@ refused-first false false false rest f n = absurd (n refl)
 
 module _ (phs : List Phase) (latest : List ℕ) (shown : Latest phs latest) where
   -- A worker's latest phase, where the table has one.
-  pub latest-some : (w : ℕ) → w < mostWorkers → (getD latest w 0 ≡ 65535 → ⊥) → latestPhase w 0 phs ≡ some (getD latest w 0)
+  pub latest-some : (w : ℕ) → w < mostWorkers → (getD latest w 0 ≡ free → ⊥) → latestPhase w 0 phs ≡ some (getD latest w 0)
   latest-some w h n = by (latestPhase w 0 phs) refl (shown w h)
     where
       by : (o : Option ℕ) → latestPhase w 0 phs ≡ o → LatestShown o (getD latest w 0)
@@ -96,7 +97,7 @@ module _ (phs : List Phase) (latest : List ℕ) (shown : Latest phs latest) wher
       by (some k) e x = rw x e
 
   -- Where it has none, there is none.
-  latest-none : length phs ≤ 65535 → (w : ℕ) → w < mostWorkers → getD latest w 0 ≡ 65535 → latestPhase w 0 phs ≡ none
+  latest-none : length phs ≤ free → (w : ℕ) → w < mostWorkers → getD latest w 0 ≡ free → latestPhase w 0 phs ≡ none
   latest-none few w h f = by (latestPhase w 0 phs) refl (shown w h)
     where
       by : (o : Option ℕ) → latestPhase w 0 phs ≡ o → LatestShown o (getD latest w 0) → latestPhase w 0 phs ≡ none
@@ -112,16 +113,16 @@ module _ (phs : List Phase) (latest : List ℕ) (shown : Latest phs latest) wher
       ]
 
   module _ (p : ℕ) (ks r : List ℕ) where
-    pub judged-stop : length phs ≤ 65535 → (judgedWorkers latest (getD r 0 0) (getD r 1 0) ≡ 0 → ⊥)
+    pub judged-stop : length phs ≤ free → (judgedWorkers latest (getD r 0 0) (getD r 1 0) ≡ 0 → ⊥)
         → judgeTraceRecord mostWorkers p ks phs r ≡ judgedWorkers latest (getD r 0 0) (getD r 1 0)
     unfolding judgeTraceRecord judgedWorkers judgeRead
     judged-stop few n =
         let thief = getD r 0 0 in
         let victim = getD r 1 0 in
-        refused-first (leb 16 thief || leb 16 victim) (eqb thief victim) (eqb (getD latest victim 0) 65535)
+        refused-first (leb mostWorkers thief || leb mostWorkers victim) (eqb thief victim) (eqb (getD latest victim 0) free)
         (judgeRead p ks phs victim (recordNumber r)) (λ out unseen.
-        let h = leb-false 16 victim (or-none (leb 16 thief) (leb 16 victim) out .1) in
-        rw (latest-none few victim h (eqb-true (getD latest victim 0) 65535 unseen), judgeRead) refl) n
+        let h = leb-false mostWorkers victim (or-none (leb mostWorkers thief) (leb mostWorkers victim) out .1) in
+        rw (latest-none few victim h (eqb-true (getD latest victim 0) free unseen), judgeRead) refl) n
 
     -- Where the workers are not refused, the number decides.
     pub judged-on : judgedWorkers latest (getD r 0 0) (getD r 1 0) ≡ 0
@@ -133,4 +134,4 @@ module _ (phs : List Phase) (latest : List ℕ) (shown : Latest phs latest) wher
         let victim = getD r 1 0 in
         let f = fine-workers latest thief victim e in
         let known = latest-some victim (f .1) (f .3) in
-        rw (lt-leb 16 thief (f .0), lt-leb 16 victim (f .1), ne-eqb thief victim (f .2), known, judgeRead) refl
+        rw (lt-leb mostWorkers thief (f .0), lt-leb mostWorkers victim (f .1), ne-eqb thief victim (f .2), known, judgeRead) refl

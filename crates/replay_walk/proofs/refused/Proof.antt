@@ -1,4 +1,4 @@
--- `traces::refused` meets its contract. Assumes nothing.
+-- `replay_walk::refused` meets its contract: the struct that it makes is the one that the contract names. Assumes nothing.
 use mathlib.Core.Path.{refl}
 use Rattle.replay_walk.proofs.refused.Statement.{statement}
 use Rattle.replay_walk.proofs.refused.Tie as tie

@@ -1,14 +1,16 @@
--- `traces::walk` meets its contract: the loop holds what the records so far have come to, and a law says what each way out of a
--- turn does to that. Assumes nothing.
+-- `replay_walk::walk` meets its contract: after the records so far, none of them refused, the tables show the rules' phases. So
+-- each record is judged and read as the rules do it, and what it begins keeps that so. Assumes nothing.
 use Prim.Native.Nat.{ℕ, _+_, _-_, _/_, _≤_, _<_}
 use mathlib.Core.Path.{_≡_, refl, sym, _∙_}
 use mathlib.Core.List.{List}
 use native.Mathlib.Omega.{arith}
 use lib.ListN.{length, getD}
 use borrow.Author.Needs.{needs}
-use Rattle.rules.specs.Tree.{kinds}
+use Rattle.rules.specs.Tree.{mostSteps, kinds}
+use Rattle.rules.specs.Scheduling.{mostWorkers}
 use Rattle.tree_scan.specs.Laws.Starts.{start-tree-accepts}
 use Rattle.replay_invariant.specs.Laws.Labels.{free, labelOf}
+use Rattle.replay_spec.specs.Begins.{mostPhases}
 use Rattle.replay_spec.specs.Naming.{named}
 use Rattle.replay_spec.specs.Reading.{Reading}
 use Rattle.loads.specs.Terms.{Movable}
@@ -72,14 +74,14 @@ from c = getD (top (bytes c) .loop .latest) (victim (bytes c)) 0
 
 fine : (c : tie.Else1 Inv-loop μ-loop) → judgedWorkers (top (bytes c) .loop .latest) (thief (bytes c)) (victim (bytes c)) ≡ 0
 fine c =
-    sym (c .before .judge .ensures) ∙ c .if1 .left
+    sym (c .before .judge-workers .ensures) ∙ c .if1 .left
 
 workers : (c : tie.Else1 Inv-loop μ-loop)
-    → (thief (bytes c) < 16) × (victim (bytes c) < 16) × (thief (bytes c) ≡ victim (bytes c) → ⊥) × (from c ≡ free → ⊥)
+    → (thief (bytes c) < mostWorkers) × (victim (bytes c) < mostWorkers) × (thief (bytes c) ≡ victim (bytes c) → ⊥) × (from c ≡ free → ⊥)
 workers c = two-workers (top (bytes c) .loop .inv) (this (bytes c)) (fine c)
 
 ready : (c : tie.Else1 Inv-loop μ-loop)
-    → (top (bytes c) .loop .k + 1 < 2048) × (from c < top (bytes c) .loop .k + 1)
+    → (top (bytes c) .loop .k + 1 < mostPhases) × (from c < top (bytes c) .loop .k + 1)
     × (getD (top (bytes c) .loop .bases) (from c) 0 < length (kinds (entry (top (bytes c)) .args .tree .now)))
     × (labelOf (top (bytes c) .loop .labels) 0 ≡ free → ⊥)
 ready c = read-ready (top (bytes c) .loop .inv) (this (bytes c)) (fine c)
@@ -92,7 +94,7 @@ abbrev start : tie.After-labels2 Inv-loop μ-loop → tie.At-loop Inv-loop μ-lo
 start c = top (bytes (turn c))
 
 abbrev after : tie.After-labels2 Inv-loop μ-loop → List ℕ
-after c = c .before .read .last .1 .1 .1 .0
+after c = c .before .read-steal .last .1 .1 .1 .0
 
 reading : (c : tie.After-labels2 Inv-loop μ-loop)
     → let a = entry (start c) .args in
@@ -100,8 +102,8 @@ reading : (c : tie.After-labels2 Inv-loop μ-loop)
     Reading (a .openers .now) (start c .loop .labels) at
     (named (a .policy) (kinds (a .tree .now)) (getD (start c .loop .bases) at 0) (getD (start c .loop .ordinals) at 0)
     (bytes (turn c) .record-at .result .number))
-    (c .before .read .result) (after c)
-reading c = c .before .read .ensures
+    (c .before .read-steal .result) (after c)
+reading c = c .before .read-steal .ensures
 
 kept : (c : tie.After-labels2 Inv-loop μ-loop) → length (after c) ≡ length (start c .loop .labels)
 kept c = c .labels2 .given
@@ -116,7 +118,7 @@ step c = c .before .step .given .0 .0 .0
 given : (c : tie.After-known-told Inv-loop μ-loop)
     → let a = entry (start (told c)) .args in
     (step c < length (kinds (a .tree .now))) × (getD (a .openers .now) (step c) 0 < step c)
-    × (length (kinds (a .tree .now)) ≤ 4095)
+    × (length (kinds (a .tree .now)) ≤ mostSteps)
 given c =
     let l = told c in
     begin-ready (start l .loop .inv) (this (bytes (turn l))) (fine (turn l)) (tables (start l)) _ _ (reading l) (kept l)
@@ -146,7 +148,7 @@ begin-first-requires : tie.Need-begin-first-requires Inv-loop μ-loop
 begin-first-requires c κs =
     let start = c .before .before .before .before .before .before .before .before .before .before .before .before in
     let room = label-room _ _ (start .pre .0 .0) _ (start .pre .1 .1 .1 .1 .0) in
-    (omega (arith, room), start .pre .1 .1 .1 .1 .1, refl, refl)
+    ((omega (arith, room), start .pre .1 .1 .1 .1 .1), (refl, refl))
 
 loop-holds : tie.Need-loop-holds Inv-loop μ-loop
 loop-holds c =
@@ -164,8 +166,8 @@ add-k c = search needs
 record-at-requires : tie.Need-record-at-requires Inv-loop μ-loop
 record-at-requires c κs = c .loop-test .taken
 
-judge-requires : tie.Need-judge-requires Inv-loop μ-loop
-judge-requires c κs = c .before .before .before .loop .inv .latestRoom
+judge-workers-requires : tie.Need-judge-workers-requires Inv-loop μ-loop
+judge-workers-requires c κs = c .before .before .before .loop .inv .latestRoom
 
 refused-requires : tie.Need-refused-requires Inv-loop μ-loop
 refused-requires c κs = search needs
@@ -176,7 +178,7 @@ same-length c = lent-labels (top (c .before .before .before .before))
 returns : tie.Need-returns Inv-loop μ-loop
 returns c =
     let b = c .before .before .before .before in
-    retrace-judged (top b .loop .inv) (this b) _ (c .before .before .judge .ensures) (c .before .if1 .taken) _ (c .refused .ensures)
+    retrace-judged (top b .loop .inv) (this b) _ (c .before .before .judge-workers .ensures) (c .before .if1 .taken) _ (c .refused .ensures)
 
 cast-thief : tie.Need-cast-thief Inv-loop μ-loop
 cast-thief c = omega (arith, workers (c .before))
@@ -190,8 +192,8 @@ mul-phase c = omega (arith, workers (c .before .before))
 array-read-phase : tie.Need-array-read-phase Inv-loop μ-loop
 array-read-phase c = omega (arith, workers (c .before .before))
 
-read-requires : tie.Need-read-requires Inv-loop μ-loop
-read-requires c κs =
+read-steal-requires : tie.Need-read-steal-requires Inv-loop μ-loop
+read-steal-requires c κs =
     let t = c .before .before .before .before .before in
     let room = top (bytes t) .loop .inv in
     let s = entry (top (bytes t)) in (
@@ -213,20 +215,10 @@ begin-requires c κs =
     let room = start l .loop .inv in
     let two = workers (turn l) in
     let begun = ready (turn l) in (
+      (begun .0, omega (arith, begun .0, begun .1), two .0),
       (
-        begun .0,
-        omega (arith, begun .0, begun .1),
-        two .0,
-        omega (arith, given at),
-        omega (arith, given at, entry (start l) .pre .1 .1 .0 .0),
-        omega (arith, given at),
-      ),
-      (
-        omega (arith, given at, kept l, room .labelRoom),
-        room .firstRoom,
-        room .baseRoom,
-        room .ordinalRoom,
-        room .latestRoom,
+        (omega (arith, given at), omega (arith, given at, entry (start l) .pre .1 .1 .0 .0), omega (arith, given at)),
+        ((omega (arith, given at, kept l, room .labelRoom), room .firstRoom, room .baseRoom), (room .ordinalRoom, room .latestRoom)),
       ),
     )
 
@@ -291,7 +283,7 @@ walk-spec =
     loop-holds
     add-k
     record-at-requires
-    judge-requires
+    judge-workers-requires
     refused-requires
     same-length
     returns
@@ -299,7 +291,7 @@ walk-spec =
     cast-victim
     mul-phase
     array-read-phase
-    read-requires
+    read-steal-requires
     enum-known-step
     begin-requires
     move-part-requires

@@ -14,7 +14,7 @@ use Rattle.rules.specs.Bytes.{records, wholeRecords, accepted, sum, Walked, wal
 use Rattle.rules.specs.Tree.{kinds, weights, ordinal}
 use Rattle.rules.specs.Scheduling.{workFirst, helpFirst, mostWorkers, Phase, firstPhases, phaseAt}
 use Rattle.rules.specs.Traces.{latestPhase, judgeTraceRecord, nextPhases, replayWalk, loads}
-use Rattle.rules.specs.Calls.{startVerdict}
+use Rattle.rules.specs.Calls.{mostTraceRecords, startVerdict}
 use Rattle.tree.specs.Laws.Records.{length-records}
 use Rattle.tree.specs.Laws.Walks.{walk-stop, walk-end}
 use Rattle.tree_scan.specs.Laws.Frames.{Frame, accepted-frame}
@@ -28,15 +28,16 @@ use Rattle.replay_invariant.specs.Laws.Labels.{free, labelOf, Labels, first-lab
 use Rattle.replay_invariant.specs.Laws.Always.{first-split}
 use Rattle.loads.specs.Laws.Loads.{start-loads}
 use Rattle.replay_spec.specs.Entries.{judgedWorkers, Entry}
+use Rattle.replay_spec.specs.Begins.{mostPhases}
 use Rattle.replay_spec.specs.Laws.Workers.{Latest, judged-stop}
 use Rattle.replay_walk.specs.declared.Ended.{Ended}
 use Rattle.replay_walk.specs.Terms.{Retraced}
-use Rattle.replay_walk.specs.Laws.Begins.{based-at}
+use Rattle.replay_spec.specs.Laws.Begins.{based-at}
 
 pub record Retracing (p : ℕ) (tree trace : List ℕ) (k : ℕ) (labels firsts bases ordinals latest ls : List ℕ) : Type 0 where
   pub either : (p ≡ workFirst) ⊎ (p ≡ helpFirst)
   pub frame : Frame tree
-  pub short : length trace / 4 ≤ 2047
+  pub short : length trace / 4 ≤ mostTraceRecords
   pub reached : k ≤ length trace / 4
   pub phs : List Phase
   pub walked : replayWalk mostWorkers p (kinds tree) (records 4 trace)
@@ -46,9 +47,9 @@ pub record Retracing (p : ℕ) (tree trace : List ℕ) (k : ℕ) (labels firsts 
   -- Each record has begun one phase.
   pub many : k + 1 ≡ length phs
   pub labelRoom : length labels ≡ length (kinds tree)
-  pub firstRoom : length firsts ≡ 2048
-  pub baseRoom : length bases ≡ 2048
-  pub ordinalRoom : length ordinals ≡ 2048
+  pub firstRoom : length firsts ≡ mostPhases
+  pub baseRoom : length bases ≡ mostPhases
+  pub ordinalRoom : length ordinals ≡ mostPhases
   pub latestRoom : length latest ≡ mostWorkers
   pub begins : (i : ℕ) → i < length phs → getD firsts i 0 ≡ phaseAt phs i .first
   pub within : (i : ℕ) → i < length phs → getD bases i 0 < length (kinds tree)
@@ -85,28 +86,29 @@ tables-filled tree ends openers sums right opened added light =
 
 -- The labels that the walk is lent.
 pub label-room : (p : ℕ) (tree : List ℕ) → startVerdict p tree .number ≡ 0 → (labels : List ℕ)
-    → labels ≡ replicate (length (kinds tree)) 65535 → (length labels ≡ length (kinds tree)) × (1 ≤ length (kinds tree))
+    → labels ≡ replicate (length (kinds tree)) free → (length labels ≡ length (kinds tree)) × (1 ≤ length (kinds tree))
 label-room p tree accepts labels is = (
-  rw is (length-replicate {A = ℕ} (length (kinds tree)) 65535),
+  rw is (length-replicate {A = ℕ} (length (kinds tree)) free),
   accepted-frame tree (start-tree-accepts p tree accepts) .some,
 )
 
 -- No phase but phase 0 has begun, so only worker 0 has one.
-first-latest : Latest firstPhases (set (replicate 16 65535) 0 0)
+first-latest : Latest firstPhases (set (replicate mostWorkers free) 0 0)
 unfolding firstPhases latestPhase
 first-latest zero h = refl
-first-latest (suc w) h = rw (ne-eqb 0 (suc w) (omega arith)) (getD-replicate 15 w 65535 0 (omega arith))
+first-latest (suc w) h = rw (ne-eqb 0 (suc w) (omega arith)) (getD-replicate 15 w free 0 (omega arith))
 
-records-most : (trace : List ℕ) → wholeRecords 4 2047 trace ≡ true → length trace / 4 ≤ 2047
+records-most : (trace : List ℕ) → wholeRecords 4 mostTraceRecords trace ≡ true → length trace / 4 ≤ mostTraceRecords
 unfolding wholeRecords
 records-most trace e =
-    leb-true (length trace / 4) 2047 (and-both (eqb (length trace % 4) 0) (leb (length trace / 4) 2047) e .1)
+    leb-true (length trace / 4) mostTraceRecords (and-both (eqb (length trace % 4) 0) (leb (length trace / 4) mostTraceRecords) e .1)
 
-module _ (p : ℕ) (tree trace : List ℕ) (accepts : startVerdict p tree .number ≡ 0) (fits : wholeRecords 4 2047 trace ≡ true) where
+module _ (p : ℕ) (tree trace : List ℕ) (accepts : startVerdict p tree .number ≡ 0)
+    (fits : wholeRecords 4 mostTraceRecords trace ≡ true) where
   frame : Frame tree
   frame = accepted-frame tree (start-tree-accepts p tree accepts)
 
-  start-labels : (labels : List ℕ) → labels ≡ replicate (length (kinds tree)) 65535
+  start-labels : (labels : List ℕ) → labels ≡ replicate (length (kinds tree)) free
       → (length (set labels 0 0) ≡ length (kinds tree)) × Labels (kinds tree) firstPhases (set labels 0 0)
   unfolding labelOf
   start-labels labels is =
@@ -116,22 +118,22 @@ module _ (p : ℕ) (tree trace : List ℕ) (accepts : startVerdict p tree .numbe
         size,
         first-labels p (kinds tree) (frame .some) (frame .shape) (set labels 0 0) (omega arith)
             (getD-set-same labels 0 0 free (omega (arith, room)))
-            (λ j h l. getD-set-other labels 0 j 0 free (omega arith) ∙ rw is (getD-replicate n j 65535 free l)),
+            (λ j h l. getD-set-other labels 0 j 0 free (omega arith) ∙ rw is (getD-replicate n j free free l)),
       )
 
-  started : (labels firsts bases ordinals sums : List ℕ) (n : ℕ) → labels ≡ replicate (length (kinds tree)) 65535
-      → length firsts ≡ 2048 → bases ≡ replicate 2048 0 → ordinals ≡ replicate 2048 0
+  started : (labels firsts bases ordinals sums : List ℕ) (n : ℕ) → labels ≡ replicate (length (kinds tree)) free
+      → length firsts ≡ mostPhases → bases ≡ replicate mostPhases 0 → ordinals ≡ replicate mostPhases 0
       → Sums (weights tree) sums (length (kinds tree)) → n ≡ length (kinds tree)
-      → Retracing p tree trace 0 (set labels 0 0) (set firsts 0 0) bases ordinals (set (replicate 16 65535) 0 0)
-      (set (replicate 16 0) 0 (getD sums n 0))
+      → Retracing p tree trace 0 (set labels 0 0) (set firsts 0 0) bases ordinals (set (replicate mostWorkers free) 0 0)
+      (set (replicate mostWorkers 0) 0 (getD sums n 0))
   unfolding replayWalk firstPhases phaseAt sum
   started labels firsts bases ordinals sums n unlabelled room zeros also added count =
       let ks = kinds tree in
       let sh = frame .shape in
       let either = admitted-policy p tree accepts in
       let start = start-labels labels unlabelled in
-      let base-zero : (i : ℕ) → i < 2048 → getD bases i 0 ≡ 0 = λ i h. rw zeros (getD-replicate 2048 i 0 0 h) in
-      let ordinal-zero : (i : ℕ) → i < 2048 → getD ordinals i 0 ≡ 0 = λ i h. rw also (getD-replicate 2048 i 0 0 h) in
+      let base-zero : (i : ℕ) → i < mostPhases → getD bases i 0 ≡ 0 = λ i h. rw zeros (getD-replicate mostPhases i 0 0 h) in
+      let ordinal-zero : (i : ℕ) → i < mostPhases → getD ordinals i 0 ≡ 0 = λ i h. rw also (getD-replicate mostPhases i 0 0 h) in
       let root = root-first ks .1 in
       let all : getD sums n 0 ≡ weightBefore (weights tree) (length ks) = rw count (added (length ks) (omega arith)) in
       record {
@@ -146,8 +148,8 @@ module _ (p : ℕ) (tree trace : List ℕ) (accepts : startVerdict p tree .numbe
         many = refl;
         labelRoom = start .0;
         firstRoom = length-set firsts 0 0 ∙ room;
-        baseRoom = rw zeros (length-replicate {A = ℕ} 2048 0);
-        ordinalRoom = rw also (length-replicate {A = ℕ} 2048 0);
+        baseRoom = rw zeros (length-replicate {A = ℕ} mostPhases 0);
+        ordinalRoom = rw also (length-replicate {A = ℕ} mostPhases 0);
         latestRoom = refl;
         begins = λ i h. let e : i ≡ 0 = omega arith in rw e (getD-set-same firsts 0 0 0 (omega arith));
         within = λ i h. rw (base-zero i (omega arith)) (omega (arith, frame .some));
@@ -163,10 +165,10 @@ module _ (p : ℕ) (tree trace : List ℕ) (accepts : startVerdict p tree .numbe
 
   -- The tables then, of those that the walk is lent and of its own.
   pub retrace-start : (sums : List ℕ) (n : ℕ) → Sums (weights tree) sums (length (kinds tree)) → n ≡ length (kinds tree)
-      → (lent : List ℕ) → lent ≡ replicate (length (kinds tree)) 65535 → (own : List ℕ) → length own ≡ 2048
+      → (lent : List ℕ) → lent ≡ replicate (length (kinds tree)) free → (own : List ℕ) → length own ≡ mostPhases
       → (labels firsts bases ordinals latest ls : List ℕ) → labels ≡ set lent 0 0 → firsts ≡ set own 0 0
-      → bases ≡ replicate 2048 0 → ordinals ≡ replicate 2048 0 → latest ≡ set (replicate 16 65535) 0 0
-      → ls ≡ set (replicate 16 0) 0 (getD sums n 0) → Retracing p tree trace 0 labels firsts bases ordinals latest ls
+      → bases ≡ replicate mostPhases 0 → ordinals ≡ replicate mostPhases 0 → latest ≡ set (replicate mostWorkers free) 0 0
+      → ls ≡ set (replicate mostWorkers 0) 0 (getD sums n 0) → Retracing p tree trace 0 labels firsts bases ordinals latest ls
   retrace-start sums n added count lent unlabelled own room labels firsts bases ordinals latest ls label first base at last load =
       rw (label, first, last, load) (started lent own bases ordinals sums n unlabelled room base at added count)
 
@@ -201,7 +203,7 @@ module _ {p : ℕ} {tree trace : List ℕ} {k : ℕ} {labels firsts bases ordina
     (entry : Entry trace k thief victim number) where
   -- It is refused: `after` are the labels that are left then.
   pub retrace-stopped : (x : ℕ) → judgeTraceRecord mostWorkers p (kinds tree) (so .phs) (getD (records 4 trace) k []) ≡ x
-      → (x ≡ 0 → ⊥) → (r : Ended) → r ≡ record { number = x; position = k; phases = 0; loads = replicate 16 0 } → (after : List ℕ)
+      → (x ≡ 0 → ⊥) → (r : Ended) → r ≡ record { number = x; position = k; phases = 0; loads = replicate mostWorkers 0 } → (after : List ℕ)
       → length after ≡ length (kinds tree) → Retraced p tree trace r after firsts
   retrace-stopped x j n r is after room =
       let stop =
@@ -222,7 +224,7 @@ module _ {p : ℕ} {tree trace : List ℕ} {k : ℕ} {labels firsts bases ordina
       }
 
   pub retrace-judged : (x : ℕ) → x ≡ judgedWorkers latest thief victim → (x ≡ 0 → ⊥) → (r : Ended)
-      → r ≡ record { number = x; position = k; phases = 0; loads = replicate 16 0 } → Retraced p tree trace r labels firsts
+      → r ≡ record { number = x; position = k; phases = 0; loads = replicate mostWorkers 0 } → Retraced p tree trace r labels firsts
   retrace-judged x e n r is =
       let judged = judged-stop (so .phs) latest (so .latests) p (kinds tree) (getD (records 4 trace) k []) (so .shown .few) in
       let stop = rw (entry .first, entry .second) at judged in

@@ -9,7 +9,7 @@ use native.Mathlib.Numerals.{add-one}
 use native.Mathlib.Omega.{arith}
 use lib.ListN.{length, drop, getD, set, replicate, length-set}
 use Rattle.rules.specs.Bytes.{records, walk}
-use Rattle.rules.specs.Tree.{kinds, weights}
+use Rattle.rules.specs.Tree.{mostSteps, kinds, weights}
 use Rattle.rules.specs.Scheduling.{mostWorkers, pushes, Phase, phaseAt, begin}
 use Rattle.rules.specs.Traces.{latestPhase, numberAllowed, stolenStep, judgeTraceRecord, nextPhases, replayWalk, loads}
 use Rattle.tree.specs.declared.Step.{Step}
@@ -29,15 +29,15 @@ use Rattle.replay_spec.specs.declared.Named.{Named}
 use Rattle.replay_spec.specs.declared.Named.the-variants.{At, Nothing}
 use Rattle.replay_spec.specs.Naming.{named}
 use Rattle.replay_spec.specs.Reading.{Reading}
+use Rattle.replay_spec.specs.Begins.{mostPhases, basesBegun, ordinalsBegun}
 use Rattle.replay_spec.specs.Laws.Reading.{opener-parts, read-allowed, read-broken}
-use Rattle.loads.specs.Terms.{loadMoved}
-use Rattle.loads.specs.Terms.{weightBetween, Movable}
+use Rattle.loads.specs.Terms.{loadMoved, weightBetween, Movable}
 use Rattle.loads.specs.Laws.Loads.{Takes, part-between, begin-loads, begin-whole, begin-movable}
 use Rattle.replay_spec.specs.Entries.{judgedWorkers, Entry}
 use Rattle.replay_spec.specs.Laws.Workers.{fine-workers, latest-some, latest-next, judged-on}
 use Rattle.replay_walk.specs.declared.Ended.{Ended}
 use Rattle.replay_walk.specs.Terms.{Retraced}
-use Rattle.replay_walk.specs.Laws.Begins.{firsts-next, bases-within, bases-next}
+use Rattle.replay_spec.specs.Laws.Begins.{firsts-next, bases-within, bases-next}
 use Rattle.replay_walk.specs.Laws.Retracing.{Retracing, Tables, retrace-stopped}
 
 -- What was pushed is not step 0.
@@ -71,7 +71,7 @@ module _ {p : ℕ} {tree trace : List ℕ} {k : ℕ} {labels firsts bases ordina
   own = latest-own victim (so .phs) from victims
 
   -- What reading asks.
-  pub read-ready : (k + 1 < 2048) × (from < k + 1) × (getD bases from 0 < length ks) × (labelOf labels 0 ≡ free → ⊥)
+  pub read-ready : (k + 1 < mostPhases) × (from < k + 1) × (getD bases from 0 < length ks) × (labelOf labels 0 ≡ free → ⊥)
   read-ready = (
     omega (arith, so .short, entry .more),
     omega (arith, so .many, own .0),
@@ -102,7 +102,7 @@ module _ {p : ℕ} {tree trace : List ℕ} {k : ℕ} {labels firsts bases ordina
         (getD bases from 0) (getD ordinals from 0) number (own .0) (λ w. so .based w from (own .0)) r after reading
 
     -- It breaks the rule.
-    pub retrace-broken : r ≡ Nothing → (e : Ended) → e ≡ record { number = 15; position = k; phases = 0; loads = replicate 16 0 }
+    pub retrace-broken : r ≡ Nothing → (e : Ended) → e ≡ record { number = 15; position = k; phases = 0; loads = replicate mostWorkers 0 }
         → Retraced p tree trace e after firsts
     retrace-broken lost e is = by (numberAllowed p ks phase number) refl
       where
@@ -138,7 +138,7 @@ module _ {p : ℕ} {tree trace : List ℕ} {k : ℕ} {labels firsts bases ordina
       opener = opener-parts ks openers (tables .opened) s (pushed-past ks sh p s (taken .pushed)) within
 
       -- What the tables ask,
-      pub begin-ready : (s < length ks) × (getD openers s 0 < s) × (length ks ≤ 4095)
+      pub begin-ready : (s < length ks) × (getD openers s 0 < s) × (length ks ≤ mostSteps)
       begin-ready = (within, part-inside ks sh (getD openers s 0) s opener .0, so .frame .most)
 
       takes : Takes ks (so .phs) thief from victim s
@@ -192,15 +192,15 @@ module _ {p : ℕ} {tree trace : List ℕ} {k : ℕ} {labels firsts bases ordina
       -- The tables then.
       module _ (labels' firsts' bases' ordinals' latest' ls' : List ℕ)
           (label : labels' ≡ set after s (k + 1)) (first : firsts' ≡ set firsts (k + 1) s)
-          (base : bases' ≡ set (set bases from (getD openers s 0 + 1)) (k + 1) s)
-          (ordinal : ordinals' ≡ set (set ordinals from 0) (k + 1) number)
+          (base : bases' ≡ basesBegun openers bases from (k + 1) s)
+          (ordinal : ordinals' ≡ ordinalsBegun ordinals from (k + 1) number)
           (last : latest' ≡ set latest thief (k + 1)) (load : ls' ≡ loadMoved ls thief victim (weightBetween ends sums s)) where
         pub retrace-begun : Retracing p tree trace (k + 1) labels' firsts' bases' ordinals' latest' ls'
+        unfolding basesBegun ordinalsBegun
         retrace-begun =
             let room = read-ready .0 in
             let baseFits : k + 1 < length bases = omega (arith, so .baseRoom) in
             let begun = own .0 in
-            let q = getD openers s 0 in
             let loaded = load ∙ next-loads in
             record {
               either = so .either;
@@ -223,9 +223,9 @@ module _ {p : ℕ} {tree trace : List ℕ} {k : ℕ} {labels firsts bases ordina
               begins = rw first
                   (firsts-next (so .phs) thief from s (k + 1) begun (so .many) firsts (omega (arith, so .firstRoom)) (so .begins));
               within = rw base
-                  (bases-within (so .phs) thief from s (k + 1) begun (so .many) ks sh q opener bases baseFits (so .within));
+                  (bases-within (so .phs) thief from s (k + 1) begun (so .many) ks sh openers opener bases baseFits (so .within));
               based = rw (base, ordinal)
-                  (bases-next (so .phs) thief from s (k + 1) begun (so .many) ks sh q opener bases baseFits ordinals
+                  (bases-next (so .phs) thief from s (k + 1) begun (so .many) ks sh openers opener bases baseFits ordinals
                   (omega (arith, so .ordinalRoom)) p number (so .based) allowed step-is taken);
               latests = rw (last, so .many)
                   (latest-next (so .phs) latest (so .latests) thief from s (omega (arith, so .latestRoom, two-workers .0)) begun);

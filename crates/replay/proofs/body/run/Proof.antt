@@ -1,4 +1,6 @@
--- `outcomes::run` meets its contract: a law for each return. Assumes nothing.
+-- `replay::body::run` meets its contract: the tables are filled and all labels free, so the walk is the rules'; where it
+-- accepts every record, the labels and first steps that it leaves are those of the phases that the run list is written from.
+-- Assumes nothing.
 use Prim.Native.Nat.{ℕ, _≤_, _<_}
 use native.Mathlib.Omega.{arith}
 use mathlib.Core.Path.{_≡_, refl, sym, ap, _∙_}

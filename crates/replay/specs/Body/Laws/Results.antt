@@ -1,4 +1,5 @@
--- Each return of the code: from what the walk over the trace's records comes to, what the call does.
+-- What an admitted replay comes to, from what the walk over the trace's records comes to: where a record is refused, and where
+-- the run list is written.
 use Prim.Native.Nat.{ℕ, zero, suc, _≤_}
 use mathlib.Core.Path.{_≡_, refl, sym, ap, _∙_}
 use mathlib.Core.List.{List, _∷_, _++_}
@@ -7,7 +8,7 @@ use lib.ListN.{length, take, replicate, length-append}
 use lib.Seq.{take-at}
 use Rattle.rules.specs.Bytes.{records}
 use Rattle.rules.specs.Tree.{kinds}
-use Rattle.rules.specs.Scheduling.{Phase}
+use Rattle.rules.specs.Scheduling.{mostWorkers, Phase}
 use Rattle.rules.specs.Traces.{entryBytes, replayWalk, runList}
 use Rattle.rules.specs.Calls.{written}
 use Rattle.tree_scan.specs.Laws.Starts.{admitted-policy}
@@ -15,8 +16,9 @@ use Rattle.tree_scan.specs.Laws.Frames.{Frame}
 use Rattle.tree_tables.specs.Laws.Fronts.{start-frame}
 use Rattle.replay_invariant.specs.Invariant.{Split}
 use Rattle.replay_invariant.specs.Laws.Always.{always-split}
-use Rattle.replay_list.specs.Terms.{listed, Listable}
-use Rattle.replay_list.specs.Laws.Orders.{listed-is}
+use Rattle.replay_spec.specs.Begins.{mostPhases}
+use Rattle.replay_spec.specs.Lists.{listed, Listable}
+use Rattle.replay_spec.specs.Laws.RunLists.{listed-is}
 use Rattle.replay_walk.specs.declared.Ended.{Ended}
 use Rattle.replay_walk.specs.Terms.{Retraced}
 use Rattle.replay.specs.Body.Terms.{Admitted, Outcome}
@@ -37,7 +39,7 @@ module _ (n : ℕ) (front rest : List ℕ) (many : length front ≡ n) where
   pub front-length : n ≡ length (take n (front ++ rest))
   front-length = rw (take-at front rest n many) (sym many)
 
--- ---- the returns
+-- ---- what the call does
 
 module _ {p : ℕ} {tree trace list : List ℕ} {n : ℕ} {w : Ended} {labels firsts : List ℕ}
     (ready : Admitted p tree trace n list) (so : Retraced p tree trace w labels firsts) where
@@ -59,12 +61,12 @@ module _ {p : ℕ} {tree trace list : List ℕ} {n : ℕ} {w : Ended} {labels fi
     frame = start-frame p tree (ready .started)
 
     abbrev phs : List Phase
-    phs = replayWalk 16 p (kinds tree) (records 4 trace) .state
+    phs = replayWalk mostWorkers p (kinds tree) (records 4 trace) .state
 
     split : Split p (kinds tree) phs
     split =
         let either = admitted-policy p tree (ready .started) in
-        always-split p either (kinds tree) (frame .some) (frame .shape) 16 (records 4 trace)
+        always-split p either (kinds tree) (frame .some) (frame .shape) mostWorkers (records 4 trace)
 
     -- The run list can be written,
     listable : Listable p (kinds tree) labels firsts (w .phases) (length list)
@@ -82,7 +84,7 @@ module _ {p : ℕ} {tree trace list : List ℕ} {n : ℕ} {w : Ended} {labels fi
 
     -- by the labels lent again,
     pub done-asked : (lent : List ℕ) → lent ≡ labels
-        → ((length lent ≡ length (kinds tree)) × (length firsts ≡ 2048))
+        → ((length lent ≡ length (kinds tree)) × (length firsts ≡ mostPhases))
         × Listable p (kinds tree) lent firsts (w .phases) (length list)
     done-asked lent same = rw same (so .sizes, listable)
 

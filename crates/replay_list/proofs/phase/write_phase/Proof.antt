@@ -1,11 +1,12 @@
--- `orders::write_phase` meets its contract: the loop holds that the phase has run alone so far, and a law says what each kind of
--- turn does to that. Assumes nothing.
+-- `replay_list::phase::write_phase` meets its contract: the stack has what the phase, run alone so far, has pending. A pushed
+-- step stays exactly where the phase covers it, so each covered step is written once and the loop ends. Assumes nothing.
 use Prim.Native.Nat.{_+_, _-_, _*_, _≤_, _<_}
 use mathlib.Core.Path.{_≡_, sym, ap, _∙_}
 use native.Mathlib.Omega.{arith}
 use lib.ListN.{length}
 use borrow.Author.Needs.{needs}
-use Rattle.rules.specs.Tree.{kinds}
+use Rattle.rules.specs.Tree.{mostSteps, kinds}
+use Rattle.rules.specs.Calls.{mostTraceRecords}
 use Rattle.buffers.specs.Laws.Records.{put-length}
 use Rattle.replay_spec.specs.Laws.Stacks.{Writing, writing-start, record-fits, phase-done, step-popped, step-dropped, push-fits}
 use Rattle.replay_spec.specs.Laws.Stacks.{step-pushed, pushed-inside}
@@ -20,13 +21,16 @@ abbrev μ-loop : tie.MeasureT-loop
 μ-loop tree ends labels policy phase first stack₀ list₀ i₀ depth₀ count₀ stack list i depth count =
     length list₀ - 4 * count
 
+abbrev start : tie.At-loop Inv-loop μ-loop → tie.Start Inv-loop μ-loop
+start c = c .before .before .before .before .before .before
+
 -- The step is one of the tree, its record has room, and the stack is not overfull.
 fits : (c : tie.At-loop Inv-loop μ-loop)
-    → (c .loop .i < length (kinds (c .before .before .before .before .before .before .args .tree .now))) ×
-    (4 * c .loop .count + 4 ≤ length (c .before .before .before .before .before .before .args .list .now)) × (length
-    (c .loop .list) ≡ length (c .before .before .before .before .before .before .args .list .now)) × (c .loop .depth ≤ 2047)
+    → let a = start c .args in
+    (c .loop .i < length (kinds (a .tree .now))) × (4 * c .loop .count + 4 ≤ length (a .list .now))
+    × (length (c .loop .list) ≡ length (a .list .now)) × (c .loop .depth ≤ mostTraceRecords)
 fits c =
-    let s = c .before .before .before .before .before .before in
+    let s = start c in
     let a = s .args in
     let l = c .loop in
     record-fits (a .policy) (a .tree .now) (a .labels .now) (s .pre .0 .0) (a .phase) (a .first) (a .list .now) (l .stack)
@@ -34,23 +38,22 @@ fits c =
 
 -- What is pushed is a step of the tree, and where it stays the stack has room for it.
 pushed-fits : (c : tie.After-pushed-by Inv-loop μ-loop)
-    → (c .pushed-by .result .0 < length (kinds
-    (c .before .before .before .before .before .before .before .before .before .before .before .before .before .args .tree .now)))
-    × (c .pushed-by .result .0 < 4095)
+    → let at = c .before .before .before .before .before .before .before in
+    (c .pushed-by .result .0 < length (kinds (start at .args .tree .now))) × (c .pushed-by .result .0 < mostSteps)
 pushed-fits c =
-    let s = c .before .before .before .before .before .before .before .before .before .before .before .before .before in
+    let at = c .before .before .before .before .before .before .before in
+    let s = start at in
     let a = s .args in
     pushed-inside (a .policy) (a .tree .now) (a .labels .now) (s .pre .0 .0) (a .phase) (a .first) (a .list .now)
-    (c .before .before .before .before .before .before .before .loop .i) (fits
-    (c .before .before .before .before .before .before .before) .0) (λ e. c .before .if1 .left (c .before .before .kind .ensures
-    ∙ e)) _ (c .pushed-by .ensures)
+    (at .loop .i) (fits at .0) (λ e. c .before .if1 .left (c .before .before .kind .ensures ∙ e)) _ (c .pushed-by .ensures)
 
 stack-fits : (c : tie.Then3 Inv-loop μ-loop)
-    → c .before .before .before .before .before .before .before .before .before .before .loop .depth < 2047
+    → c .before .before .before .before .before .before .before .before .before .before .loop .depth < mostTraceRecords
 stack-fits c =
-    let s = c .before .before .before .before .before .before .before .before .before .before .before .before .before .before .before .before in
+    let at = c .before .before .before .before .before .before .before .before .before .before in
+    let s = start at in
     let a = s .args in
-    let l = c .before .before .before .before .before .before .before .before .before .before .loop in
+    let l = at .loop in
     push-fits (a .policy) (a .tree .now) (a .labels .now) (s .pre .0 .0) (a .phase) (a .first) (a .list .now) (l .stack) (l .list)
     (l .i) (l .depth) (l .count) (l .inv) _
     (c .before .before .before .before .before .before .before .before .put-record .ensures)
@@ -83,7 +86,7 @@ kind-requires c κs = search needs
 same-length : tie.Need-same-length Inv-loop μ-loop
 same-length c =
     c .before .before .before .before .before .before .before .loop .inv .room ∙ sym
-    (c .before .before .before .before .before .before .before .before .before .before .before .before .before .pre .1 .0 .1)
+    (start (c .before .before .before .before .before .before .before) .pre .1 .0 .1)
 
 same-length-2 : tie.Need-same-length-2 Inv-loop μ-loop
 same-length-2 c =
@@ -92,9 +95,10 @@ same-length-2 c =
 
 returns : tie.Need-returns Inv-loop μ-loop
 returns c =
-    let s = c .before .before .before .before .before .before .before .before .before .before .before .before .before in
+    let at = c .before .before .before .before .before .before .before in
+    let s = start at in
     let a = s .args in
-    let l = c .before .before .before .before .before .before .before .loop in
+    let l = at .loop in
     phase-done (a .policy) (a .tree .now) (a .labels .now) (s .pre .0 .0) (a .phase) (a .first) (a .list .now) (l .stack)
     (l .list) (l .i) (l .depth) (l .count) (l .inv) _ (c .before .before .before .before .before .put-record .ensures) (sym
     (c .before .before .kind .ensures) ∙ c .before .if1 .taken) (c .if2 .taken)
@@ -123,9 +127,10 @@ loop-less c = omega (arith, fits (c .before .before .before .before .before .bef
 
 loop-again : tie.Need-loop-again Inv-loop μ-loop
 loop-again c =
-    let s = c .before .before .before .before .before .before .before .before .before .before .before .before .before .before .before in
+    let at = c .before .before .before .before .before .before .before .before .before in
+    let s = start at in
     let a = s .args in
-    let l = c .before .before .before .before .before .before .before .before .before .loop in
+    let l = at .loop in
     rw (c .wide .ensures) (step-popped (a .policy) (a .tree .now) (a .labels .now) (s .pre .0 .0) (a .phase) (a .first)
     (a .list .now) (l .stack) (l .list) (l .i) (l .depth) (l .count) (l .inv) _
     (c .before .before .before .before .before .before .before .put-record .ensures) (sym
@@ -133,11 +138,11 @@ loop-again c =
 
 pushed-by-requires : tie.Need-pushed-by-requires Inv-loop μ-loop
 pushed-by-requires c κs =
-    (fits (c .before .before .before .before .before .before) .0, c .before .before .before .before .before .before .before .before .before .before .before .before .pre .0 .1)
+    (fits (c .before .before .before .before .before .before) .0, start (c .before .before .before .before .before .before) .pre .0 .1)
 
 held-after-requires : tie.Need-held-after-requires Inv-loop μ-loop
 held-after-requires c κs =
-    (fits (c .before .before .before .before .before .before .before) .0, c .before .before .before .before .before .before .before .before .before .before .before .before .before .pre .0 .1)
+    (fits (c .before .before .before .before .before .before .before) .0, start (c .before .before .before .before .before .before .before) .pre .0 .1)
 
 stays-requires : tie.Need-stays-requires Inv-loop μ-loop
 stays-requires c κs =
@@ -145,7 +150,7 @@ stays-requires c κs =
       arith,
       pushed-fits
           (c .before),
-      c .before .before .before .before .before .before .before .before .before .before .before .before .before .before .pre .1 .0 .0,
+      start (c .before .before .before .before .before .before .before .before) .pre .1 .0 .0,
     )
 
 cast-stack : tie.Need-cast-stack Inv-loop μ-loop
@@ -166,9 +171,10 @@ loop-less-2 c = omega (arith, fits (c .before .before .before .before .before .b
 
 loop-again-2 : tie.Need-loop-again-2 Inv-loop μ-loop
 loop-again-2 c =
-    let s = c .before .before .before .before .before .before .before .before .before .before .before .before .before .before .before .before in
+    let at = c .before .before .before .before .before .before .before .before .before .before in
+    let s = start at in
     let a = s .args in
-    let l = c .before .before .before .before .before .before .before .before .before .before .loop in
+    let l = at .loop in
     step-pushed (a .policy) (a .tree .now) (a .labels .now) (s .pre .0 .0) (a .phase) (a .first) (a .list .now) (l .stack)
     (l .list) (l .i) (l .depth) (l .count) (l .inv) _
     (c .before .before .before .before .before .before .before .before .put-record .ensures)
@@ -181,9 +187,10 @@ loop-less-3 c = omega (arith, fits (c .before .before .before .before .before .b
 
 loop-again-3 : tie.Need-loop-again-3 Inv-loop μ-loop
 loop-again-3 c =
-    let s = c .before .before .before .before .before .before .before .before .before .before .before .before .before .before .before .before in
+    let at = c .before .before .before .before .before .before .before .before .before .before in
+    let s = start at in
     let a = s .args in
-    let l = c .before .before .before .before .before .before .before .before .before .before .loop in
+    let l = at .loop in
     step-dropped (a .policy) (a .tree .now) (a .labels .now) (s .pre .0 .0) (a .phase) (a .first) (a .list .now) (l .stack)
     (l .list) (l .i) (l .depth) (l .count) (l .inv) _
     (c .before .before .before .before .before .before .before .before .put-record .ensures)

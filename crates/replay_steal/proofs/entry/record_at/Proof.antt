@@ -1,4 +1,5 @@
--- `entries::record_at` meets its contract: the four bytes of record k are read. Assumes nothing.
+-- `replay_steal::entry::record_at` meets its contract: record k has the four bytes from 4k on, and the last two are its
+-- number. Assumes nothing.
 use borrow.Author.Needs.{needs}
 use Rattle.replay_spec.specs.Laws.Entries.{entry-bytes}
 use Rattle.replay_steal.proofs.entry.record_at.Statement.{statement}

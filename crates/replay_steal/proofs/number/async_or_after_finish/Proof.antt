@@ -1,4 +1,5 @@
--- `names::async_or_after_finish` meets its contract: a law for each way that it returns. Assumes nothing.
+-- `replay_steal::number::async_or_after_finish` meets its contract: the kind of the step before tells an async child's first
+-- step, and the table of openers tells a step after a finish child. Step 0 is neither. Assumes nothing.
 use mathlib.Core.Path.{sym, _∙_}
 use native.Mathlib.Omega.{arith}
 use borrow.Author.Needs.{needs}

@@ -1,5 +1,5 @@
--- `names::hop` meets its contract: the loop holds what is found from where it stands, over the children that are left, and a
--- law says what a turn does to that. Assumes nothing.
+-- `replay_steal::number::hop` meets its contract: over the children that are left, the walk from where the loop stands finds
+-- what the whole walk finds from its start. Assumes nothing.
 use mathlib.Core.Path.{_≡_, refl, sym, _∙_}
 use native.Mathlib.Omega.{arith}
 use borrow.Author.Needs.{needs}

@@ -1,8 +1,13 @@
--- `begins::begin` meets its contract: each table has what was stored. Assumes nothing.
+-- `replay_steal::phase::begin` meets its contract: each table is stored to at the places that the contract names, and at no
+-- other. Assumes nothing.
 use mathlib.Core.Path.{refl}
 use borrow.Author.Needs.{needs}
+use Rattle.replay_spec.specs.Begins.{basesBegun, ordinalsBegun}
 use Rattle.replay_steal.proofs.phase.begin.Statement.{statement}
 use Rattle.replay_steal.proofs.phase.begin.Tie as tie
+
+cast-from : tie.Need-cast-from
+cast-from c = search needs
 
 cast-labels : tie.Need-cast-labels
 cast-labels c = search needs
@@ -71,12 +76,14 @@ same-length : tie.Need-same-length
 same-length c = search needs
 
 returns : tie.Need-returns
+unfolding basesBegun ordinalsBegun
 returns c = (refl, (refl, (refl, (refl, refl))))
 
 pub begin-spec : {M : Type 1} → statement M
 begin-spec =
     tie.close
     (tie.spec
+    cast-from
     cast-labels
     mul-labels
     slice-write-labels

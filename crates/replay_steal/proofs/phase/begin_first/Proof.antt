@@ -1,4 +1,5 @@
--- `begins::begin_first` meets its contract: each table has what was stored. Assumes nothing.
+-- `replay_steal::phase::begin_first` meets its contract: the first entry of each table is stored, and no other. Assumes
+-- nothing.
 use mathlib.Core.Path.{refl}
 use borrow.Author.Needs.{needs}
 use Rattle.replay_steal.proofs.phase.begin_first.Statement.{statement}

@@ -7,7 +7,8 @@ use Rattle.rules.specs.Bytes.{count}
 use Rattle.rules.specs.Scheduling.{Phase, phaseAt, Entry}
 use Rattle.replay_invariant.specs.Invariant.{Split}
 use Rattle.replay_invariant.specs.Laws.Labels.{Labels}
+use Rattle.replay_spec.specs.Begins.{mostPhases}
 use Rattle.replay_spec.specs.Orders.{phaseOrder, inPhase}
 
 -- The records of the first m phases.
 unfoldable pub listed : ℕ → List ℕ → List ℕ → List ℕ → ℕ → List Entry
@@ -20,6 +21,6 @@ pub record Listable (p : ℕ) (ks labels firsts : List ℕ) (m room : ℕ) : Typ
   pub split : Split p ks phs
   pub shown : Labels ks phs labels
   pub many : m ≡ length phs
-  pub few : m ≤ 2048
+  pub few : m ≤ mostPhases
   pub begins : (k : ℕ) → k < m → getD firsts k 0 ≡ phaseAt phs k .first
   pub fits : 4 * length ks ≤ room

@@ -1,5 +1,5 @@
--- The tables of phases when one begins: first steps, and for each phase the step and the ordinal from which its frontier task
--- is walked. `phs` are the phases before, `m` how many; worker t takes step s from phase k.
+-- The tables of phases are right once one begins: first steps, and for each phase the step and the ordinal from which its
+-- frontier task is walked. `phs` are the phases before, `m` how many; worker t takes step s from phase k.
 use Prim.Native.Nat.{ℕ, suc, _+_, _<_}
 use mathlib.Core.Path.{_≡_, refl, sym, ap, _∙_}
 use mathlib.Core.Bool.{true}
@@ -21,6 +21,7 @@ use Rattle.replay_invariant.specs.Invariant.{Taken}
 use Rattle.replay_invariant.specs.Laws.Tasks.{task-step}
 use Rattle.replay_invariant.specs.Laws.Parts.{PartOf, part-inside, part-once}
 use Rattle.replay_invariant.specs.Laws.Reads.{Based, based-fresh, based-allowed, based-robbed}
+use Rattle.replay_spec.specs.Begins.{basesBegun, ordinalsBegun}
 
 -- ---- a table in which the entries k and m have been set
 
@@ -67,6 +68,9 @@ module _ (ks : List ℕ) (sh : Shape (length ks) (endAt ks) (sizeAt ks)) where
         let same : q ≡ by .0 = part-once ks sh q (by .0) s of (by .1, by .2, inr is) in
         rw (w, same) (based-robbed ks sh ph base at number (by .0) b (rw w at a) (by .1) (by .2) (rw w at is))
 
+    child-named : (q s : ℕ) → s ≡ stolenStep p ks ph number → PartOf ks q s → Taken p ks ph s → Based ks sh (robbed ph s) (suc q) 0
+    child-named q s e of taken = rw e (child-next q (rw e at of) (rw e at taken))
+
 -- ---- the tables of phases
 
 module _ (phs : List Phase) (t k s m : ℕ) (begun : k < length phs) (count : m ≡ length phs) where
@@ -92,13 +96,17 @@ module _ (phs : List Phase) (t k s m : ℕ) (begun : k < length phs) (count : m 
             getD-set-other firsts m i s 0 n ∙ (shown i old ∙ sym (begin-same phs t k s (λ x. x .first) refl i old))
       ]
 
-  module _ (ks : List ℕ) (sh : Shape (length ks) (endAt ks) (sizeAt ks)) (q : ℕ) (of : PartOf ks q s)
-      (bases : List ℕ) (room : m < length bases) where
+  module _ (ks : List ℕ) (sh : Shape (length ks) (endAt ks) (sizeAt ks)) (openers : List ℕ)
+      (of : PartOf ks (getD openers s 0) s) (bases : List ℕ) (room : m < length bases) where
+    abbrev q : ℕ
+    q = getD openers s 0
+
     abbrev newBases : List ℕ
-    newBases = set (set bases k (q + 1)) m s
+    newBases = basesBegun openers bases k m s
 
     pub bases-within : ((i : ℕ) → i < length phs → getD bases i 0 < length ks)
         → (i : ℕ) → i < length (begin phs t k s) → getD newBases i 0 < length ks
+    unfolding basesBegun
     bases-within within i h =
         let inside = part-inside ks sh q s of in
         by-phase i h (λ e. rw (e, set-new bases k m (q + 1) s (omega arith) room) (inside .3))
@@ -110,9 +118,10 @@ module _ (phs : List Phase) (t k s m : ℕ) (begun : k < length phs) (count : m 
         (allowed : numberAllowed p ks (phaseAt phs k) number ≡ true) (named : s ≡ stolenStep p ks (phaseAt phs k) number)
         (taken : Taken p ks (phaseAt phs k) s) where
       abbrev newOrdinals : List ℕ
-      newOrdinals = set (set ordinals k 0) m number
+      newOrdinals = ordinalsBegun ordinals k m number
 
       new-based : p ≡ workFirst → Based ks sh (phaseAt (begin phs t k s) m) (getD newBases m 0) (getD newOrdinals m 0)
+      unfolding basesBegun ordinalsBegun
       new-based w =
           let is = ordinal-is ks sh p w (phaseAt phs k) _ _ number (based w k begun) allowed in
           let own : ordinal ks s ≡ number = rw named is in
@@ -121,14 +130,15 @@ module _ (phs : List Phase) (t k s m : ℕ) (begun : k < length phs) (count : m 
           (based-fresh ks sh t s (part-inside ks sh q s of .3))
 
       old-based : p ≡ workFirst → Based ks sh (phaseAt (begin phs t k s) k) (getD newBases k 0) (getD newOrdinals k 0)
+      unfolding basesBegun ordinalsBegun
       old-based w =
           based-at ks sh (begin-robbed phs t k s begun)
           (set-old bases k m (q + 1) s (omega arith) room ∙ add-one q) (set-old ordinals k m 0 number (omega arith) also)
-          (rw named
-          (child-next ks sh p w (phaseAt phs k) _ _ number (based w k begun) allowed q (rw named at of) (rw named at taken)))
+          (child-named ks sh p w (phaseAt phs k) _ _ number (based w k begun) allowed q s named of taken)
 
       pub bases-next : p ≡ workFirst → (i : ℕ) → i < length (begin phs t k s)
           → Based ks sh (phaseAt (begin phs t k s) i) (getD newBases i 0) (getD newOrdinals i 0)
+      unfolding basesBegun ordinalsBegun
       bases-next w i h =
           by-phase i h (λ e. rw e (new-based w)) (λ e. rw e (old-based w))
           (λ l n.

@@ -1,4 +1,5 @@
--- `reads::read` meets its contract: a law for each way that it returns. Assumes nothing.
+-- `replay_steal::read_steal` meets its contract: the step that the number names is a step of the tree, so it has a label, and
+-- the labels tell whether it can be stolen from the phase. Assumes nothing.
 use Prim.Native.Nat.{ℕ, _<_}
 use mathlib.Core.Path.{_≡_, sym, _∙_}
 use mathlib.Core.Option.{Option}
@@ -12,30 +13,30 @@ use Rattle.replay_spec.specs.declared.Named.the-variants.{At}
 use Rattle.replay_spec.specs.Naming.{namedOf, named}
 use Rattle.replay_spec.specs.Laws.Naming.{named-within}
 use Rattle.replay_spec.specs.Laws.Taking.{table-upward, named-some, read-unnamed, read-elsewhere, read-there}
-use Rattle.replay_steal.proofs.read.Statement.{statement}
-use Rattle.replay_steal.proofs.read.Tie as tie
+use Rattle.replay_steal.proofs.read_steal.Statement.{statement}
+use Rattle.replay_steal.proofs.read_steal.Tie as tie
 
 -- ---- the step that the number names
 
-abbrev entry : tie.After-name → tie.Start
+abbrev entry : tie.After-decode-number → tie.Start
 entry c = c .before .before .before .before .before .before .before .before .before .before .before
 
-abbrev asked : tie.After-name → Option ℕ
+abbrev asked : tie.After-decode-number → Option ℕ
 asked c =
     let a = entry c .args in
     named (a .policy) (kinds (a .tree .now)) (getD (a .bases .now) (a .phase) 0) (getD (a .ordinals .now) (a .phase) 0) (a .number)
 
-answer : (c : tie.After-name) → c .name .result ≡ namedOf (asked c)
+answer : (c : tie.After-decode-number) → c .decode-number .result ≡ namedOf (asked c)
 answer c =
     let number = c .before .wide4 .ensures in
     let ordinal = c .before .before .wide3 .ensures in
     let base = c .before .before .before .before .wide2 .ensures in
     let at = c .before .before .before .before .before .before .wide .ensures in
-    rw (number, ordinal, base, at) at (c .name .ensures)
+    rw (number, ordinal, base, at) at (c .decode-number .ensures)
 
 -- ---- where it names one
 
-abbrev naming : tie.After-known-told → tie.After-name
+abbrev naming : tie.After-known-told → tie.After-decode-number
 naming c = c .before .before .before
 
 abbrev step : tie.After-known-told → Step
@@ -83,8 +84,8 @@ wide-requires-3 c κs = search needs
 wide-requires-4 : tie.Need-wide-requires-4
 wide-requires-4 c κs = search needs
 
-name-requires : tie.Need-name-requires
-name-requires c κs = search needs
+decode-number-requires : tie.Need-decode-number-requires
+decode-number-requires c κs = search needs
 
 enum-known-step : tie.Need-enum-known-step
 enum-known-step c = search needs
@@ -131,11 +132,11 @@ returns-3 : tie.Need-returns-3
 returns-3 c =
     let at = c .before .before in
     let a = entry at .args in
-    read-unnamed (a .openers .now) (a .labels .now) (a .phase) (asked at) (at .name .result) (answer at)
+    read-unnamed (a .openers .now) (a .labels .now) (a .phase) (asked at) (at .decode-number .result) (answer at)
     (c .enum-told .given .1) (a .labels .now)
 
-pub read-spec : {M : Type 1} → statement M
-read-spec =
+pub read-steal-spec : {M : Type 1} → statement M
+read-steal-spec =
     tie.close
     (tie.spec
     wide-requires
@@ -146,7 +147,7 @@ read-spec =
     element-copy-out-wide-2
     wide-requires-3
     wide-requires-4
-    name-requires
+    decode-number-requires
     enum-known-step
     take-requires
     same-length

@@ -1,10 +1,11 @@
--- `names::name` meets its contract: a law for each way that it returns. Assumes nothing.
+-- `replay_steal::number::decode_number` meets its contract: work-first the walk over children finds the step of the ordinal,
+-- which must be above that of the base; help-first the number is asked whether it can have been pushed. Assumes nothing.
 use native.Mathlib.Omega.{arith}
 use borrow.Author.Needs.{needs}
 use Rattle.rules.specs.Tree.{kinds}
 use Rattle.replay_spec.specs.Laws.Naming.{name-own, name-hopped, name-past, name-other, name-itself}
-use Rattle.replay_steal.proofs.number.name.Statement.{statement}
-use Rattle.replay_steal.proofs.number.name.Tie as tie
+use Rattle.replay_steal.proofs.number.decode_number.Statement.{statement}
+use Rattle.replay_steal.proofs.number.decode_number.Tie as tie
 
 returns : tie.Need-returns
 returns c =
@@ -50,8 +51,8 @@ returns-5 c =
     (c .before .before .before .before .if1 .left) (omega (arith, c .before .before .before .steps .ensures))
     (asked .result) (asked .ensures) (c .if4 .left)
 
-pub name-spec : {M : Type 1} → statement M
-name-spec =
+pub decode-number-spec : {M : Type 1} → statement M
+decode-number-spec =
     tie.close
     (tie.spec
     returns

@@ -1,5 +1,5 @@
--- What the loop over the phases holds: the records of the phases so far stand at the front of the list. One law for the start,
--- for a turn, and for the end.
+-- What the loop of `replay_list::write_list` holds: the records of the phases so far stand at the front of the list. This is
+-- so at the start and after each turn, and at the end it is the run list.
 use Prim.Native.Nat.{ℕ, _+_, _*_, _≤_, _<_}
 use mathlib.Core.Path.{_≡_, refl, sym, _∙_}
 use mathlib.Core.List.{List, [], _∷_, _++_, map, flatten, append-assoc, append-nil}
@@ -11,19 +11,20 @@ use Rattle.rules.specs.Bytes.{count}
 use Rattle.rules.specs.Tree.{kinds, treeVerdict}
 use Rattle.rules.specs.Scheduling.{phaseAt, Entry}
 use Rattle.rules.specs.Traces.{runningOrder, entryBytes}
-use Rattle.rules.specs.Calls.{written}
+use Rattle.rules.specs.Calls.{mostTraceRecords, written}
 use Rattle.tree.specs.Laws.Counts.{count-snoc}
 use Rattle.tree_scan.specs.Laws.Frames.{Frame, accepted-frame}
 use Rattle.buffers.specs.Laws.Records.{length-entries}
 use Rattle.buffers.specs.Laws.Fronts.{partOf, withPart, Front, front-none, front-within, front-room, front-next}
+use Rattle.replay_spec.specs.Begins.{mostPhases}
 use Rattle.replay_spec.specs.Orders.{phaseOrder, inPhase, Writable}
 use Rattle.replay_spec.specs.Laws.Orders.{length-in-phase, order-labelled}
-use Rattle.replay_list.specs.Terms.{listed, Listable}
-use Rattle.replay_list.specs.Laws.Orders.{orders-fit}
+use Rattle.replay_spec.specs.Lists.{listed, Listable}
+use Rattle.replay_spec.specs.Laws.RunLists.{orders-fit}
 
 pub record Listing (p : ℕ) (ks labels firsts : List ℕ) (phases : ℕ) (before list stack : List ℕ) (k at : ℕ) : Type 0 where
   pub upto : k ≤ phases
-  pub room : length stack ≡ 2047
+  pub room : length stack ≡ mostTraceRecords
   pub front : Front before (entryBytes (listed p ks labels firsts k)) list at
 
 -- ---- lists
@@ -55,7 +56,7 @@ module _ (p : ℕ) (tree labels firsts : List ℕ) (accepts : treeVerdict tree .
   frame : Frame tree
   frame = accepted-frame tree accepts
 
-  pub listing-start : (stack : List ℕ) → length stack ≡ 2047
+  pub listing-start : (stack : List ℕ) → length stack ≡ mostTraceRecords
       → Listing p (kinds tree) labels firsts phases before before stack 0 0
   unfolding listed entryBytes written flatten count
   listing-start stack room =
@@ -88,7 +89,7 @@ module _ (p : ℕ) (tree labels firsts : List ℕ) (accepts : treeVerdict tree .
           (λ j l. given .begins j (rw (← given .many) at l)) k begun in
           rw order-is (omega (arith, all, so .front .many, length-entries (listed p (kinds tree) labels firsts k), given .fits))
 
-      pub list-fits : (at ≤ length list) × (k < 2048)
+      pub list-fits : (at ≤ length list) × (k < mostPhases)
       list-fits = (front-within (so .front), omega (arith, given .few))
 
       pub phase-writable : Writable p (kinds tree) labels k first (length (partOf list at))
@@ -107,7 +108,7 @@ module _ (p : ℕ) (tree labels firsts : List ℕ) (accepts : treeVerdict tree .
         count-fits = rw counts fits
 
         pub phase-listed : (part : List ℕ) → part ≡ written (entryBytes (inPhase k order)) (partOf list at)
-            → (next : List ℕ) → length next ≡ 2047
+            → (next : List ℕ) → length next ≡ mostTraceRecords
             → Listing p (kinds tree) labels firsts phases before (withPart list at part) next (k + 1) (at + 4 * count)
         phase-listed part put next room =
             let size : 4 * count ≡ length (entryBytes (inPhase k order)) =
