@@ -60,7 +60,8 @@ module _ (p : ℕ) (tree events log trace : List ℕ) where
 
   module _ (a : Accepted) (is : a ≡ recordAdmitted p tree events (length log) (length trace)) where
     pub record-given : (a .number ≡ 0 → ⊥)
-        → recordRefused mostWorkers (record { number = a .number; position = a .position }) log trace ≡ recordCall mostWorkers p tree events log trace
+        → recordRefused mostWorkers (record { number = a .number; position = a .position }) log trace
+        ≡ recordCall mostWorkers p tree events log trace
     unfolding recordVerdict recordAdmitted tooShort
     record-given n = by-refused _ (given-refused p tree _ _ a is n _) n
 
@@ -70,7 +71,8 @@ module _ (p : ℕ) (tree events log trace : List ℕ) where
 
   module _ (ready : Ready p tree events log trace) where
     -- The events decide.
-    by-walk : recordVerdict mostWorkers p tree events log trace ≡ firstRefused (recordWalk mostWorkers p (kinds tree) (records 2 events) .verdict ∷ [])
+    by-walk : recordVerdict mostWorkers p tree events log trace
+        ≡ firstRefused (recordWalk mostWorkers p (kinds tree) (records 2 events) .verdict ∷ [])
     unfolding recordVerdict tooShort
     by-walk = given-last ready _
 
