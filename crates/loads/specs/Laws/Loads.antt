@@ -136,7 +136,7 @@ module _ (ks ws : List ℕ) where
   partSum : ℕ → ℕ
   partSum i = sum (λ j. cond (fromStep ks i j) (getD ws j 0) 0) (count 0 (length ks))
 
-  -- It is the weight below the part's end less that below its first step.
+  -- The weight of a part is that below its end less that below its first step.
   part-sum : (i : ℕ) → i ≤ taskEnd ks i → taskEnd ks i ≤ length ks → partSum i ≡ partWeight ks ws i
   unfolding partSum partWeight weightBefore fromStep
   part-sum i l u =

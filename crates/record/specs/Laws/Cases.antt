@@ -27,7 +27,7 @@ module _ (w p : ℕ) (tree events log trace : List ℕ) where
       let first = first-accepts _ _ e in
       (first .0, first-accepts _ _ (first-accepts _ _ (first-accepts _ _ (first .1) .1) .1) .0)
 
-  -- The answer that it makes.
+  -- The answer that an accepted call makes.
   pub by-accepted : recordVerdict w p tree events log trace .number ≡ 0
       → recordOf w p tree (recordWalk w p (kinds tree) (records 2 events) .state) log trace ≡ recordCall w p tree events log trace
   unfolding recordCall
@@ -39,7 +39,7 @@ module _ (w p : ℕ) (tree events log trace : List ℕ) where
 abbrev pub Ready : ℕ → List ℕ → List ℕ → List ℕ → List ℕ → Type 0
 Ready p tree events log trace = Given p tree (wholeRecords 2 mostEvents events) (tooShort (length (kinds tree)) (length log) (length trace))
 
--- Then log and trace have room.
+-- A call that is not refused for what it is given has room in log and trace.
 pub ready-admitted : {p : ℕ} {tree log trace : List ℕ} (events : List ℕ) → Ready p tree events log trace → Admitted p tree log trace
 unfolding tooShort
 ready-admitted {p} {tree} {log} {trace} events ready =
@@ -60,7 +60,8 @@ module _ (p : ℕ) (tree events log trace : List ℕ) where
 
   module _ (a : Accepted) (is : a ≡ recordAdmitted p tree events (length log) (length trace)) where
     pub record-given : (a .number ≡ 0 → ⊥)
-        → recordRefused mostWorkers (record { number = a .number; position = a .position }) log trace ≡ recordCall mostWorkers p tree events log trace
+        → recordRefused mostWorkers (record { number = a .number; position = a .position }) log trace
+        ≡ recordCall mostWorkers p tree events log trace
     unfolding recordVerdict recordAdmitted tooShort
     record-given n = by-refused _ (given-refused p tree _ _ a is n _) n
 
@@ -70,7 +71,8 @@ module _ (p : ℕ) (tree events log trace : List ℕ) where
 
   module _ (ready : Ready p tree events log trace) where
     -- The events decide.
-    by-walk : recordVerdict mostWorkers p tree events log trace ≡ firstRefused (recordWalk mostWorkers p (kinds tree) (records 2 events) .verdict ∷ [])
+    by-walk : recordVerdict mostWorkers p tree events log trace
+        ≡ firstRefused (recordWalk mostWorkers p (kinds tree) (records 2 events) .verdict ∷ [])
     unfolding recordVerdict tooShort
     by-walk = given-last ready _
 

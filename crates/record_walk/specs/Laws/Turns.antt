@@ -116,7 +116,8 @@ module _ {p : ℕ} {tree events : List ℕ} {k : ℕ} {s : Fields} {log trace ls
     pub ran-fits : (4 * logs + 4 ≤ length log) × (logs < mostSteps)
     ran-fits =
         let most = start-frame p tree (turn .accepts) .most in
-        let room = ran-room p tree events (turn .accepts) (turn .so) (turn .more) (turn .first) (turn .second) (phase .0) (step .0) (outcome ∙ ran) in
+        let told = outcome ∙ ran in
+        let room = ran-room p tree events (turn .accepts) (turn .so) (turn .more) (turn .first) (turn .second) (phase .0) (step .0) told in
         (omega (arith, room, turn .so .logRoom, most), omega (arith, room, most))
 
     pub ran-turn : (longer : List ℕ) → longer ≡ recordPut log logs (phase .0 % 256) (phase .0 / 256 % 256) (step .0)
@@ -128,11 +129,14 @@ module _ {p : ℕ} {tree events : List ℕ} {k : ℕ} {s : Fields} {log trace ls
 
   -- The event has stolen a step, which the thief holds now.
   module _ {number : TraceNumber} (stole : o ≡ Stole number) (step : ℕ) (held : step ≡ getD (after .held) a 0) where
+    told : eventMove s tree a b .outcome ≡ Stole number
+    told = outcome ∙ stole
+
     taken : step ≡ getD (eventMove s tree a b .after .held) a 0
     taken = held ∙ ap (λ (x : Fields). getD (x .held) a 0) (sym state)
 
     room : (a < mostWorkers) × (b < mostWorkers) × (a ≡ b → ⊥) × (2 * s .steals + 2 < length (kinds tree)) × (step < length (kinds tree))
-    room = stole-room p tree events (turn .accepts) (turn .so) (turn .more) (turn .first) (turn .second) number (outcome ∙ stole) step taken
+    room = stole-room p tree events (turn .accepts) (turn .so) (turn .more) (turn .first) (turn .second) number told step taken
 
     pub stole-fits : (4 * s .steals + 4 ≤ length trace) × (a < mostWorkers) × (b < mostWorkers) × (a ≡ b → ⊥)
     stole-fits =
@@ -144,7 +148,7 @@ module _ {p : ℕ} {tree events : List ℕ} {k : ℕ} {s : Fields} {log trace ls
 
       pub stole-movable : Movable ends sums ls a b step
       stole-movable =
-          stole-weight p tree events (turn .accepts) (turn .so) (turn .more) (turn .first) (turn .second) number (outcome ∙ stole) step taken
+          stole-weight p tree events (turn .accepts) (turn .so) (turn .more) (turn .first) (turn .second) number told step taken
           ends sums (omega (arith, weighed .sized)) filled (weighed .longer) (weighed .added) (weighed .light)
 
       pub stole-turn : (further : List ℕ) → further ≡ recordPut trace (s .steals) a b (numberValue number)
@@ -154,4 +158,4 @@ module _ {p : ℕ} {tree events : List ℕ} {k : ℕ} {s : Fields} {log trace ls
           let frame = start-frame p tree (turn .accepts) in
           rw (e, f, part-between (kinds tree) (weights tree) (frame .shape) ends sums filled (weighed .added) step (room .4))
           (at-state after state
-          (stole-next p tree events (turn .accepts) (turn .so) (turn .more) (turn .first) (turn .second) number (outcome ∙ stole) step taken))
+          (stole-next p tree events (turn .accepts) (turn .so) (turn .more) (turn .first) (turn .second) number told step taken))
