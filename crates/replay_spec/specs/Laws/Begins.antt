@@ -104,14 +104,25 @@ module _ (phs : List Phase) (t k s m : ℕ) (begun : k < length phs) (count : m 
     abbrev newBases : List ℕ
     newBases = basesBegun openers bases k m s
 
+    -- What stands there for the new phase, for the robbed one and for the others.
+    base-new : getD newBases m 0 ≡ s
+    unfolding basesBegun
+    base-new = set-new bases k m _ _ (omega arith) room
+
+    base-old : getD newBases k 0 ≡ q + 1
+    unfolding basesBegun
+    base-old = set-old bases k m _ _ (omega arith) room
+
+    base-other : (i : ℕ) → i < m → (i ≡ k → ⊥) → getD newBases i 0 ≡ getD bases i 0
+    unfolding basesBegun
+    base-other = set-other bases k m _ _ (omega arith) room
+
     pub bases-within : ((i : ℕ) → i < length phs → getD bases i 0 < length ks)
         → (i : ℕ) → i < length (begin phs t k s) → getD newBases i 0 < length ks
-    unfolding basesBegun
     bases-within within i h =
         let inside = part-inside ks sh q s of in
-        by-phase i h (λ e. rw (e, set-new bases k m (q + 1) s (omega arith) room) (inside .3))
-        (λ e. rw (e, set-old bases k m (q + 1) s (omega arith) room) (omega (arith, inside)))
-        (λ l n. rw (set-other bases k m (q + 1) s (omega arith) room i l n) (within i (omega arith)))
+        by-phase i h (λ e. rw (e, base-new) (inside .3)) (λ e. rw (e, base-old) (omega (arith, inside)))
+        (λ l n. rw (base-other i l n) (within i (omega arith)))
 
     module _ (ordinals : List ℕ) (also : m < length ordinals) (p number : ℕ)
         (based : p ≡ workFirst → (i : ℕ) → i < length phs → Based ks sh (phaseAt phs i) (getD bases i 0) (getD ordinals i 0))
@@ -120,27 +131,32 @@ module _ (phs : List Phase) (t k s m : ℕ) (begun : k < length phs) (count : m 
       abbrev newOrdinals : List ℕ
       newOrdinals = ordinalsBegun ordinals k m number
 
+      ordinal-new : getD newOrdinals m 0 ≡ number
+      unfolding ordinalsBegun
+      ordinal-new = set-new ordinals k m _ _ (omega arith) also
+
+      ordinal-old : getD newOrdinals k 0 ≡ 0
+      unfolding ordinalsBegun
+      ordinal-old = set-old ordinals k m _ _ (omega arith) also
+
+      ordinal-other : (i : ℕ) → i < m → (i ≡ k → ⊥) → getD newOrdinals i 0 ≡ getD ordinals i 0
+      unfolding ordinalsBegun
+      ordinal-other = set-other ordinals k m _ _ (omega arith) also
+
       new-based : p ≡ workFirst → Based ks sh (phaseAt (begin phs t k s) m) (getD newBases m 0) (getD newOrdinals m 0)
-      unfolding basesBegun ordinalsBegun
       new-based w =
           let is = ordinal-is ks sh p w (phaseAt phs k) _ _ number (based w k begun) allowed in
           let own : ordinal ks s ≡ number = rw named is in
-          based-at ks sh new-is
-          (set-new bases k m (q + 1) s (omega arith) room) (set-new ordinals k m 0 number (omega arith) also ∙ sym own)
-          (based-fresh ks sh t s (part-inside ks sh q s of .3))
+          based-at ks sh new-is base-new (ordinal-new ∙ sym own) (based-fresh ks sh t s (part-inside ks sh q s of .3))
 
       old-based : p ≡ workFirst → Based ks sh (phaseAt (begin phs t k s) k) (getD newBases k 0) (getD newOrdinals k 0)
-      unfolding basesBegun ordinalsBegun
       old-based w =
-          based-at ks sh (begin-robbed phs t k s begun)
-          (set-old bases k m (q + 1) s (omega arith) room ∙ add-one q) (set-old ordinals k m 0 number (omega arith) also)
+          based-at ks sh (begin-robbed phs t k s begun) (base-old ∙ add-one q) ordinal-old
           (child-named ks sh p w (phaseAt phs k) _ _ number (based w k begun) allowed q s named of taken)
 
       pub bases-next : p ≡ workFirst → (i : ℕ) → i < length (begin phs t k s)
           → Based ks sh (phaseAt (begin phs t k s) i) (getD newBases i 0) (getD newOrdinals i 0)
-      unfolding basesBegun ordinalsBegun
       bases-next w i h =
           by-phase i h (λ e. rw e (new-based w)) (λ e. rw e (old-based w))
-          (λ l n.
-          based-at ks sh (begin-other phs t k s i (omega arith) n) (set-other bases k m (q + 1) s (omega arith) room i l n)
-          (set-other ordinals k m 0 number (omega arith) also i l n) (based w i (omega arith)))
+          (λ l n. based-at ks sh (begin-other phs t k s i (omega arith) n) (base-other i l n) (ordinal-other i l n)
+          (based w i (omega arith)))

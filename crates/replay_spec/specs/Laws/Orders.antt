@@ -23,7 +23,7 @@ use Rattle.replay_spec.specs.Orders.{phaseOrder, inPhase}
 
 pub length-in-phase : (k : ℕ) (steps : List ℕ) → length (inPhase k steps) ≡ length steps
 unfolding inPhase
-length-in-phase k steps = length-map steps (λ i. record { phase = k; step = i })
+length-in-phase k steps = length-map steps _
 
 -- ---- a step that runs
 

@@ -74,7 +74,7 @@ module _ (bytes before : List ℕ) where
 
 steps-one : (k : ℕ) (log : List ℕ) (i : ℕ) → inPhase k (log ++ (i ∷ [])) ≡ inPhase k log ++ (record { phase = k; step = i } ∷ [])
 unfolding inPhase
-steps-one k log i = map-append (λ x. record { phase = k; step = x }) log (i ∷ [])
+steps-one k log i = map-append _ log (i ∷ [])
 
 -- ---- the loop
 
