@@ -657,8 +657,8 @@ fn a_waiting_worker() {
 /// All that an outcome does not answer is 0.
 const NOTHING: FrameOutcome = FrameOutcome { number: 0, position: 0, what: 0, phase: 0, step: 0, trace: 0 };
 
-/// The contract of crates/state/specs/Answers.antt, by crates/events/specs/Moves.antt. What the tree's bytes say is asked of the
-/// library, which is tested on any bytes elsewhere.
+/// The contract of crates/run_state/specs/Contract.antt, by crates/run_spec/specs/Moves.antt. What the tree's bytes say is asked
+/// of the library, which is tested on any bytes elsewhere.
 struct Contract<'a> {
     tree: &'a [u8],
     state: RunState,
