@@ -14,7 +14,7 @@ pub fn record(tree: &[u8], policy: u8, events: &[u8], log: &mut [u8], trace: &mu
     ensures log { λ r. ⌜ now (log .exit) ≡ recordCall 16 policy (now (tree .entry)) (now (events .entry)) (now (log .entry)) (now (trace .entry)) .log ⌝ }
     ensures trace { λ r. ⌜ now (trace .exit) ≡ recordCall 16 policy (now (tree .entry)) (now (events .entry)) (now (log .entry)) (now (trace .entry)) .trace ⌝ }
 {
-    let admitted = arguments::admit_record(tree, policy, events, log.len(), trace.len());
+    let admitted = arguments::judge_record(tree, policy, events, log.len(), trace.len());
     if admitted.number != 0 {
         return answer::refused(admitted.number, admitted.position);
     }

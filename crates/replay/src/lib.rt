@@ -13,7 +13,7 @@ pub fn replay(tree: &[u8], policy: u8, trace: &[u8], list: &mut [u8]) -> Replaye
     ensures answers { λ r. ⌜ r ≡ answers (replayCall 16 policy (now (tree .entry)) (now (trace .entry)) (now (list .entry))) ⌝ }
     ensures list { λ r. ⌜ now (list .exit) ≡ replayCall 16 policy (now (tree .entry)) (now (trace .entry)) (now (list .entry)) .list ⌝ }
 {
-    let admitted = arguments::admit_replay(tree, policy, trace, list.len());
+    let admitted = arguments::judge_replay(tree, policy, trace, list.len());
     if admitted.number != 0 {
         return answer::refused(admitted.number, admitted.position);
     }
