@@ -17,7 +17,7 @@ use tree::validation::accept;
 pub const MOST_EVENTS: usize = 8192;
 
 // Judges a policy and a tree: refusals 1 to 5, or how many steps the tree has.
-pub fn admit(tree: &[u8], policy: u8) -> Accepted
+pub fn judge_start(tree: &[u8], policy: u8) -> Accepted
     ensures { λ r. ⌜ r ≡ admission policy (now (tree .entry)) ⌝ }
 {
     if policy < WORK_FIRST {
@@ -39,7 +39,7 @@ pub fn admit(tree: &[u8], policy: u8) -> Accepted
 
 // Judges in rising number, after the start: whether the call's records are whole and not too many, and whether a lent output is
 // short.
-fn judge(start: Accepted, whole: bool, short: bool) -> Accepted
+fn judge_call(start: Accepted, whole: bool, short: bool) -> Accepted
     ensures { λ r. ⌜ r ≡ judged start whole short ⌝ }
 {
     if start.number != 0 {
@@ -77,21 +77,21 @@ fn too_short(steps: usize, log: usize, trace: usize) -> bool
 }
 
 // Judges a record call whose lent log and trace have so many bytes: refusals 1 to 7, or how many steps the tree has.
-pub fn admit_record(tree: &[u8], policy: u8, events: &[u8], log: usize, trace: usize) -> Accepted
+pub fn judge_record(tree: &[u8], policy: u8, events: &[u8], log: usize, trace: usize) -> Accepted
     ensures { λ r. ⌜ r ≡ recordAdmitted policy (now (tree .entry)) (now (events .entry)) log trace ⌝ }
 {
-    let start = admit(tree, policy);
+    let start = judge_start(tree, policy);
     let whole = buffers::whole_records(events, EVENT, MOST_EVENTS);
     let short = too_short(start.steps, log, trace);
-    judge(start, whole, short)
+    judge_call(start, whole, short)
 }
 
 // Judges a replay call whose lent list has so many bytes: refusals 1 to 7, or how many steps the tree has.
-pub fn admit_replay(tree: &[u8], policy: u8, trace: &[u8], list: usize) -> Accepted
+pub fn judge_replay(tree: &[u8], policy: u8, trace: &[u8], list: usize) -> Accepted
     ensures { λ r. ⌜ r ≡ replayAdmitted policy (now (tree .entry)) (now (trace .entry)) list ⌝ }
 {
-    let start = admit(tree, policy);
+    let start = judge_start(tree, policy);
     let whole = buffers::whole_records(trace, RECORD, MOST_STEALS);
     let short = list < RECORD * start.steps;
-    judge(start, whole, short)
+    judge_call(start, whole, short)
 }

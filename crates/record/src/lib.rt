@@ -21,7 +21,7 @@ pub fn record(tree: &[u8], policy: u8, events: &[u8], log: &mut [u8], trace: &mu
         let call = recordCall mostWorkers policy (now (tree .entry)) (now (events .entry)) (now (log .entry)) (now (trace .entry)) in
         ⌜ now (trace .exit) ≡ call .trace ⌝ }
 {
-    let admitted = arguments::admit_record(tree, policy, events, log.len(), trace.len());
+    let admitted = arguments::judge_record(tree, policy, events, log.len(), trace.len());
     if admitted.number != 0 {
         return answer::refused(admitted.number, admitted.position);
     }

@@ -18,7 +18,7 @@ pub fn replay(tree: &[u8], policy: u8, trace: &[u8], list: &mut [u8]) -> Replaye
         let call = replayCall mostWorkers policy (now (tree .entry)) (now (trace .entry)) (now (list .entry)) in
         ⌜ now (list .exit) ≡ call .list ⌝ }
 {
-    let admitted = arguments::admit_replay(tree, policy, trace, list.len());
+    let admitted = arguments::judge_replay(tree, policy, trace, list.len());
     if admitted.number != 0 {
         return answer::refused(admitted.number, admitted.position);
     }

@@ -46,7 +46,7 @@ fn first_state(policy: u8) -> RunState
 pub fn start(tree: &[u8], policy: u8) -> Started
     ensures { λ r. ⌜ r ≡ startAnswer policy (now (tree .entry)) ⌝ }
 {
-    let admitted = arguments::admit(tree, policy);
+    let admitted = arguments::judge_start(tree, policy);
     if admitted.number != 0 {
         return Started {
             number: admitted.number,

@@ -10,20 +10,20 @@ use Rattle.record.proofs.record.Statement.{statement}
 use Rattle.record.proofs.record.Tie as tie
 
 -- What the call is given has been judged.
-abbrev entry : tie.After-admit-record → tie.Start
+abbrev entry : tie.After-judge-record → tie.Start
 entry c = c .before .before .before .before .before
 
-judged : (c : tie.After-admit-record)
+judged : (c : tie.After-judge-record)
     → let a = entry c .args in
-    c .admit-record .result ≡ recordAdmitted (a .policy) (a .tree .now) (a .events .now) (length (a .log .now)) (length (a .trace .now))
-judged c = c .admit-record .ensures
+    c .judge-record .result ≡ recordAdmitted (a .policy) (a .tree .now) (a .events .now) (length (a .log .now)) (length (a .trace .now))
+judged c = c .judge-record .ensures
 
 -- The events have been walked.
 abbrev given : tie.After-struct-known2 → tie.Else1
 given c = c .before .before .before .before .before .before .before .before
 
-admit-record-requires : tie.Need-admit-record-requires
-admit-record-requires c κs = search needs
+judge-record-requires : tie.Need-judge-record-requires
+judge-record-requires c κs = search needs
 
 refused-requires : tie.Need-refused-requires
 refused-requires c κs = search needs
@@ -32,7 +32,7 @@ returns : tie.Need-returns
 returns c =
     let at = c .before .before .before in
     let a = entry at .args in
-    given-refusal (a .policy) (a .tree .now) (a .events .now) (a .log .now) (a .trace .now) (at .admit-record .result) (judged at)
+    given-refusal (a .policy) (a .tree .now) (a .events .now) (a .log .now) (a .trace .now) (at .judge-record .result) (judged at)
     (c .before .if1 .taken) (c .refused .result) (c .refused .ensures)
 
 run-requires : tie.Need-run-requires
@@ -41,7 +41,7 @@ run-requires c κs =
     let at = one .before .before in
     let a = entry at .args in
     ready-admitted (a .events .now)
-    (record-ready (a .policy) (a .tree .now) (a .events .now) (a .log .now) (a .trace .now) (at .admit-record .result) (judged at)
+    (record-ready (a .policy) (a .tree .now) (a .events .now) (a .log .now) (a .trace .now) (at .judge-record .result) (judged at)
     (one .if1 .left))
 
 sub-last : tie.Need-sub-last
@@ -49,7 +49,7 @@ sub-last c =
     let one = given c in
     let at = one .before .before in
     let a = entry at .args in
-    some-steps (a .policy) (a .tree .now) (a .events .now) (a .log .now) (a .trace .now) (at .admit-record .result) (judged at)
+    some-steps (a .policy) (a .tree .now) (a .events .now) (a .log .now) (a .trace .now) (at .judge-record .result) (judged at)
     (one .if1 .left)
 
 answer-requires : tie.Need-answer-requires
@@ -68,7 +68,7 @@ returns-2 c =
     let one = given walked in
     let at = one .before .before in
     let a = entry at .args in
-    walk-answered (a .policy) (a .tree .now) (a .events .now) (a .log .now) (a .trace .now) (at .admit-record .result) (judged at)
+    walk-answered (a .policy) (a .tree .now) (a .events .now) (a .log .now) (a .trace .now) (at .judge-record .result) (judged at)
     (one .if1 .left) (run .result) (run .last .1 .1 .1 .0) (run .last .1 .1 .1 .1 .0) (run .ensures) (c .answer .result)
     (c .answer .ensures)
 
@@ -76,7 +76,7 @@ pub record-spec : {M : Type 1} → statement M
 record-spec =
     tie.close
     (tie.spec
-    admit-record-requires
+    judge-record-requires
     refused-requires
     returns
     run-requires

@@ -10,16 +10,16 @@ use Rattle.replay.proofs.replay.Statement.{statement}
 use Rattle.replay.proofs.replay.Tie as tie
 
 -- What the call is given has been judged.
-abbrev entry : tie.After-admit-replay → tie.Start
+abbrev entry : tie.After-judge-replay → tie.Start
 entry c = c .before .before .before .before
 
-judged : (c : tie.After-admit-replay)
+judged : (c : tie.After-judge-replay)
     → let a = entry c .args in
-    c .admit-replay .result ≡ replayAdmitted (a .policy) (a .tree .now) (a .trace .now) (length (a .list .now))
-judged c = c .admit-replay .ensures
+    c .judge-replay .result ≡ replayAdmitted (a .policy) (a .tree .now) (a .trace .now) (length (a .list .now))
+judged c = c .judge-replay .ensures
 
-admit-replay-requires : tie.Need-admit-replay-requires
-admit-replay-requires c κs = search needs
+judge-replay-requires : tie.Need-judge-replay-requires
+judge-replay-requires c κs = search needs
 
 refused-requires : tie.Need-refused-requires
 refused-requires c κs = search needs
@@ -28,7 +28,7 @@ returns : tie.Need-returns
 returns c =
     let at = c .before .before .before in
     let a = entry at .args in
-    given-refusal (a .policy) (a .tree .now) (a .trace .now) (a .list .now) (at .admit-replay .result) (judged at)
+    given-refusal (a .policy) (a .tree .now) (a .trace .now) (a .list .now) (at .judge-replay .result) (judged at)
     (c .before .if1 .taken) (c .refused .result) (c .refused .ensures)
 
 run-requires : tie.Need-run-requires
@@ -36,7 +36,7 @@ run-requires c κs =
     let one = c .before in
     let at = one .before .before in
     let a = entry at .args in
-    replay-ready (a .policy) (a .tree .now) (a .trace .now) (a .list .now) (at .admit-replay .result) (judged at) (one .if1 .left)
+    replay-ready (a .policy) (a .tree .now) (a .trace .now) (a .list .now) (at .judge-replay .result) (judged at) (one .if1 .left)
 
 answer-requires : tie.Need-answer-requires
 answer-requires c κs = search needs
@@ -51,10 +51,10 @@ returns-2 c =
     let one = walked .before .before in
     let at = one .before .before in
     let a = entry at .args in
-    walk-answered (a .policy) (a .tree .now) (a .trace .now) (a .list .now) (at .admit-replay .result) (judged at) (one .if1 .left)
+    walk-answered (a .policy) (a .tree .now) (a .trace .now) (a .list .now) (at .judge-replay .result) (judged at) (one .if1 .left)
     (run .result) (run .last .1 .1 .1 .1 .0) (run .ensures) (c .answer .result) (c .answer .ensures)
 
 pub replay-spec : {M : Type 1} → statement M
 replay-spec =
     tie.close
-    (tie.spec admit-replay-requires refused-requires returns run-requires answer-requires same-length returns-2)
+    (tie.spec judge-replay-requires refused-requires returns run-requires answer-requires same-length returns-2)

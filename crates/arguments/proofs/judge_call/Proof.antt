@@ -1,9 +1,9 @@
--- `arguments::judge` meets its contract: it asks in rising number, as `judged` does, and the first refusal decides. Assumes nothing.
+-- `arguments::judge_call` meets its contract: it asks in rising number, as `judged` does, and the first refusal decides. Assumes nothing.
 use mathlib.Core.Path.{refl}
 use borrow.Author.Tests.{eq-eqb, ne-eqb, not-true, not-false}
 use Rattle.arguments.specs.Terms.{judged}
-use Rattle.arguments.proofs.judge.Statement.{statement}
-use Rattle.arguments.proofs.judge.Tie as tie
+use Rattle.arguments.proofs.judge_call.Statement.{statement}
+use Rattle.arguments.proofs.judge_call.Tie as tie
 
 returns : tie.Need-returns
 unfolding judged
@@ -29,5 +29,5 @@ returns-4 c =
     let a = two .before .before .before .args in
     rw (eq-eqb (a .start .number) 0 (two .before .if1 .left), not-false (a .whole) (two .if2 .left), c .if3 .left) refl
 
-pub judge-spec : {M : Type 1} → statement M
-judge-spec = tie.close (tie.spec returns returns-2 returns-3 returns-4)
+pub judge-call-spec : {M : Type 1} → statement M
+judge-call-spec = tie.close (tie.spec returns returns-2 returns-3 returns-4)

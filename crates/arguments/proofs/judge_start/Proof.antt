@@ -1,10 +1,10 @@
--- `arguments::admit` meets its contract: a policy below 1 or above 2 is refused, and for the two others the tree decides. Assumes
+-- `arguments::judge_start` meets its contract: a policy below 1 or above 2 is refused, and for the two others the tree decides. Assumes
 -- nothing.
 use native.Mathlib.Omega.{arith}
 use Rattle.arguments.specs.Laws.Starts.{admission-policy, admission-tree}
 use borrow.Author.Needs.{needs}
-use Rattle.arguments.proofs.admit.Statement.{statement}
-use Rattle.arguments.proofs.admit.Tie as tie
+use Rattle.arguments.proofs.judge_start.Statement.{statement}
+use Rattle.arguments.proofs.judge_start.Tie as tie
 
 returns : tie.Need-returns
 returns c =
@@ -24,5 +24,5 @@ returns-3 c =
     let a = c .before .before .before .before .args in
     admission-tree (a .policy) (a .tree .now) (omega arith, omega arith) (c .accept .result) (c .accept .ensures)
 
-pub admit-spec : {M : Type 1} → statement M
-admit-spec = tie.close (tie.spec returns returns-2 accept-requires returns-3)
+pub judge-start-spec : {M : Type 1} → statement M
+judge-start-spec = tie.close (tie.spec returns returns-2 accept-requires returns-3)
