@@ -200,3 +200,15 @@ fn believed_pages_by_name() {
         assert!(pages.contains_key(&page), "no promise names {page}");
     }
 }
+
+/// What a proof is made of. A page that must be believed has none of it: a theorem's statement and its proof stand in two files.
+const PROOF_WORDS: [&str; 10] = ["absurd", "ap", "cc", "omega", "refl", "rw", "search", "subst", "sym", "unfolding"];
+
+#[test]
+fn believed_pages_prove_nothing() {
+    for page in believed().into_keys() {
+        let whole = text(&page, "--");
+        let found: Vec<&str> = words(&whole).into_iter().filter(|word| PROOF_WORDS.contains(word)).collect();
+        assert!(found.is_empty(), "{page} has {found:?}");
+    }
+}

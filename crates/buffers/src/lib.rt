@@ -1,6 +1,5 @@
 // Bytes as all layers read and write them: numbers of two bytes, whole records, the records of four bytes of a log, a trace or a
 // run list, and bytes copied to a lent buffer (document 01, "Trace, log, run list" and "Refusals").
-
 ghost use mathlib.Core.Path.{_≡_};
 ghost use Prim.Native.Nat.{_+_, _*_, _≤_};
 ghost use lib.ListN.{length, take};

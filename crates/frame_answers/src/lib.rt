@@ -1,7 +1,6 @@
 // The library's answers as C's flat structs of numbers: each function takes an answer by value and writes its parts into the
 // fields of a struct. Most wrong answers of a function for C are of a field, so this is apart from the calls, which are dear to
 // prove.
-
 ghost use mathlib.Core.Path.{_≡_};
 ghost use Rattle.frame_answers.specs.Contract.{flatStart, flatOutcome, flatEvent, flatIdle, flatRecord, flatReplay};
 use policy::WORKERS;

@@ -1,6 +1,5 @@
 // A run event by event as C sees it: answers are flat structs of numbers, and a slice is a pointer and a length. Every function
 // takes any bytes and any numbers.
-
 ghost use mathlib.Core.Path.{_≡_};
 ghost use Rattle.run_state.specs.Contract.{startAnswer, eventAnswer, idleAnswer};
 ghost use Rattle.frame_answers.specs.Contract.{flatStart, flatOutcome, flatEvent, flatIdle};

@@ -1,6 +1,5 @@
 // Recording and replay as C sees them: a whole list of events becomes a log and a trace, a trace becomes a run list. Answers are
 // flat structs of numbers, and a slice is a pointer and a length. Every function takes any bytes and any numbers.
-
 ghost use mathlib.Core.Path.{_≡_};
 ghost use Rattle.rules.specs.Scheduling.{mostWorkers};
 ghost use Rattle.rules.specs.Calls.{recordCall, replayCall};

@@ -1,6 +1,5 @@
 // What C asks about a tree, for a program that shows one: answers are numbers or flat structs of them, and a slice is a pointer and
 // a length. Every function takes any bytes and any numbers.
-
 ghost use mathlib.Core.Path.{_≡_};
 ghost use lib.ListN.{getD};
 ghost use Rattle.rules.specs.Tree.{kinds, weights, kindAt, cont, finishBefore};

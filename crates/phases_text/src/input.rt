@@ -1,6 +1,5 @@
 // What program `phases` reads (document 01, "Tree S and its schedules"): a policy, a count of records, the tree and the trace.
 // Any bytes are taken; what is missing at an input's end is 0 or empty.
-
 ghost use mathlib.Core.Path.{_≡_};
 ghost use Prim.Native.Nat.{min};
 ghost use lib.ListN.{length, getD};

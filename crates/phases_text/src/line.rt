@@ -1,5 +1,4 @@
 // The lines that program `phases` prints of a run list: phase, worker and step of each record.
-
 ghost use mathlib.Core.Path.{_≡_};
 ghost use Prim.Native.Nat.{_+_, _*_, _≤_};
 ghost use lib.ListN.{length};

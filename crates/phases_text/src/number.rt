@@ -1,5 +1,4 @@
 // Numbers as text, alone and in lines. What is written stands at the front of a buffer, and its length is given.
-
 ghost use mathlib.Core.Path.{_≡_};
 ghost use mathlib.Core.List.{[], _∷_, _++_};
 ghost use Prim.Native.Nat.{_≤_};

@@ -1,5 +1,4 @@
 // What program `phases` prints of a replay: the heading and the lines of an accepted one, the refusal of another.
-
 ghost use mathlib.Core.Path.{_≡_};
 ghost use mathlib.Core.List.{_++_};
 ghost use Prim.Native.Nat.{_+_, _*_, _≤_};

@@ -1,16 +1,46 @@
-// What an admitted recording comes to (document 01, "Trace, log, run list"): the events are walked, and log and trace, which are
-// written to arrays of the call's own, are copied out once every event is accepted.
-
+// What an admitted recording comes to (document 01, "Trace, log, run list"): the events are walked with the tree's tables, and log
+// and trace, which are written to arrays of the call's own, are copied out once every event is accepted.
+ghost use mathlib.Core.Path.{_≡_};
+ghost use Prim.Native.Nat.{_*_};
+ghost use lib.ListN.{length};
+ghost use Rattle.rules.specs.Tree.{mostSteps};
+ghost use Rattle.rules.specs.Calls.{mostTraceRecords, startVerdict};
+ghost use Rattle.record_walk.specs.Terms.{Walks};
 ghost use Rattle.record.specs.Body.Terms.{Admitted, Outcome};
 use buffers::RECORD;
 use policy::MOST_STEALS;
 use record_walk::Ended;
 use tree::MOST_STEPS;
+use tree_tables::sums::SUMS;
 
 // Bytes of the longest log and of the longest trace.
 const LOG_BYTES: usize = RECORD * MOST_STEPS;
 
 const TRACE_BYTES: usize = RECORD * MOST_STEALS;
+
+// Fills the tables of an accepted tree, and walks the events.
+fn walk_events(tree: &[u8], policy: u8, events: &[u8], log: &mut [u8], trace: &mut [u8]) -> Ended
+    requires { ⌜ startVerdict policy (now tree) .number ≡ 0 ⌝ }
+    requires { ⌜ (length (now log) ≡ 4 * mostSteps) × (length (now trace) ≡ 4 * mostTraceRecords) ⌝ }
+    ensures { λ r. ⌜ Walks policy (now (tree .entry)) (now (events .entry)) r (now (log .exit)) (now (trace .exit)) ⌝ }
+{
+    let n = tree::steps(tree);
+    let mut ends: [u16; MOST_STEPS] = [0; MOST_STEPS];
+    let mut openers: [u16; MOST_STEPS] = [0; MOST_STEPS];
+    let mut sums: [u64; SUMS] = [0; SUMS];
+    tree_tables::fill(tree, &mut ends, &mut openers);
+    tree_tables::sums::add_up(tree, &mut sums);
+    record_walk::walk(
+        tree,
+        &ends[..n],
+        &openers[..n],
+        &sums,
+        policy,
+        events,
+        log,
+        trace,
+    )
+}
 
 // Walks the events. The lent log and trace are written where no event is refused.
 pub fn run(tree: &[u8], policy: u8, events: &[u8], log: &mut [u8], trace: &mut [u8]) -> Ended
@@ -21,7 +51,7 @@ pub fn run(tree: &[u8], policy: u8, events: &[u8], log: &mut [u8], trace: &mut [
 {
     let mut own_log: [u8; LOG_BYTES] = [0; LOG_BYTES];
     let mut own_trace: [u8; TRACE_BYTES] = [0; TRACE_BYTES];
-    let walked = record_walk::walk_events(tree, policy, events, &mut own_log, &mut own_trace);
+    let walked = walk_events(tree, policy, events, &mut own_log, &mut own_trace);
     if walked.number != 0 {
         return walked;
     }

@@ -1,5 +1,5 @@
 // The walk over a list of events: each goes through the same functions as a single event, on arrays of the walk's own and with the
-// tree's tables, which are filled once. What it comes to is a refusal with its position, or the log, the trace and the loads.
+// tree's tables, which the call has filled once. What it comes to is a refusal with its position, or the log, the trace and the loads.
 mod output;
 
 ghost use mathlib.Core.Path.{_≡_};
@@ -16,7 +16,6 @@ use run_spec::Event;
 use run_spec::NO_STEP;
 use run_spec::Outcome;
 use tree::MOST_STEPS;
-use tree_tables::sums::SUMS;
 use tree_tables::wide;
 
 // What the walk over the events comes to.
@@ -42,7 +41,7 @@ fn event_at(events: &[u8], k: usize) -> Event
 }
 
 // Runs the events from the start on, up to the first that is refused, with the tree's tables.
-fn walk(
+pub fn walk(
     tree: &[u8],
     ends: &[u16],
     openers: &[u16],
@@ -118,34 +117,4 @@ fn walk(
         steals: wide(steals),
         loads,
     }
-}
-
-// Fills the tables of an accepted tree, and walks the events.
-pub fn walk_events(
-    tree: &[u8],
-    policy: u8,
-    events: &[u8],
-    log: &mut [u8],
-    trace: &mut [u8],
-) -> Ended
-    requires { ⌜ startVerdict policy (now tree) .number ≡ 0 ⌝ }
-    requires { ⌜ (length (now log) ≡ 4 * mostSteps) × (length (now trace) ≡ 4 * mostTraceRecords) ⌝ }
-    ensures { λ r. ⌜ Walks policy (now (tree .entry)) (now (events .entry)) r (now (log .exit)) (now (trace .exit)) ⌝ }
-{
-    let n = tree::steps(tree);
-    let mut ends: [u16; MOST_STEPS] = [0; MOST_STEPS];
-    let mut openers: [u16; MOST_STEPS] = [0; MOST_STEPS];
-    let mut sums: [u64; SUMS] = [0; SUMS];
-    tree_tables::fill(tree, &mut ends, &mut openers);
-    tree_tables::sums::add_up(tree, &mut sums);
-    walk(
-        tree,
-        &ends[..n],
-        &openers[..n],
-        &sums,
-        policy,
-        events,
-        log,
-        trace,
-    )
 }

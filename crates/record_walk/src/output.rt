@@ -1,6 +1,5 @@
 // What a recording keeps of an accepted event: a run's record goes to the log; a steal's to the trace, and its weight to the thief's
 // load.
-
 ghost use mathlib.Core.Path.{_≡_};
 ghost use Prim.Native.Nat.{_+_, _*_, _/_, _%_, _≤_, _<_};
 ghost use lib.ListN.{length};

@@ -1,5 +1,4 @@
 // What a replay call answers, by value (document 01, "Trace, log, run list" and "Refusals").
-
 ghost use mathlib.Core.Path.{_≡_};
 ghost use Rattle.replay.specs.Answer.Terms.{refusal, answered};
 use policy::WORKERS;

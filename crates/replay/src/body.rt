@@ -1,6 +1,5 @@
 // What an admitted replay comes to (document 01, "Trace, log, run list"): the trace is walked with the tree's tables, and the run
 // list is written once every record is accepted.
-
 ghost use Rattle.replay.specs.Body.Terms.{Admitted, Outcome};
 use policy::MOST_PHASES;
 use replay_spec::FREE;

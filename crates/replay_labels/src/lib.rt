@@ -1,7 +1,6 @@
 // The labels of the steps in replay, by which the phases' steps are kept: a step is labelled with the phase that has it once it
 // can be stolen no more, because a phase begins with it or with a step in its part. So each step is labelled once, and the
 // nearest labelled step above another tells whose that one is.
-
 ghost use mathlib.Core.Path.{_≡_};
 ghost use mathlib.Core.Bool.{not};
 ghost use Prim.Native.Nat.{_≤_, _<_};

@@ -1,6 +1,5 @@
 // A phase's running order (document 01, "Trace, log, run list"): the phase is run alone, with a stack of what it has pushed; a
 // pushed step that has the label of another phase was stolen, and is dropped.
-
 ghost use mathlib.Core.Path.{_≡_};
 ghost use lib.ListN.{length};
 ghost use Rattle.rules.specs.Tree.{kinds, treeVerdict};

@@ -1,6 +1,5 @@
 // A trace record (document 01, "Trace, log, run list"): a steal's thief, victim and number, and the refusals that its workers
 // decide.
-
 ghost use mathlib.Core.Path.{_≡_};
 ghost use Prim.Native.Nat.{_+_, _*_, _/_, _<_};
 ghost use lib.ListN.{length};

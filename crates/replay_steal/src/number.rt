@@ -1,6 +1,5 @@
 // The step that a trace number names (document 01, "Trace, log, run list"): work-first the frontier task's step of that ordinal,
 // help-first the step of that serial number, where it can have been pushed.
-
 ghost use mathlib.Core.Path.{_≡_};
 ghost use mathlib.Core.Bool.{_||_};
 ghost use lib.ListN.{length};

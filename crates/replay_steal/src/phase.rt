@@ -1,6 +1,5 @@
 // How a phase begins (document 01, "Trace, log, run list"), in the tables of replay: the labels of the steps, the phases' first
 // steps, for each phase the step and the ordinal from which its frontier task is walked, and the workers' latest phases.
-
 ghost use mathlib.Core.Path.{_≡_};
 ghost use Prim.Native.Nat.{_<_};
 ghost use lib.ListN.{length, getD, set};

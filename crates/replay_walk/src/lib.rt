@@ -1,7 +1,6 @@
 // The walk over a trace's records (document 01, "Trace, log, run list"): each is read against the victim's latest phase and
 // begins a phase. What it comes to is a refusal with its position, or the first steps of the phases, the labels of the steps
 // and the loads.
-
 ghost use mathlib.Core.Path.{_≡_};
 ghost use mathlib.Core.Bool.{true};
 ghost use Prim.Native.Nat.{_<_};

@@ -3,7 +3,6 @@
 // `push`, `pop` and `take`. A deque is in the order of its pushers, so its newest step is that of its highest pusher, its
 // oldest that of its lowest. No links are kept: any bytes are safe to scan. Where a table of openers is lent, the newest step
 // is found by it instead.
-
 ghost use mathlib.Core.Path.{_≡_};
 ghost use Prim.Native.Nat.{_≤_, _<_};
 ghost use lib.ListN.{length, set};

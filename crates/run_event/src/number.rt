@@ -1,6 +1,5 @@
 // The number that a steal writes to its trace record (document 01, "Scheduling"): an ordinal under work-first, a serial number
 // under help-first. `replay_steal::number::decode_number` reads it back.
-
 ghost use mathlib.Core.Path.{_≡_};
 ghost use Prim.Native.Nat.{_≤_, _<_};
 ghost use lib.ListN.{length};

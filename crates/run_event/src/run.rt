@@ -1,6 +1,5 @@
 // Running a step (document 01, "Scheduling"): whether a worker may run the step that it holds, what it holds next, and the
 // places then.
-
 ghost use mathlib.Core.Path.{_≡_};
 ghost use Prim.Native.Nat.{_≤_, _<_};
 ghost use mathlib.Core.Bool.{_||_};

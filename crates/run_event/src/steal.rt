@@ -1,6 +1,5 @@
 // Stealing a step (document 01, "Scheduling"): whether a thief may steal, what it takes from the victim's deque, and what the
 // workers' tables are then.
-
 ghost use mathlib.Core.Path.{_≡_};
 ghost use Prim.Native.Nat.{_+_, _≤_, _<_};
 ghost use lib.ListN.{length, set};

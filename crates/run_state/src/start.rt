@@ -1,5 +1,4 @@
 // The start of a run (document 01, "Scheduling"): tree and policy are judged, and a run that is not refused has its first state.
-
 ghost use mathlib.Core.Path.{_≡_};
 ghost use Rattle.run_spec.specs.Moves.{fresh};
 ghost use Rattle.run_state.specs.Contract.{stateOf, zeros, startAnswer};

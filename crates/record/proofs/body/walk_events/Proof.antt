@@ -1,5 +1,5 @@
--- `record_walk::walk_events` meets its contract: of the arrays that the tables fill, the walk is lent the part that the tree has steps for.
--- Assumes nothing.
+-- `record::body::walk_events` meets its contract: of the arrays that the tables fill, the walk is lent the part that the tree has
+-- steps for. Assumes nothing.
 use Prim.Native.Nat.{ℕ, _≤_, _<_}
 use mathlib.Core.Path.{_≡_, sym}
 use native.Mathlib.Omega.{arith}
@@ -10,8 +10,8 @@ use Rattle.rules.specs.Tree.{kinds}
 use Rattle.tree_scan.specs.Laws.Starts.{start-tree-accepts}
 use Rattle.tree_scan.specs.Laws.Frames.{Frame}
 use Rattle.tree_tables.specs.Laws.Fronts.{start-frame, ends-prefix, openers-prefix}
-use Rattle.record_walk.proofs.walk_events.Statement.{statement}
-use Rattle.record_walk.proofs.walk_events.Tie as tie
+use Rattle.record.proofs.body.walk_events.Statement.{statement}
+use Rattle.record.proofs.body.walk_events.Tie as tie
 
 frame : (c : tie.Start) → Frame (c .args .tree .now)
 frame c = start-frame (c .args .policy) (c .args .tree .now) (c .pre .0)
