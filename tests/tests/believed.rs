@@ -212,3 +212,15 @@ fn believed_pages_prove_nothing() {
         assert!(found.is_empty(), "{page} has {found:?}");
     }
 }
+
+/// A contract, of an inner function too, is in the words of definitions: laws are for proofs.
+#[test]
+fn contracts_name_no_law() {
+    let sources: Vec<String> = files("crates").into_iter().filter(|name| name.ends_with(".rt")).collect();
+    assert!(sources.len() > 30, "{sources:#?}");
+    for source in sources {
+        for (page, names) in imports(&text(&source, "//")) {
+            assert!(!page.contains("/Laws/"), "{source} has {names:?} from {page}");
+        }
+    }
+}

@@ -8,7 +8,7 @@ use lib.Dec.{eqb, leb}
 use Rattle.rules.specs.Bytes.{records}
 use Rattle.rules.specs.Scheduling.{mostWorkers}
 use Rattle.rules.specs.Traces.{recordNumber}
-use Rattle.replay_invariant.specs.Laws.Labels.{free}
+use Rattle.replay_invariant.specs.Terms.{free}
 
 -- Record k is that of these workers and this number.
 pub record Entry (trace : List ℕ) (k thief victim number : ℕ) : Type 0 where

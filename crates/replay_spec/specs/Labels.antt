@@ -6,7 +6,7 @@ use mathlib.Core.List.{List}
 use mathlib.Core.Logic.{_⊎_}
 use lib.ListN.{length, getD}
 use lib.Dec.{eqb}
-use Rattle.replay_invariant.specs.Laws.Labels.{free, labelOf, Climb, labelled}
+use Rattle.replay_invariant.specs.Terms.{free, labelOf, Climb, labelled}
 
 -- Each opener stands before its step.
 abbrev pub Upward : List ℕ → Type 0

@@ -6,7 +6,7 @@ use lib.ListN.{length, getD}
 use Rattle.rules.specs.Bytes.{count}
 use Rattle.rules.specs.Scheduling.{Phase, phaseAt, Entry}
 use Rattle.replay_invariant.specs.Invariant.{Split}
-use Rattle.replay_invariant.specs.Laws.Labels.{Labels}
+use Rattle.replay_invariant.specs.Terms.{Labels}
 use Rattle.replay_spec.specs.Begins.{mostPhases}
 use Rattle.replay_spec.specs.Orders.{phaseOrder, inPhase}
 

@@ -7,7 +7,7 @@ use lib.ListN.{length}
 use lib.Dec.{eqb, ltb, leb}
 use Rattle.rules.specs.Scheduling.{workFirst}
 use Rattle.rules.specs.Traces.{startsAsync, followsFinish}
-use Rattle.replay_invariant.specs.Laws.Tasks.{hopped}
+use Rattle.replay_invariant.specs.Terms.{hopped}
 use Rattle.replay_spec.specs.declared.Named.{Named}
 use Rattle.replay_spec.specs.declared.Named.the-variants.{At, Nothing}
 

@@ -7,7 +7,7 @@ use lib.ListN.{length}
 use Rattle.rules.specs.Scheduling.{Phase, phaseAt, Entry}
 use Rattle.rules.specs.Traces.{runAlone, runningOrder}
 use Rattle.replay_invariant.specs.Invariant.{Split}
-use Rattle.replay_invariant.specs.Laws.Labels.{Labels}
+use Rattle.replay_invariant.specs.Terms.{Labels}
 use Rattle.replay_spec.specs.Labels.{dropped}
 
 -- The running order of phase k by labels, from its first step.

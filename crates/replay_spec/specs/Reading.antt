@@ -6,7 +6,7 @@ use mathlib.Core.List.{List}
 use mathlib.Core.Logic.{_⊎_}
 use mathlib.Core.Option.{Option, none, some}
 use lib.Dec.{eqb}
-use Rattle.replay_invariant.specs.Laws.Labels.{free, labelOf}
+use Rattle.replay_invariant.specs.Terms.{free, labelOf}
 use Rattle.replay_spec.specs.declared.Named.{Named}
 use Rattle.replay_spec.specs.declared.Named.the-variants.{At, Nothing}
 use Rattle.replay_spec.specs.Labels.{Claimed}

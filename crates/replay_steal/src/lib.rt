@@ -10,7 +10,7 @@ ghost use Prim.Native.Nat.{_<_};
 ghost use lib.ListN.{length, getD};
 ghost use Rattle.rules.specs.Tree.{kinds, treeVerdict};
 ghost use Rattle.tree_tables.specs.Terms.{Ends, Openers};
-ghost use Rattle.replay_invariant.specs.Laws.Labels.{free, labelOf};
+ghost use Rattle.replay_invariant.specs.Terms.{free, labelOf};
 ghost use Rattle.replay_spec.specs.Begins.{mostPhases};
 ghost use Rattle.replay_spec.specs.Naming.{named};
 ghost use Rattle.replay_spec.specs.Reading.{Reading};

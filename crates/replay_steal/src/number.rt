@@ -6,7 +6,7 @@ ghost use lib.ListN.{length};
 ghost use Rattle.rules.specs.Tree.{kinds};
 ghost use Rattle.rules.specs.Traces.{startsAsync, followsFinish};
 ghost use Rattle.tree_tables.specs.Terms.{Ends, Openers};
-ghost use Rattle.replay_invariant.specs.Laws.Tasks.{hopped};
+ghost use Rattle.replay_invariant.specs.Terms.{hopped};
 ghost use Rattle.replay_spec.specs.Naming.{namedOf, named};
 use policy::WORK_FIRST;
 use replay_spec::Named;

@@ -10,7 +10,7 @@ ghost use Rattle.rules.specs.Bytes.{wholeRecords};
 ghost use Rattle.rules.specs.Scheduling.{mostWorkers};
 ghost use Rattle.rules.specs.Calls.{mostTraceRecords, startVerdict};
 ghost use Rattle.tree_tables.specs.Terms.{Ends, Openers, Sums};
-ghost use Rattle.replay_invariant.specs.Laws.Labels.{free};
+ghost use Rattle.replay_invariant.specs.Terms.{free};
 ghost use Rattle.replay_spec.specs.Begins.{mostPhases};
 ghost use Rattle.replay_walk.specs.Terms.{Retraced};
 use policy::MOST_PHASES;

@@ -6,7 +6,6 @@ use lib.ListN.{replicate}
 use borrow.Author.Tests.{eq-eqb, ne-eqb}
 use Rattle.rules.specs.Scheduling.{mostWorkers}
 use Rattle.rules.specs.Traces.{heaviest}
-use Rattle.loads.specs.declared.Totals.{Totals}
 use Rattle.loads.specs.Terms.{totalsOf}
 
 module _ (number : ℕ) (ls : List ℕ) where

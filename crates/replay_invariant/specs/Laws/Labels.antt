@@ -22,40 +22,10 @@ use Rattle.run_invariant.specs.Laws.Weights.{end-within, nested-end, inside-fro
 use Rattle.run_invariant.specs.Laws.Weights.{pushed-within}
 use Rattle.run_invariant.specs.Laws.Moves.{begin-length, begin-new, begin-robbed, begin-other, begin-same}
 use Rattle.replay_invariant.specs.Invariant.{Taken, Split}
-use Rattle.replay_invariant.specs.Laws.Parts.{PartOf, part-inside, entered, covers-counts, covered-inside, covered-kept}
+use Rattle.replay_invariant.specs.Laws.Parts.{part-inside, entered, covers-counts, covered-inside, covered-kept}
 use Rattle.replay_invariant.specs.Laws.Parts.{covered-by, first-covered, pushed-covered, same-phase, stolen-begins}
 use Rattle.replay_invariant.specs.Laws.Parts.{covers-robbed, covering}
-
--- The label of a step that has none.
-abbrev pub free : ℕ
-free = 65535
-
-unfoldable pub labelOf : List ℕ → ℕ → ℕ
-labelOf labels j = getD labels j free
-
-pub record Labels (ks : List ℕ) (phs : List Phase) (labels : List ℕ) : Type 0 where
-  pub size : length ks ≤ length labels
-  pub few : length phs ≤ free
-  -- Each phase's first step has its label,
-  pub firsts : (k : ℕ) → k < length phs → labelOf labels (phaseAt phs k .first) ≡ k
-  -- a label is the phase that covers the step,
-  pub covering : (j : ℕ) → j < length ks → (labelOf labels j ≡ free → ⊥)
-      → (labelOf labels j < length phs) × (covers ks (phaseAt phs (labelOf labels j)) j ≡ true)
-  -- an opening step above a labelled one is labelled,
-  pub above : (q x : ℕ) → PartOf ks q x → labelOf labels q ≡ free → labelOf labels x ≡ free
-  -- and only those are, and the first steps.
-  pub reason : (j : ℕ) → j < length ks → (labelOf labels j ≡ free → ⊥)
-      → (k : ℕ) × (k < length phs) × (fromStep ks j (phaseAt phs k .first) ≡ true)
-
--- From step x up, from opener to opener: those of `path` are not labelled, and `top` is.
-abbrev pub Climb : List ℕ → List ℕ → ℕ → List ℕ → ℕ → Type 0
-Climb openers labels x [] top = (getD openers x 0 ≡ top) × (labelOf labels top ≡ free → ⊥)
-Climb openers labels x (q ∷ path) top = (getD openers x 0 ≡ q) × (labelOf labels q ≡ free) × Climb openers labels q path top
-
--- The steps of the path get a label.
-unfoldable pub labelled : List ℕ → List ℕ → ℕ → List ℕ
-labelled labels [] k = labels
-labelled labels (q ∷ path) k = labelled (set labels q k) path k
+use Rattle.replay_invariant.specs.Terms.{free, labelOf, Labels, Climb, labelled, PartOf}
 
 -- ---- labels along a path
 

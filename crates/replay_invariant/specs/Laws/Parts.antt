@@ -3,7 +3,7 @@ use Prim.Native.Nat.{ℕ, zero, suc, _+_, _≤_, _<_}
 use mathlib.Core.Path.{_≡_, refl, sym, ap, _∙_}
 use mathlib.Core.Bool.{Bool, true, false, cond, _&&_, not, _||_}
 use mathlib.Core.List.{List, [], _∷_}
-use mathlib.Core.Logic.{_⊎_, inl, inr, ⊎-elim}
+use mathlib.Core.Logic.{inl, inr, ⊎-elim}
 use native.Mathlib.Decide.{ℕ-discrete, decLe}
 use native.Mathlib.Omega.{arith}
 use lib.ListN.{length}
@@ -22,6 +22,7 @@ use Rattle.run_invariant.specs.Laws.Weights.{span, end-within, cont-inside, nes
 use Rattle.run_invariant.specs.Laws.Weights.{span-in, span-inside, span-self, self-same, pushed-within}
 use Rattle.run_invariant.specs.Laws.Moves.{robbed}
 use Rattle.replay_invariant.specs.Invariant.{Cut, Split}
+use Rattle.replay_invariant.specs.Terms.{PartOf}
 
 -- ---- sums and tests
 
@@ -74,10 +75,6 @@ covers-robbed ks ph s j =
 -- What `phaseAt` gives past the last phase.
 abbrev pub noPhase : Phase
 noPhase = record { worker = 0; first = 0; stolen = [] }
-
--- Step x is a part of the opening step q: its child or its continuation.
-abbrev pub PartOf : List ℕ → ℕ → ℕ → Type 0
-PartOf ks q x = (q < length ks) × (isEnd (kindAt ks q) ≡ false) × ((x ≡ suc q) ⊎ (x ≡ cont ks q))
 
 module _ (ks : List ℕ) (sh : Shape (length ks) (endAt ks) (sizeAt ks)) where
   -- A part stands past its opening step, and all of it before the end of that step's task.

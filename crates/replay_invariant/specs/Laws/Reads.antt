@@ -26,7 +26,8 @@ use Rattle.run_invariant.specs.Laws.Moves.{sum-one, robbed}
 use Rattle.run_invariant.specs.Laws.Phase.{first-pushes, last-stolen}
 use Rattle.replay_invariant.specs.Invariant.{Cut, Taken}
 use Rattle.replay_invariant.specs.Laws.Tasks.{task-step, task-cont, child-before}
-use Rattle.replay_invariant.specs.Laws.Parts.{PartOf, entered, pushes-part, part-once, covers-counts, covers-robbed}
+use Rattle.replay_invariant.specs.Laws.Parts.{entered, pushes-part, part-once, covers-counts, covers-robbed}
+use Rattle.replay_invariant.specs.Terms.{PartOf}
 
 -- ---- truth values and lists
 

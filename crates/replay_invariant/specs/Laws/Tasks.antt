@@ -5,7 +5,7 @@ use mathlib.Core.Path.{_≡_, refl, sym, ap, _∙_}
 use mathlib.Core.Bool.{Bool, true, false, cond}
 use mathlib.Core.List.{List}
 use mathlib.Core.Logic.{⊎-elim}
-use mathlib.Core.Option.{Option, none, some}
+use mathlib.Core.Option.{none, some}
 use native.Mathlib.Decide.{ℕ-discrete}
 use native.Mathlib.Omega.{arith}
 use lib.ListN.{length}
@@ -19,12 +19,7 @@ use Rattle.tree_scan.specs.Laws.Places.{Part, part, task-child, ordinal-child, 
 use Rattle.tree_scan.specs.Laws.Places.{root-first}
 use Rattle.run_invariant.specs.Laws.Counts.{not-so}
 use Rattle.run_invariant.specs.Laws.Weights.{end-size, cont-inside}
-
--- From step x over m children of the same task: each time on to the step after the end of the child that is opened. None where
--- a step on the way ends the task.
-unfoldable pub hopped : List ℕ → ℕ → ℕ → Option ℕ
-hopped ks zero x = some x
-hopped ks (suc m) x = cond (isEnd (kindAt ks x)) none (hopped ks m (cont ks x))
+use Rattle.replay_invariant.specs.Terms.{hopped}
 
 module _ (ks : List ℕ) (sh : Shape (length ks) (endAt ks) (sizeAt ks)) where
   -- Induction over the steps of each task: its first step, and a continuation from the step that opens the child before it.

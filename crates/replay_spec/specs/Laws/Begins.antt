@@ -19,9 +19,10 @@ use Rattle.run_invariant.specs.Laws.Moves.{robbed, begin-length, begin-new, beg
 use Rattle.run_invariant.specs.Laws.Phase.{first-pushes}
 use Rattle.replay_invariant.specs.Invariant.{Taken}
 use Rattle.replay_invariant.specs.Laws.Tasks.{task-step}
-use Rattle.replay_invariant.specs.Laws.Parts.{PartOf, part-inside, part-once}
+use Rattle.replay_invariant.specs.Laws.Parts.{part-inside, part-once}
 use Rattle.replay_invariant.specs.Laws.Reads.{Based, based-fresh, based-allowed, based-robbed}
 use Rattle.replay_spec.specs.Begins.{basesBegun, ordinalsBegun}
+use Rattle.replay_invariant.specs.Terms.{PartOf}
 
 -- ---- a table in which the entries k and m have been set
 

@@ -10,7 +10,7 @@ use native.Mathlib.Omega.{arith}
 use lib.ListN.{length, getD, set, length-set}
 use lib.Seq.{getD-set-other}
 use lib.Dec.{eqb}
-use Rattle.replay_invariant.specs.Laws.Labels.{free, labelOf, Climb, labelled}
+use Rattle.replay_invariant.specs.Terms.{free, labelOf, Climb, labelled}
 use Rattle.replay_spec.specs.Labels.{Upward, Claimed, Taking}
 
 -- ---- labels as the code reads them

@@ -7,7 +7,7 @@ use native.Mathlib.Decide.{ℕ-discrete}
 use lib.ListN.{length, getD}
 use lib.Dec.{eqb}
 use borrow.Author.Tests.{eq-eqb, ne-eqb}
-use Rattle.replay_invariant.specs.Laws.Labels.{free, labelOf}
+use Rattle.replay_invariant.specs.Terms.{free, labelOf}
 use Rattle.replay_spec.specs.Labels.{dropped}
 use Rattle.replay_spec.specs.Laws.Claims.{label-read}
 

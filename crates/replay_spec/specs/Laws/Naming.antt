@@ -19,7 +19,7 @@ use Rattle.tree_scan.specs.Laws.Shape.{Shape}
 use Rattle.tree_scan.specs.Laws.Frames.{endAt, sizeAt}
 use Rattle.run_invariant.specs.Laws.Counts.{and-both}
 use Rattle.run_invariant.specs.Laws.Weights.{cont-inside}
-use Rattle.replay_invariant.specs.Laws.Tasks.{hopped}
+use Rattle.replay_invariant.specs.Terms.{hopped}
 use Rattle.replay_spec.specs.declared.Named.{Named}
 use Rattle.replay_spec.specs.declared.Named.the-variants.{At, Nothing}
 use Rattle.replay_spec.specs.Naming.{namedOf, named}

@@ -15,11 +15,12 @@ use Rattle.tree_scan.specs.Laws.Frames.{endAt, sizeAt}
 use Rattle.run_invariant.specs.Laws.Counts.{Has, has-head, has-cases, has-none, has-tail}
 use Rattle.run_invariant.specs.Laws.Weights.{from-self, pushed-within}
 use Rattle.replay_invariant.specs.Invariant.{Split}
-use Rattle.replay_invariant.specs.Laws.Labels.{free, labelOf, Labels, label-drops}
+use Rattle.replay_invariant.specs.Laws.Labels.{label-drops}
 use Rattle.replay_invariant.specs.Laws.Parts.{covered-inside, first-covered, held-covered, pushed-covered, stolen-uncovered}
 use Rattle.replay_spec.specs.Labels.{dropped}
 use Rattle.replay_spec.specs.Laws.Dropping.{free-stays, own-stays, other-dropped}
 use Rattle.replay_spec.specs.Orders.{phaseOrder, inPhase}
+use Rattle.replay_invariant.specs.Terms.{free, labelOf, Labels}
 
 pub length-in-phase : (k : ℕ) (steps : List ℕ) → length (inPhase k steps) ≡ length steps
 unfolding inPhase

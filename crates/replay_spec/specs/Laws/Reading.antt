@@ -22,9 +22,9 @@ use Rattle.tree_tables.specs.Terms.{Openers}
 use Rattle.run_invariant.specs.Laws.Counts.{and-both, count-all}
 use Rattle.replay_invariant.specs.Invariant.{Split}
 use Rattle.replay_invariant.specs.Laws.Tasks.{hopped-is}
-use Rattle.replay_invariant.specs.Laws.Parts.{PartOf}
+use Rattle.replay_invariant.specs.Terms.{free, labelOf, Labels, Climb, labelled, PartOf}
 use Rattle.replay_invariant.specs.Laws.Reads.{Based, based-allowed, allowed-taken}
-use Rattle.replay_invariant.specs.Laws.Labels.{free, labelOf, Labels, Climb, labelled, label-covers, taken-free, taken-label}
+use Rattle.replay_invariant.specs.Laws.Labels.{label-covers, taken-free, taken-label}
 use Rattle.replay_spec.specs.declared.Named.{Named}
 use Rattle.replay_spec.specs.declared.Named.the-variants.{At, Nothing}
 use Rattle.replay_spec.specs.Naming.{named}

@@ -13,7 +13,7 @@ use Rattle.tree_scan.specs.Laws.Shape.{Shape}
 use Rattle.tree_scan.specs.Laws.Frames.{endAt, sizeAt}
 use Rattle.run_invariant.specs.Laws.Counts.{sum-ones}
 use Rattle.replay_invariant.specs.Invariant.{Split}
-use Rattle.replay_invariant.specs.Laws.Labels.{Labels}
+use Rattle.replay_invariant.specs.Terms.{Labels}
 use Rattle.replay_invariant.specs.Laws.Order.{order-sum}
 use Rattle.replay_invariant.specs.Laws.Parts.{covered-sum}
 use Rattle.replay_spec.specs.Orders.{phaseOrder, inPhase}

@@ -9,7 +9,7 @@ use borrow.Author.Needs.{needs}
 use Rattle.rules.specs.Tree.{mostSteps, kinds}
 use Rattle.rules.specs.Scheduling.{mostWorkers}
 use Rattle.tree_scan.specs.Laws.Starts.{start-tree-accepts}
-use Rattle.replay_invariant.specs.Laws.Labels.{free, labelOf}
+use Rattle.replay_invariant.specs.Terms.{free, labelOf}
 use Rattle.replay_spec.specs.Begins.{mostPhases}
 use Rattle.replay_spec.specs.Naming.{named}
 use Rattle.replay_spec.specs.Reading.{Reading}

@@ -24,7 +24,7 @@ use Rattle.tree_tables.specs.Terms.{Ends, Openers, Sums, weightBefore}
 use Rattle.run_invariant.specs.Laws.Counts.{and-both}
 use Rattle.replay_invariant.specs.Invariant.{Split}
 use Rattle.replay_invariant.specs.Laws.Reads.{Based, based-fresh}
-use Rattle.replay_invariant.specs.Laws.Labels.{free, labelOf, Labels, first-labels}
+use Rattle.replay_invariant.specs.Laws.Labels.{first-labels}
 use Rattle.replay_invariant.specs.Laws.Always.{first-split}
 use Rattle.loads.specs.Laws.Loads.{start-loads}
 use Rattle.replay_spec.specs.Entries.{judgedWorkers, Entry}
@@ -33,6 +33,7 @@ use Rattle.replay_spec.specs.Laws.Workers.{Latest, judged-stop}
 use Rattle.replay_walk.specs.declared.Ended.{Ended}
 use Rattle.replay_walk.specs.Terms.{Retraced}
 use Rattle.replay_spec.specs.Laws.Begins.{based-at}
+use Rattle.replay_invariant.specs.Terms.{free, labelOf, Labels}
 
 pub record Retracing (p : ℕ) (tree trace : List ℕ) (k : ℕ) (labels firsts bases ordinals latest ls : List ℕ) : Type 0 where
   pub either : (p ≡ workFirst) ⊎ (p ≡ helpFirst)

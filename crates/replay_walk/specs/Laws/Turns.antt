@@ -21,9 +21,9 @@ use Rattle.run_invariant.specs.Invariant.{Pushed}
 use Rattle.run_invariant.specs.Laws.Moves.{begin-length}
 use Rattle.run_invariant.specs.Laws.Weights.{pushed-within}
 use Rattle.replay_invariant.specs.Invariant.{Taken}
-use Rattle.replay_invariant.specs.Laws.Parts.{PartOf, part-inside, pushes-part}
+use Rattle.replay_invariant.specs.Laws.Parts.{part-inside, pushes-part}
 use Rattle.replay_invariant.specs.Laws.Reads.{allowed-taken}
-use Rattle.replay_invariant.specs.Laws.Labels.{free, labelOf, Climb, labelled, root-labelled, begin-labels}
+use Rattle.replay_invariant.specs.Laws.Labels.{root-labelled, begin-labels}
 use Rattle.replay_invariant.specs.Laws.Always.{Read, latest-own, read-next, begin-split}
 use Rattle.replay_spec.specs.declared.Named.{Named}
 use Rattle.replay_spec.specs.declared.Named.the-variants.{At, Nothing}
@@ -39,6 +39,7 @@ use Rattle.replay_walk.specs.declared.Ended.{Ended}
 use Rattle.replay_walk.specs.Terms.{Retraced}
 use Rattle.replay_spec.specs.Laws.Begins.{firsts-next, bases-within, bases-next}
 use Rattle.replay_walk.specs.Laws.Retracing.{Retracing, Tables, retrace-stopped}
+use Rattle.replay_invariant.specs.Terms.{free, labelOf, Climb, labelled, PartOf}
 
 -- What was pushed is not step 0.
 pushed-past : (ks : List ℕ) → Shape (length ks) (endAt ks) (sizeAt ks) → (p s : ℕ) → Pushed p ks s → 0 < s

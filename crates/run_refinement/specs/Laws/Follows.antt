@@ -8,7 +8,7 @@ use native.Mathlib.Omega.{arith}
 use lib.ListN.{getD}
 use lib.Dec.{eqb}
 use Rattle.rules.specs.Tree.{kinds, ordinal}
-use Rattle.rules.specs.Scheduling.{workFirst, mostWorkers, Run, start, idleSet, idleCount, idleLowest}
+use Rattle.rules.specs.Scheduling.{workFirst, mostWorkers, Run, start}
 use Rattle.rules.specs.Traces.{traceNumber}
 use Rattle.rules.specs.Calls.{startVerdict, eventCall, afterEvents}
 use Rattle.tree_scan.specs.Laws.Starts.{start-tree-accepts}

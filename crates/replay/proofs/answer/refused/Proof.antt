@@ -3,7 +3,7 @@
 use mathlib.Core.Path.{refl, _∙_}
 use borrow.Author.Needs.{needs}
 use borrow.Author.Tests.{ne-eqb}
-use Rattle.replay.specs.Answer.Terms.{refusal, answered}
+use Rattle.replay.specs.Answer.Terms.{answered}
 use Rattle.replay.proofs.answer.refused.Statement.{statement}
 use Rattle.replay.proofs.answer.refused.Tie as tie
 

@@ -4,7 +4,7 @@ use mathlib.Core.Path.{_≡_, refl, sym, _∙_}
 use native.Mathlib.Omega.{arith}
 use borrow.Author.Needs.{needs}
 use Rattle.rules.specs.Tree.{kinds}
-use Rattle.replay_invariant.specs.Laws.Tasks.{hopped}
+use Rattle.replay_invariant.specs.Terms.{hopped}
 use Rattle.replay_spec.specs.Laws.Naming.{hop-end, hop-on, hop-done}
 use Rattle.replay_steal.proofs.number.hop.Statement.{statement}
 use Rattle.replay_steal.proofs.number.hop.Tie as tie
