@@ -1,7 +1,11 @@
--- What need not be believed: everything here is proved from the rules.
---     Laws      that what is printed of a replay is the rules' text
-pub mod Laws
+-- The text that program `phases` prints. The rules say it; nothing here has to be believed.
+--     Input    the parts of what is read, for module `input`
+--     Number   numbers as text, for module `number`
+--     Line     the lines of a run list, for module `line`
+--     Report   heading, lines and refusal, for module `report`
+--     Laws     the whole text is the rules' (proved)
 pub mod Input
 pub mod Number
 pub mod Line
 pub mod Report
+pub mod Laws

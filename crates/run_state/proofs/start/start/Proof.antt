@@ -1,4 +1,4 @@
--- `run_state::start::start` meets its contract: `admit` gives the rules' verdict on tree and policy; beside a refusal the state
+-- `run_state::start::start` meets its contract: `judge_start` gives the rules' verdict on tree and policy; beside a refusal the state
 -- is all zeros, and an accepted start has position 0 and the first state. Assumes nothing.
 use Rattle.run_state.specs.Laws.Cases.{start-refused, start-accepts}
 use borrow.Author.Needs.{needs}
