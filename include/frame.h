@@ -30,10 +30,12 @@ extern "C" {
 #define FRAME_MOST_STEALS 2047  /* records of a trace */
 #define FRAME_STACK_BYTES 98304 /* 96 KB */
 
-/* The bytes of a tree of n steps, and those that record and replay ask of the buffers lent for it. For one step a trace needs 0. */
+/* The bytes of a tree of n steps and of buffers to lend for it, as lengths of arrays: uint8_t trace[FRAME_TRACE_BYTES(n)]. Record
+ * asks for 2 (n - 1) bytes of trace, which is none for one step. C has no array of none, so FRAME_TRACE_BYTES is one more: only a
+ * short buffer is refused. */
 #define FRAME_TREE_BYTES(n) (8u * (n))
 #define FRAME_LOG_BYTES(n) (4u * (n))
-#define FRAME_TRACE_BYTES(n) (2u * ((n) - 1u))
+#define FRAME_TRACE_BYTES(n) (2u * ((n) - 1u) + 1u)
 #define FRAME_LIST_BYTES(n) (4u * (n))
 
 /* The kind of a tree's record. */
@@ -156,8 +158,8 @@ FrameOutcome frame_event_in_place(FrameState *state, const uint8_t *tree, size_t
 FrameIdle frame_idle(FrameState state);
 
 /* Runs a whole list of events from a start of its own. The log gets a record for each run, the trace one for each steal; the bytes
- * beyond them keep what they held. log_len must be at least FRAME_LOG_BYTES(n) and trace_len FRAME_TRACE_BYTES(n), however
- * few the events. Refuses with 1 to 12. */
+ * beyond them keep what they held. log_len must be at least FRAME_LOG_BYTES(n) and trace_len 2 (n - 1), for which
+ * FRAME_TRACE_BYTES(n) is enough, however few the events. Refuses with 1 to 12. */
 FrameRecord frame_record(const uint8_t *tree, size_t tree_len, uint8_t policy, const uint8_t *events, size_t events_len,
                          uint8_t *log, size_t log_len, uint8_t *trace, size_t trace_len);
 

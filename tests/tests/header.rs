@@ -248,8 +248,16 @@ fn constants() -> BTreeMap<String, Vec<usize>> {
         ("FRAME_STACK_BYTES", 96 * 1_024),
         ("FRAME_TREE_BYTES(4095)", MAX_TREE_BYTES),
         ("FRAME_LOG_BYTES(4095)", 4 * steps),
-        ("FRAME_TRACE_BYTES(4095)", TRACE_BYTES * MAX_TRACE),
+        // A byte more than is asked for.
+        ("FRAME_TRACE_BYTES(4095)", TRACE_BYTES * MAX_TRACE + 1),
         ("FRAME_LIST_BYTES(4095)", 4 * steps),
+        // Never 0, which no array may have.
+        ("FRAME_TRACE_BYTES(1)", 1),
+        // An argument is taken whole.
+        ("FRAME_TREE_BYTES(1|2)", 3 * TREE_RECORD),
+        ("FRAME_LOG_BYTES(1|2)", 3 * 4),
+        ("FRAME_TRACE_BYTES(1|2)", TRACE_BYTES + 1),
+        ("FRAME_LIST_BYTES(1|2)", 3 * 4),
         ("FRAME_ASYNC", 1),
         ("FRAME_FINISH", 2),
         ("FRAME_END", 3),

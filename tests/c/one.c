@@ -1,0 +1,39 @@
+/* The smallest frame, in C and in C++: the tree of one end, in buffers whose lengths are the header's. Prints the line of each
+ * expectation that fails. */
+#include <stdio.h>
+
+#include "../../include/frame.h"
+
+static int failures;
+
+static void expect(int holds, int line)
+{
+    if (!holds) {
+        printf("tests/c/one.c:%d\n", line);
+        failures++;
+    }
+}
+
+#define EXPECT(holds) expect(holds, __LINE__)
+
+int main(void)
+{
+    static const uint8_t tree[FRAME_TREE_BYTES(1)] = { FRAME_END, 0, 0, 0, 9 };
+    static const uint8_t events[2] = { 0, 0 };
+    uint8_t log[FRAME_LOG_BYTES(1)] = { 7, 7, 7, 7 }, trace[FRAME_TRACE_BYTES(1)] = { 7 };
+    uint8_t list[FRAME_LIST_BYTES(1)] = { 7, 7, 7, 7 };
+
+    for (uint8_t policy = FRAME_WORK_FIRST; policy <= FRAME_HELP_FIRST; policy++) {
+        FrameRecord recorded = frame_record(tree, sizeof tree, policy, events, sizeof events, log, sizeof log, trace,
+                                            sizeof trace);
+        EXPECT(recorded.number == FRAME_ACCEPTED && recorded.finished == 1 && recorded.logs == 1);
+        EXPECT(recorded.steals == 0 && recorded.loads[0] == 9 && recorded.heaviest == 0);
+        EXPECT(log[0] == 0 && log[1] == 0 && log[2] == 0 && log[3] == 0);
+        /* No steal: the trace keeps its byte. */
+        EXPECT(trace[0] == 7);
+        FrameReplay replayed = frame_replay(tree, sizeof tree, policy, trace, 4 * recorded.steals, list, sizeof list);
+        EXPECT(replayed.number == FRAME_ACCEPTED && replayed.phases == 1 && replayed.loads[0] == 9);
+        EXPECT(list[0] == 0 && list[1] == 0 && list[2] == 0 && list[3] == 0);
+    }
+    return failures > 0;
+}
