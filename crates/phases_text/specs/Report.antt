@@ -1,5 +1,3 @@
--- What need not be believed: everything here is proved from the rules.
+-- What need not be believed.
 --     Terms     what is printed of a refusal
---     Laws      its pieces
 pub mod Terms
-pub mod Laws

@@ -7,10 +7,10 @@ ghost use Rattle.rules.specs.Program.{decimal, line};
 ghost use Rattle.rules.specs.Calls.{written};
 
 // Stands between two numbers.
-pub const SPACE: u8 = 32;
+const SPACE: u8 = 32;
 
 // Ends a line.
-pub const LINE_FEED: u8 = 10;
+const LINE_FEED: u8 = 10;
 
 // The digit 0; the others follow it.
 const ZERO: usize = 48;
@@ -35,7 +35,7 @@ fn places(number: usize) -> usize
 }
 
 // Writes a number in at most five decimal digits, and a byte behind it. Gives the count of both.
-pub fn put_number(text: &mut [u8], number: usize, end: u8) -> usize
+fn put_number(text: &mut [u8], number: usize, end: u8) -> usize
     requires { ⌜ 6 ≤ length (now text) ⌝ }
     ensures counts { λ r. ⌜ r ≡ length (decimal number ++ (end ∷ [])) ⌝ }
     ensures text { λ r. ⌜ now (text .exit) ≡ written (decimal number ++ (end ∷ [])) (now (text .entry)) ⌝ }
@@ -52,13 +52,22 @@ pub fn put_number(text: &mut [u8], number: usize, end: u8) -> usize
     count + 1
 }
 
+// Writes a line of two numbers. Gives its length, which is at most 12.
+pub fn put_two(text: &mut [u8], first: usize, second: usize) -> usize
+    requires { ⌜ 12 ≤ length (now text) ⌝ }
+    ensures counts { λ r. ⌜ r ≡ length (line (first ∷ second ∷ [])) ⌝ }
+    ensures text { λ r. ⌜ now (text .exit) ≡ written (line (first ∷ second ∷ [])) (now (text .entry)) ⌝ }
+{
+    let at = put_number(text, first, SPACE);
+    at + put_number(&mut text[at..], second, LINE_FEED)
+}
+
 // Writes a line of three numbers. Gives its length, which is at most 18.
 pub fn put_line(text: &mut [u8], first: usize, second: usize, third: usize) -> usize
     requires { ⌜ 18 ≤ length (now text) ⌝ }
     ensures counts { λ r. ⌜ r ≡ length (line (first ∷ second ∷ third ∷ [])) ⌝ }
     ensures text { λ r. ⌜ now (text .exit) ≡ written (line (first ∷ second ∷ third ∷ [])) (now (text .entry)) ⌝ }
 {
-    let a = put_number(text, first, SPACE);
-    let b = a + put_number(&mut text[a..], second, SPACE);
-    b + put_number(&mut text[b..], third, LINE_FEED)
+    let at = put_number(text, first, SPACE);
+    at + put_two(&mut text[at..], second, third)
 }

@@ -8,9 +8,7 @@ ghost use Rattle.rules.specs.Calls.{written};
 ghost use Rattle.phases_text.specs.Line.Terms.{linesOf, Phased};
 ghost use Rattle.phases_text.specs.Report.Terms.{refusalText};
 use super::line::put_lines;
-use super::number::LINE_FEED;
-use super::number::SPACE;
-use super::number::put_number;
+use super::number::put_two;
 
 // Writes some bytes. Gives their count.
 fn put_bytes(text: &mut [u8], bytes: &[u8]) -> usize
@@ -22,15 +20,14 @@ fn put_bytes(text: &mut [u8], bytes: &[u8]) -> usize
     bytes.len()
 }
 
-// Writes a refusal. Gives its length, which is at most 20: a word of eight bytes, and two numbers with a byte behind each.
+// Writes a refusal. Gives its length, which is at most 20: a word of eight bytes, and a line of two numbers.
 pub fn put_refusal(text: &mut [u8], number: usize, position: usize) -> usize
     requires { ⌜ 20 ≤ length (now text) ⌝ }
     ensures counts { λ r. ⌜ r ≡ length (refusalText number position) ⌝ }
     ensures text { λ r. ⌜ now (text .exit) ≡ written (refusalText number position) (now (text .entry)) ⌝ }
 {
-    let a = put_bytes(text, b"refused ");
-    let b = a + put_number(&mut text[a..], number, SPACE);
-    b + put_number(&mut text[b..], position, LINE_FEED)
+    let at = put_bytes(text, b"refused ");
+    at + put_two(&mut text[at..], number, position)
 }
 
 // Writes the heading, and a line for each of the first records of a run list. Gives the count of all bytes.

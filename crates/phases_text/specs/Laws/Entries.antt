@@ -41,21 +41,28 @@ module _ (rest : List ℕ) where
       let two : suc (suc (suc (suc i))) + 1 ≡ suc (suc (suc (suc (i + 1)))) = omega arith in
       rw (one, two) refl
 
+  -- A field of entry i, by what its bytes are in the first.
+  number-at : (field : Entry → ℕ) (at : ℕ)
+      → ((e : Entry) (es : List Entry) → field e < 65536 → numberAt (entryBytes (e ∷ es) ++ rest) at ≡ field e)
+      → (es : List Entry) (i : ℕ) → i < length es → field (entryAt es i) < 65536
+      → numberAt (entryBytes es ++ rest) (4 * i + at) ≡ field (entryAt es i)
+  number-at field at first [] i h l = absurd (omega arith)
+  number-at field at first (e ∷ es) zero h l =
+      let here : 4 * 0 + at ≡ at = omega arith in
+      rw here (first e es l)
+  number-at field at first (e ∷ es) (suc i) h l =
+      let next : 4 * suc i + at ≡ 4 + (4 * i + at) = omega arith in
+      rw (next, number-later e es (4 * i + at)) (number-at field at first es i (omega arith) l)
+
   pub number-phase : (es : List Entry) (i : ℕ) → i < length es → entryAt es i .phase < 65536
       → numberAt (entryBytes es ++ rest) (4 * i) ≡ entryAt es i .phase
-  number-phase [] i h l = absurd (omega arith)
-  number-phase (e ∷ es) zero h l = phase-first e es l
-  number-phase (e ∷ es) (suc i) h l =
-      let at : 4 * suc i ≡ 4 + 4 * i = omega arith in
-      rw (at, number-later e es (4 * i)) (number-phase es i (omega arith) l)
+  number-phase es i h l =
+      let here : 4 * i ≡ 4 * i + 0 = omega arith in
+      rw here (number-at (λ e. e .phase) 0 phase-first es i h l)
 
   pub number-step : (es : List Entry) (i : ℕ) → i < length es → entryAt es i .step < 65536
       → numberAt (entryBytes es ++ rest) (4 * i + 2) ≡ entryAt es i .step
-  number-step [] i h l = absurd (omega arith)
-  number-step (e ∷ es) zero h l = step-first e es l
-  number-step (e ∷ es) (suc i) h l =
-      let at : 4 * suc i + 2 ≡ 4 + (4 * i + 2) = omega arith in
-      rw (at, number-later e es (4 * i + 2)) (number-step es i (omega arith) l)
+  number-step = number-at (λ e. e .step) 2 step-first
 
 -- ---- the entries of an accepted trace
 

@@ -31,7 +31,9 @@ flatten-one (y ∷ ys) x = rw (flatten-one ys x) (sym (append-assoc y (flatten y
 module _ (trace list : List ℕ) where
   line-few : (k : ℕ) → length (lineOf trace list k) ≤ 18
   unfolding lineOf
-  line-few k = line-most (numberAt list (4 * k)) (workerBy trace (numberAt list (4 * k))) (numberAt list (4 * k + 2))
+  line-few k =
+      let phase = numberAt list (4 * k) in
+      line-most phase (workerBy trace phase ∷ numberAt list (4 * k + 2) ∷ [])
 
   lines-more : (k : ℕ) → linesOf trace list (suc k) ≡ linesOf trace list k ++ lineOf trace list k
   unfolding linesOf

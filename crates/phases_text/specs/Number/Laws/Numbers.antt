@@ -1,7 +1,8 @@
 -- Numbers in decimal digits: how many are printed, and the loop that writes them from the last to the first.
-use Prim.Native.Nat.{ℕ, zero, suc, _+_, _-_, _/_, _%_, _≤_, _<_}
+use Prim.Native.Nat.{ℕ, zero, suc, _+_, _-_, _*_, _/_, _%_, _^_, _≤_, _<_}
 use mathlib.Core.Path.{_≡_, refl, sym, ap, _∙_}
 use mathlib.Core.List.{List, [], _∷_, _++_}
+use native.Mathlib.Nat.{pow-suc}
 use native.Mathlib.Decide.{decLt}
 use native.Mathlib.Omega.{arith}
 use lib.ListN.{length, drop, set, length-append, length-set}
@@ -27,11 +28,6 @@ many-large : (m x : ℕ) → 10 ≤ x → length (digits (suc m) x) ≡ suc (len
 many-large m x h =
     ap length (digits-large m x h) ∙ omega (arith, length-append (digits m (x / 10)) ((48 + x % 10) ∷ []))
 
--- Where there is room for one only, one is printed.
-many-one : (x : ℕ) → length (digits 1 x) ≡ 1
-unfolding digits
-many-one x = elim (decLt x 10) [ yes h ↦ many-small 0 x h | no n ↦ many-large 0 x (omega arith) ]
-
 many-most : (m x : ℕ) → length (digits m x) ≤ m
 unfolding digits
 many-most zero x = omega arith
@@ -41,51 +37,40 @@ many-most (suc m) x =
       | no n ↦ omega (arith, many-large m x (omega arith), many-most m (x / 10))
     ]
 
-module _ (x : ℕ) where
-  pub places-1 : x < 10 → 1 ≡ length (decimal x)
-  unfolding decimal
-  places-1 h = sym (many-small 4 x h)
+pub decimal-most : (x : ℕ) → length (decimal x) ≤ 5
+unfolding decimal
+decimal-most x = many-most 5 x
 
-  pub places-2 : 10 ≤ x → x < 100 → 2 ≡ length (decimal x)
-  unfolding decimal
-  places-2 l h = omega (arith, many-large 4 x l, many-small 3 (x / 10) (omega arith))
+power-some : (m : ℕ) → 1 ≤ 10 ^ m
+power-some zero = omega arith
+power-some (suc m) = omega (arith, pow-suc 10 m, power-some m)
 
-  pub places-3 : 100 ≤ x → x < 1000 → 3 ≡ length (decimal x)
-  unfolding decimal
-  places-3 l h =
-      omega (
-        arith,
-        many-large 4 x (omega arith),
-        many-large 3 (x / 10) (omega arith),
-        many-small 2 (x / 10 / 10) (omega arith),
-      )
+-- A number from 10 ^ m on, or any if m is 0, has m + 1 digits: if it is below 10 ^ (m + 1), or if there is room for no more.
+many-between : (m room x : ℕ) → m < room → (0 < m → 10 ^ m ≤ x) → (suc m < room → x < 10 ^ suc m)
+    → suc m ≡ length (digits room x)
+unfolding digits
+many-between m zero x some l h = absurd (omega arith)
+many-between zero (suc room) x some l h =
+    elim (decLt x 10) [
+      | yes s ↦ sym (many-small room x s)
+      | no n ↦
+          elim (decLt 0 room) [
+            | yes r ↦ absurd (omega (arith, h (omega arith)))
+            | no z ↦ omega (arith, many-large room x (omega arith), many-most room (x / 10))
+          ]
+    ]
+many-between (suc m) (suc room) x some l h =
+    let least : 10 * 10 ^ m ≤ x = omega (arith, l (omega arith), pow-suc 10 m) in
+    let most : suc m < room → x / 10 < 10 ^ suc m = λ r. omega (arith, h (omega arith), pow-suc 10 (suc m)) in
+    omega (
+      arith,
+      many-large room x (omega (arith, power-some m)),
+      many-between m room (x / 10) (omega arith) (λ s. omega arith) most,
+    )
 
-  pub places-4 : 1000 ≤ x → x < 10000 → 4 ≡ length (decimal x)
-  unfolding decimal
-  places-4 l h =
-      omega (
-        arith,
-        many-large 4 x (omega arith),
-        many-large 3 (x / 10) (omega arith),
-        many-large 2 (x / 10 / 10) (omega arith),
-        many-small 1 (x / 10 / 10 / 10) (omega arith),
-      )
-
-  pub places-5 : 10000 ≤ x → 5 ≡ length (decimal x)
-  unfolding decimal
-  places-5 l =
-      omega (
-        arith,
-        many-large 4 x (omega arith),
-        many-large 3 (x / 10) (omega arith),
-        many-large 2 (x / 10 / 10) (omega arith),
-        many-large 1 (x / 10 / 10 / 10) (omega arith),
-        many-one (x / 10 / 10 / 10 / 10),
-      )
-
-  pub decimal-most : length (decimal x) ≤ 5
-  unfolding decimal
-  decimal-most = many-most 5 x
+pub places-between : (m x : ℕ) → m < 5 → (0 < m → 10 ^ m ≤ x) → (suc m < 5 → x < 10 ^ suc m) → suc m ≡ length (decimal x)
+unfolding decimal
+places-between m x some l h = many-between m 5 x some l h
 
 -- ---- from the last to the first
 

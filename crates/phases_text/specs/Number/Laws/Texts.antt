@@ -1,9 +1,10 @@
--- The pieces of a text: numbers with a byte behind each, and lines.
-use Prim.Native.Nat.{ℕ, _+_, _-_, _≤_}
+-- The pieces of a text: numbers with a byte behind each, and lines of them.
+use Prim.Native.Nat.{ℕ, suc, _*_, _≤_}
 use mathlib.Core.Path.{_≡_, ap, _∙_}
-use mathlib.Core.List.{List, [], _∷_, _++_, append-assoc}
+use mathlib.Core.List.{List, [], _∷_, _++_}
 use native.Mathlib.Omega.{arith}
 use lib.ListN.{length, length-append}
+use lib.Seq.{append-snoc}
 use Rattle.rules.specs.Program.{decimal, line}
 use Rattle.rules.specs.Calls.{written}
 use Rattle.buffers.specs.Laws.Fronts.{Front}
@@ -25,23 +26,14 @@ piece x end = decimal x ++ (end ∷ [])
 pub piece-most : (x end : ℕ) → length (piece x end) ≤ 6
 piece-most x end = omega (arith, length-append (decimal x) (end ∷ []), decimal-most x)
 
-pub snoc-append : (xs ys : List ℕ) (a : ℕ) → (xs ++ (a ∷ [])) ++ ys ≡ xs ++ (a ∷ ys)
-snoc-append xs ys a = append-assoc xs (a ∷ []) ys
-
-pub line-three : (x y z : ℕ) → (piece x 32 ++ piece y 32) ++ piece z 10 ≡ line (x ∷ y ∷ z ∷ [])
+-- A line, by its first number.
+pub line-more : (x y : ℕ) (ys : List ℕ) → piece x 32 ++ line (y ∷ ys) ≡ line (x ∷ y ∷ ys)
 unfolding line
-line-three x y z =
-    append-assoc (piece x 32) (piece y 32) (piece z 10)
-    ∙ (rw (snoc-append (decimal y) (piece z 10) 32) (snoc-append (decimal x) (decimal y ++ (32 ∷ piece z 10)) 32))
+line-more x y ys = append-snoc (decimal x) 32 (line (y ∷ ys))
 
-pub line-most : (x y z : ℕ) → length (line (x ∷ y ∷ z ∷ [])) ≤ 18
-line-most x y z =
-    rw (← line-three x y z)
-    (omega (
-      arith,
-      length-append (piece x 32 ++ piece y 32) (piece z 10),
-      length-append (piece x 32) (piece y 32),
-      piece-most x 32,
-      piece-most y 32,
-      piece-most z 10,
-    ))
+pub line-most : (x : ℕ) (xs : List ℕ) → length (line (x ∷ xs)) ≤ 6 * suc (length xs)
+unfolding line
+line-most x [] = piece-most x 10
+line-most x (y ∷ ys) =
+    rw (← line-more x y ys)
+    (omega (arith, length-append (piece x 32) (line (y ∷ ys)), piece-most x 32, line-most y ys))
