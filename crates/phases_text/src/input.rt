@@ -22,7 +22,7 @@ fn byte(input: &[u8], i: usize) -> u8
 }
 
 // The place of an input's byte i, or the input's end where that comes first.
-fn place(input: &[u8], i: usize) -> usize
+pub fn place(input: &[u8], i: usize) -> usize
     ensures { λ r. ⌜ r ≡ min i (length (now (input .entry))) ⌝ }
 {
     if i < input.len() {

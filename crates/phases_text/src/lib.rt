@@ -6,12 +6,12 @@ pub mod number;
 pub mod report;
 
 ghost use mathlib.Core.Path.{_≡_};
-ghost use Prim.Native.Nat.{_+_, _*_, _≤_};
+ghost use Prim.Native.Nat.{_≤_, _<_};
 ghost use lib.ListN.{length};
-ghost use Rattle.rules.specs.Tree.{mostSteps};
 ghost use Rattle.rules.specs.Scheduling.{mostWorkers};
 ghost use Rattle.rules.specs.Calls.{written};
 ghost use Rattle.rules.specs.Program.{phasesText};
+ghost use Rattle.phases_text.specs.Contract.{mostText, textFor};
 use report::put_listing;
 use report::put_refusal;
 
@@ -25,8 +25,8 @@ const LINE_BYTES: usize = 18;
 pub const TEXT_BYTES: usize = LINE_BYTES + LINE_BYTES * tree::MOST_STEPS;
 
 // Replays the tree and the trace of an input, and writes the text. Gives its length. There is room for the longest text.
-pub fn list_phases(input: &[u8], text: &mut [u8]) -> usize
-    requires { ⌜ 18 + 18 * mostSteps ≤ length (now text) ⌝ }
+fn put_text(input: &[u8], text: &mut [u8]) -> usize
+    requires { ⌜ mostText ≤ length (now text) ⌝ }
     ensures counts { λ r. ⌜ r ≡ length (phasesText mostWorkers (now (input .entry))) ⌝ }
     ensures text { λ r. ⌜ now (text .exit) ≡ written (phasesText mostWorkers (now (input .entry))) (now (text .entry)) ⌝ }
 {
@@ -42,4 +42,22 @@ pub fn list_phases(input: &[u8], text: &mut [u8]) -> usize
         return put_refusal(text, replayed.number as usize, replayed.position);
     }
     put_listing(text, trace, &list, tree::steps(tree))
+}
+
+// Writes what is printed of an input, of which no more than the first MOST_INPUT bytes are read. Gives the length of the text, or 0
+// where there is no room for the longest text; then every byte stays as it was.
+pub fn list_phases(input: &[u8], text: &mut [u8]) -> usize
+    ensures counts { λ r.
+        let bytes = textFor (length (now (text .entry))) (now (input .entry)) in
+        ⌜ r ≡ length bytes ⌝ }
+    ensures text { λ r.
+        let bytes = textFor (length (now (text .entry))) (now (input .entry)) in
+        ⌜ now (text .exit) ≡ written bytes (now (text .entry)) ⌝ }
+    ensures told { λ r. ⌜ (r ≡ 0 → length (now (text .entry)) < mostText) ⌝ }
+{
+    if text.len() < TEXT_BYTES {
+        return 0;
+    }
+    let end = input::place(input, input::MOST_INPUT);
+    put_text(&input[..end], text)
 }

@@ -3,6 +3,7 @@ ghost use mathlib.Core.Path.{_≡_};
 ghost use Prim.Native.Nat.{_+_, _*_, _≤_};
 ghost use lib.ListN.{length};
 ghost use Rattle.rules.specs.Calls.{written};
+ghost use Rattle.phases_text.specs.Contract.{mostLine};
 ghost use Rattle.phases_text.specs.Line.Terms.{numberAt, workerBy, linesOf, Phased};
 use super::number::put_line;
 
@@ -27,7 +28,7 @@ fn worker_of(trace: &[u8], phase: usize) -> usize
 
 // Writes a line for each of the first records of a run list. Gives the count of all bytes. A line has at most 18 of them.
 pub fn put_lines(text: &mut [u8], trace: &[u8], list: &[u8], records: usize) -> usize
-    requires { ⌜ (4 * records ≤ length (now list)) × (18 * records ≤ length (now text))
+    requires { ⌜ (4 * records ≤ length (now list)) × (mostLine * records ≤ length (now text))
         × Phased (now trace) (now list) records ⌝ }
     ensures counts { λ r.
         let lines = linesOf (now (trace .entry)) (now (list .entry)) records in

@@ -5,6 +5,7 @@ ghost use Prim.Native.Nat.{_≤_};
 ghost use lib.ListN.{length};
 ghost use Rattle.rules.specs.Program.{decimal, line};
 ghost use Rattle.rules.specs.Calls.{written};
+ghost use Rattle.phases_text.specs.Contract.{mostLine};
 
 // Stands between two numbers.
 const SPACE: u8 = 32;
@@ -64,7 +65,7 @@ pub fn put_two(text: &mut [u8], first: usize, second: usize) -> usize
 
 // Writes a line of three numbers. Gives its length, which is at most 18.
 pub fn put_line(text: &mut [u8], first: usize, second: usize, third: usize) -> usize
-    requires { ⌜ 18 ≤ length (now text) ⌝ }
+    requires { ⌜ mostLine ≤ length (now text) ⌝ }
     ensures counts { λ r. ⌜ r ≡ length (line (first ∷ second ∷ third ∷ [])) ⌝ }
     ensures text { λ r. ⌜ now (text .exit) ≡ written (line (first ∷ second ∷ third ∷ [])) (now (text .entry)) ⌝ }
 {

@@ -5,6 +5,7 @@ ghost use Prim.Native.Nat.{_+_, _*_, _≤_};
 ghost use lib.ListN.{length};
 ghost use Rattle.rules.specs.Program.{heading};
 ghost use Rattle.rules.specs.Calls.{written};
+ghost use Rattle.phases_text.specs.Contract.{mostLine};
 ghost use Rattle.phases_text.specs.Line.Terms.{linesOf, Phased};
 ghost use Rattle.phases_text.specs.Report.Terms.{refusalText};
 use super::line::put_lines;
@@ -32,7 +33,7 @@ pub fn put_refusal(text: &mut [u8], number: usize, position: usize) -> usize
 
 // Writes the heading, and a line for each of the first records of a run list. Gives the count of all bytes.
 pub fn put_listing(text: &mut [u8], trace: &[u8], list: &[u8], records: usize) -> usize
-    requires { ⌜ (4 * records ≤ length (now list)) × (18 + 18 * records ≤ length (now text))
+    requires { ⌜ (4 * records ≤ length (now list)) × (mostLine + mostLine * records ≤ length (now text))
         × Phased (now trace) (now list) records ⌝ }
     ensures counts { λ r.
         let lines = linesOf (now (trace .entry)) (now (list .entry)) records in

@@ -10,7 +10,9 @@ use Rattle.rules.specs.Scheduling.{Phase, phaseAt, Entry}
 use Rattle.rules.specs.Traces.{replayWalk, runList}
 use Rattle.rules.specs.Calls.{replayVerdict}
 
--- "Reads the first 49,152 bytes of standard input."
+-- "Reads the first 49,152 bytes of standard input." That a text depends on no further byte is proved of `phases_text::list_phases`.
+-- That the program hands it standard input from its start, up to so many bytes or to its end, no contract can say: it is tested
+-- (`tests/tests/program.rs`).
 abbrev pub mostInput : ℕ
 mostInput = 49152
 
@@ -55,7 +57,7 @@ phaseLines phs entries = flatten (map (λ e. line (e .phase ∷ phaseAt phs (e .
 unfoldable pub refusedLine : Verdict → List ℕ
 refusedLine v = 114 ∷ 101 ∷ 102 ∷ 117 ∷ 115 ∷ 101 ∷ 100 ∷ 32 ∷ line (v .number ∷ v .position ∷ [])
 
--- What it prints for an input, where the run has w workers. Its own run list is never short.
+-- What it prints for the bytes that it reads, where the run has w workers. Its own run list is never short.
 unfoldable pub phasesText : ℕ → List ℕ → List ℕ
 phasesText w input =
     let p = inputPolicy input in
@@ -65,5 +67,6 @@ phasesText w input =
     let lines = phaseLines phs (runList p (kinds tree) phs) in
     cond (eqb (refusal .number) 0) (heading ++ lines) (refusedLine refusal)
 
+-- What it prints for all that standard input holds.
 unfoldable pub printed : ℕ → List ℕ → List ℕ
 printed w input = phasesText w (take mostInput input)

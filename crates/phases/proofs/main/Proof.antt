@@ -34,7 +34,9 @@ list-phases-requires : tie.Need-list-phases-requires
 list-phases-requires c κs = search needs
 
 fits : (c : tie.After-list-phases) → c .list-phases .result ≤ length (c .list-phases .last .1 .0)
-fits c = within _ _ (c .list-phases .result) (c .list-phases .last .1 .0) (c .list-phases .ensures)
+fits c =
+    let put = c .list-phases in
+    within _ _ (put .result) (put .last .1 .0) (put .ensures .0, put .ensures .1 .0)
 
 array-share-prefix-text : tie.Need-array-share-prefix-text
 array-share-prefix-text c = fits (c .before)

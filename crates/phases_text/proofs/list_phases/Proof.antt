@@ -1,139 +1,56 @@
--- `phases_text::list_phases` meets its contract: the parts that it cuts an input into are the rules' policy, tree and trace; its own
--- run list has room for every tree, so replay's verdict is the one that the rules print; and either text, of a refusal or of a run
--- list, is the rules' text. Assumes nothing.
-use Prim.Native.Nat.{ℕ}
-use mathlib.Core.Path.{_≡_, refl, ap, _∙_}
-use mathlib.Core.List.{List}
+-- `phases_text::list_phases` meets its contract: a short buffer is left as it is, and in any other the text is that of the input's
+-- first bytes. Assumes nothing.
+use Prim.Native.Nat.{_≤_, min}
+use mathlib.Core.Path.{_≡_, sym}
 use native.Mathlib.Omega.{arith}
 use lib.ListN.{length}
+use lib.Seq.{length-take-le}
 use borrow.Author.Needs.{needs}
-use Rattle.rules.specs.Tree.{kinds}
-use Rattle.rules.specs.Program.{inputTree}
-use Rattle.phases_text.specs.Number.Laws.Texts.{text-is}
-use Rattle.phases_text.specs.Input.Terms.{Parts}
-use Rattle.phases_text.specs.Laws.Phases.{Called, parts-called, called-refused, called-steps, called-room, called-phases}
-use Rattle.phases_text.specs.Laws.Phases.{called-listed}
+use Rattle.rules.specs.Program.{mostInput}
+use Rattle.buffers.specs.Laws.Fronts.{front-none}
+use Rattle.phases_text.specs.Contract.{mostText}
+use Rattle.phases_text.specs.Number.Laws.Texts.{text-is, front-is}
+use Rattle.phases_text.specs.Laws.Phases.{text-short, text-whole, text-some}
 use Rattle.phases_text.proofs.list_phases.Statement.{statement}
 use Rattle.phases_text.proofs.list_phases.Tie as tie
 
--- ---- what is known past the call
+returns : tie.Need-returns
+returns c =
+    let a = c .before .before .before .args in
+    let none = front-is (front-none (a .text .now)) (text-short (length (a .text .now)) (a .input .now) (omega arith)) in
+    (none .0, (none .1, λ z. omega arith))
 
-abbrev entry : tie.After-parts-of → tie.Start
-entry c = c .before .before .before
+place-requires : tie.Need-place-requires
+place-requires c κs = search needs
 
-parts : (c : tie.After-parts-of)
-    → let r = c .parts-of .result in
-    Parts (entry c .args .input .now) (r .policy) (r .start) (r .end)
-parts c = c .parts-of .ensures
+slice-aggregate-put-text : tie.Need-slice-aggregate-put-text
+slice-aggregate-put-text c = sym (length-take-le (c .before .place .result) _ (omega (arith, c .before .place .ensures)))
 
-abbrev read : tie.After-replay → tie.After-parts-of
-read c = c .before .before .before .before
-
-called : (c : tie.After-replay)
-    → Called (entry (read c) .args .input .now) (c .replay .result) (c .replay .last .1 .1 .1 .0)
-called c =
-    let replay = c .replay in
-    parts-called (parts (read c)) _ (replay .result) (replay .last .1 .1 .1 .0) (replay .ensures .0) (replay .ensures .1) refl
-
--- Past an accepted call.
-abbrev replay-at : tie.After-steps → tie.After-replay
-replay-at c = c .before .before .before .before .before .before
-
-steps-are : (c : tie.After-steps) → c .steps .result ≡ length (kinds (inputTree (entry (read (replay-at c)) .args .input .now)))
-steps-are c = c .steps .ensures ∙ ap (λ (l : List ℕ). length (kinds l)) (parts (read (replay-at c)) .tree-is)
-
--- ---- the needs
-
-parts-of-requires : tie.Need-parts-of-requires
-parts-of-requires c κs = search needs
-
-sub-tree : tie.Need-sub-tree
-sub-tree c = search needs
-
-part-tree-start : tie.Need-part-tree-start
-part-tree-start c = search needs
-
-part-tree-end : tie.Need-part-tree-end
-part-tree-end c = search needs
-
-sub-trace : tie.Need-sub-trace
-sub-trace c = search needs
-
-part-trace-start : tie.Need-part-trace-start
-part-trace-start c = search needs
-
-part-trace-end : tie.Need-part-trace-end
-part-trace-end c = search needs
-
-slice-aggregate-replay : tie.Need-slice-aggregate-replay
-slice-aggregate-replay c = search needs
-
-replay-requires : tie.Need-replay-requires
-replay-requires c κs = search needs
-
-cast-put-refusal : tie.Need-cast-put-refusal
-cast-put-refusal c = search needs
-
-put-refusal-requires : tie.Need-put-refusal-requires
-put-refusal-requires c κs = search needs
+put-text-requires : tie.Need-put-text-requires
+put-text-requires c κs = search needs
 
 same-length : tie.Need-same-length
 same-length c = search needs
 
-returns : tie.Need-returns
-returns c =
-    let put = c .before .before .put-refusal in
-    let at = c .before .before .before .before .before in
-    let replay = at .before .before .before in
-    let text = entry (read replay) .args .text .now in
-    let all = called-refused (called replay) (at .if1 .taken) in
-    text-is text (put .last .0) (put .result) all (put .ensures)
-
-slice-aggregate-put-listing : tie.Need-slice-aggregate-put-listing
-slice-aggregate-put-listing c = search needs
-
-steps-requires : tie.Need-steps-requires
-steps-requires c κs = search needs
-
-put-listing-requires : tie.Need-put-listing-requires
-put-listing-requires c κs =
-    let known = called (replay-at c) in
-    let none = c .before .before .before .if1 .left in
-    let same = steps-are c in
-    let phases = rw (← same, ← parts (read (replay-at c)) .trace-is) at (called-phases known none) in
-    (omega (arith, called-room known none), omega (arith, called-steps known none, entry (read (replay-at c)) .pre), phases)
-
-same-length-2 : tie.Need-same-length-2
-same-length-2 c = search needs
-
 returns-2 : tie.Need-returns-2
 returns-2 c =
-    let put = c .before .before .put-listing in
-    let at = c .before .before .before in
-    let text = entry (read (replay-at at)) .args .text .now in
-    let listed = called-listed (called (replay-at at)) (at .before .before .before .if1 .left) in
-    let all = rw (← steps-are at, ← parts (read (replay-at at)) .trace-is) at listed in
-    text-is text (put .last .0) (put .result) all (put .ensures)
+    let put = c .before .before .put-text in
+    let at = c .before .before .before .before .before in
+    let a = at .before .before .before .before .args in
+    let room : mostText ≤ length (a .text .now) = omega (arith, at .before .if1 .left) in
+    let cut : at .place .result ≡ min mostInput (length (a .input .now)) = omega (arith, at .place .ensures) in
+    let all = text-whole (length (a .text .now)) (at .place .result) (a .input .now) room cut in
+    let whole = text-is (a .text .now) (put .last .1 .0) (put .result) all (put .ensures) in
+    let some = text-some (length (a .text .now)) (a .input .now) room in
+    (whole .0, (whole .1, λ z. absurd (omega (arith, whole .0, some))))
 
 pub list-phases-spec : {M : Type 1} → statement M
 list-phases-spec =
     tie.close
     (tie.spec
-    parts-of-requires
-    sub-tree
-    part-tree-start
-    part-tree-end
-    sub-trace
-    part-trace-start
-    part-trace-end
-    slice-aggregate-replay
-    replay-requires
-    cast-put-refusal
-    put-refusal-requires
-    same-length
     returns
-    slice-aggregate-put-listing
-    steps-requires
-    put-listing-requires
-    same-length-2
+    place-requires
+    slice-aggregate-put-text
+    put-text-requires
+    same-length
     returns-2)

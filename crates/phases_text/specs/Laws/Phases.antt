@@ -1,19 +1,24 @@
 -- The whole text: what is printed of a refused and of an accepted replay.
-use Prim.Native.Nat.{ℕ, _-_, _*_, _≤_}
+use Prim.Native.Nat.{ℕ, _-_, _*_, _≤_, _<_, min}
 use mathlib.Core.Path.{_≡_, refl, sym, ap, _∙_}
-use mathlib.Core.List.{List, _++_}
+use mathlib.Core.Bool.{Bool, true, false, cond}
+use mathlib.Core.List.{List, [], _++_}
+use native.Mathlib.Decide.{decLe}
 use native.Mathlib.Omega.{arith}
 use lib.ListN.{length, take, drop, replicate, length-replicate}
-use borrow.Author.Tests.{eq-eqb, ne-eqb}
+use lib.Seq.{take-all}
+use lib.Dec.{eqb}
+use borrow.Author.Tests.{eq-eqb, ne-eqb, lt-ltb, le-ltb}
 use Rattle.rules.specs.Scheduling.{mostWorkers}
 use Rattle.rules.specs.Bytes.{Verdict}
 use Rattle.rules.specs.Tree.{mostSteps, kinds}
 use Rattle.rules.specs.Traces.{entryBytes}
 use Rattle.rules.specs.Calls.{written, replayVerdict, replayOf, replayRefused, replayCall, Replayed as Call}
-use Rattle.rules.specs.Program.{inputPolicy, inputTree, inputTrace, heading, phaseLines, refusedLine, phasesText}
+use Rattle.rules.specs.Program.{inputPolicy, inputTree, inputTrace, heading, phaseLines, refusedLine, phasesText, mostInput, printed}
 use Rattle.replay_invariant.specs.Splits.{phasesOf}
 use Rattle.replay.specs.declared.answer.Replayed.{Replayed}
 use Rattle.replay.specs.Contract.{answers}
+use Rattle.phases_text.specs.Contract.{mostText, textFor}
 use Rattle.phases_text.specs.Report.Terms.{refusalText}
 use Rattle.phases_text.specs.Line.Terms.{linesOf, Phased}
 use Rattle.phases_text.specs.Input.Terms.{Parts}
@@ -110,3 +115,41 @@ module _ {input : List ℕ} {r : Replayed} {out : List ℕ} (called : Called inp
     unfolding verdict
     called-listed =
         rw out-is (ap (λ (l : List ℕ). heading ++ l) (listed-lines mostWorkers p tree trace list fine)) ∙ sym (text-accepted fine)
+
+-- ---- what is written to a buffer
+
+pub text-short : (room : ℕ) (input : List ℕ) → room < mostText → [] ≡ textFor room input
+unfolding textFor
+text-short room input h = rw (lt-ltb room mostText h) refl
+
+-- The first bytes of an input, as the code cuts them.
+first-bytes : (most end : ℕ) (input : List ℕ) → end ≡ min most (length input) → take end input ≡ take most input
+first-bytes most end input e =
+    elim (decLe most (length input)) [
+      | yes l ↦
+          let all : end ≡ most = omega arith in
+          rw all refl
+      | no n ↦ take-all end input (omega arith) ∙ sym (take-all most input (omega arith))
+    ]
+
+pub text-whole : (room end : ℕ) (input : List ℕ) → mostText ≤ room → end ≡ min mostInput (length input)
+    → phasesText mostWorkers (take end input) ≡ textFor room input
+unfolding textFor printed
+text-whole room end input h e = rw (le-ltb room mostText h, first-bytes mostInput end input e) refl
+
+-- No text is empty.
+some : (b : Bool) (lines : List ℕ) (refusal : Verdict) → 0 < length (cond b (heading ++ lines) (refusedLine refusal))
+unfolding heading refusedLine
+some true lines refusal = omega arith
+some false lines refusal = omega arith
+
+printed-some : (w : ℕ) (input : List ℕ) → 0 < length (phasesText w input)
+unfolding phasesText
+printed-some w input =
+    let tree = inputTree input in
+    let refusal = replayVerdict w (inputPolicy input) tree (inputTrace input) (replicate (4 * length (kinds tree)) 0) in
+    some (eqb (refusal .number) 0) _ refusal
+
+pub text-some : (room : ℕ) (input : List ℕ) → mostText ≤ room → 0 < length (textFor room input)
+unfolding textFor printed
+text-some room input h = rw (le-ltb room mostText h) (printed-some mostWorkers (take mostInput input))

@@ -4,6 +4,7 @@ use Prim.Native.Nat.{_+_, _-_, _≤_}
 use mathlib.Core.Path.{_≡_, ap}
 use native.Mathlib.Omega.{arith}
 use borrow.Author.Needs.{needs}
+use Rattle.phases_text.specs.Contract.{mostLine}
 use Rattle.phases_text.specs.Line.Terms.{linesOf}
 use Rattle.buffers.specs.Laws.Fronts.{withPart, front-length, front-within, front-room}
 use Rattle.phases_text.specs.Number.Laws.Texts.{front-is}
@@ -86,7 +87,7 @@ put-line-requires c κs =
     let a = entry at .args in
     let loop = at .loop in
     let few = listing-few (a .text .now) (a .trace .now) (a .list .now) (loop .k) (loop .text) (loop .at) (loop .inv .1) in
-    front-room (loop .inv .1) 18 (omega (arith, few, w .before .before .before .loop-test .taken, entry at .pre))
+    front-room (loop .inv .1) mostLine (omega (arith, few, w .before .before .before .loop-test .taken, entry at .pre))
 
 add-at : tie.Need-add-at Inv-loop μ-loop
 add-at c =

@@ -11,6 +11,7 @@ use Rattle.rules.specs.Program.{line}
 use Rattle.rules.specs.Calls.{written}
 use Rattle.tree.specs.Laws.Counts.{count-snoc}
 use Rattle.run_invariant.specs.Laws.Moves.{map-one}
+use Rattle.phases_text.specs.Contract.{mostLine}
 use Rattle.phases_text.specs.Line.Terms.{numberAt, workerBy, lineOf, linesOf}
 use Rattle.buffers.specs.Laws.Fronts.{partOf, withPart, Front, front-none, front-next}
 use Rattle.phases_text.specs.Number.Laws.Texts.{text-is, line-most}
@@ -29,7 +30,7 @@ flatten-one (y ∷ ys) x = rw (flatten-one ys x) (sym (append-assoc y (flatten y
 
 -- A trace and a run list.
 module _ (trace list : List ℕ) where
-  line-few : (k : ℕ) → length (lineOf trace list k) ≤ 18
+  line-few : (k : ℕ) → length (lineOf trace list k) ≤ mostLine
   unfolding lineOf
   line-few k =
       let phase = numberAt list (4 * k) in
@@ -39,7 +40,7 @@ module _ (trace list : List ℕ) where
   unfolding linesOf
   lines-more k = rw (count-snoc k 0, zero-add, map-one, flatten-one) refl
 
-  pub lines-most : (k : ℕ) → length (linesOf trace list k) ≤ 18 * k
+  pub lines-most : (k : ℕ) → length (linesOf trace list k) ≤ mostLine * k
   unfolding linesOf count flatten
   lines-most zero = omega arith
   lines-most (suc k) =
@@ -57,10 +58,10 @@ module _ (before trace list : List ℕ) where
 
   module _ (k : ℕ) (text : List ℕ) (at : ℕ) (so : Listing k text at) where
     -- What is written so far is short.
-    pub listing-few : at ≤ 18 * k
+    pub listing-few : at ≤ mostLine * k
     listing-few = omega (arith, so .many, lines-most trace list k)
 
-    next : 18 * (k + 1) ≤ length before → (part : List ℕ) (n : ℕ)
+    next : mostLine * (k + 1) ≤ length before → (part : List ℕ) (n : ℕ)
         → (n ≡ length (lineOf trace list k)) × (part ≡ written (lineOf trace list k) (partOf text at))
         → Listing (k + 1) (withPart text at part) (at + n)
     next room part n put =
@@ -68,7 +69,7 @@ module _ (before trace list : List ℕ) where
         (front-next so (lineOf trace list k) part n (omega (arith, listing-few, line-few trace list k)) put)
 
     -- By the numbers that the code reads.
-    pub listing-turn : 18 * (k + 1) ≤ length before → (phase worker step : ℕ)
+    pub listing-turn : mostLine * (k + 1) ≤ length before → (phase worker step : ℕ)
         → phase ≡ numberAt list (4 * k) → worker ≡ workerBy trace phase → step ≡ numberAt list (4 * k + 2)
         → (part : List ℕ) (n : ℕ)
         → let bytes = line (phase ∷ worker ∷ step ∷ []) in
