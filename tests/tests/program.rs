@@ -4,8 +4,10 @@
 use std::collections::BTreeSet;
 use std::fs::{self, File};
 use std::io::{ErrorKind, Seek, Write};
+use std::os::fd::OwnedFd;
+use std::os::unix::net::UnixStream;
 use std::path::{Path, PathBuf};
-use std::process::{Child, ChildStdin, Command, Stdio};
+use std::process::{Child, ChildStdin, Command, Output, Stdio};
 use std::thread;
 use std::time::{Duration, Instant};
 
@@ -406,6 +408,77 @@ fn in_pieces() {
             drop(stdin);
             same_text(&printed(child), &phases(bytes), &format!("seed {seed}, {}", program.display()));
         }
+    }
+}
+
+// ---- Failures, and the stack ----
+
+/// Runs the proved program by a shell's line, in which it is `$0` and the given path is `$1`. The environment is empty, since
+/// what is in it takes room on the stack.
+fn by_shell(line: &str, path: &Path) -> Output {
+    let [proved, _] = programs();
+    let shell = Command::new("/bin/sh").arg("-c").arg(line).arg(proved).arg(path).env_clear().output();
+    shell.expect("there is a shell")
+}
+
+const NOT_READ: &str = "phases: standard input could not be read\n";
+const NOT_WRITTEN: &str = "phases: standard output could not be written\n";
+
+/// It ends well, as a program of this language always does, and prints these two texts.
+fn says(output: &Output, text: &[u8], error: &str, case: &str) {
+    same_text(&output.stdout, text, case);
+    same_text(&output.stderr, error.as_bytes(), &format!("{case}, standard error"));
+    assert_eq!(output.status.code(), Some(0), "{case}");
+}
+
+#[test]
+fn input_that_cannot_be_read() {
+    // Closed, a folder, open for writing only. Where nothing is printed, standard output is not tried.
+    for line in ["\"$0\" <&-", "\"$0\" </", "\"$0\" 0>/dev/null", "\"$0\" <&- >&-", "\"$0\" </ >/dev/full"] {
+        says(&by_shell(line, &root()), b"", NOT_READ, line);
+    }
+    says(&by_shell("\"$0\" <&- 2>&-", &root()), b"", "", "standard error is closed");
+    // A read that fails behind others: the bytes that came, which are a sound input, are not taken for all.
+    let [proved, _] = programs();
+    let (mut ours, theirs) = UnixStream::pair().expect("a socket");
+    theirs.set_nonblocking(true).expect("it does not wait");
+    ours.write_all(&example_input()).expect("there is room");
+    let child = start(&proved, OwnedFd::from(theirs).into());
+    says(&child.wait_with_output().expect("the program ends"), b"", NOT_READ, "no more for now");
+}
+
+#[test]
+fn output_that_cannot_be_written() {
+    let held = Held::new("not-written", &example_input());
+    // Full, closed, open for reading only; of a refusal too.
+    for line in ["\"$0\" <\"$1\" >/dev/full", "\"$0\" <\"$1\" >&-", "\"$0\" <\"$1\" 1</dev/null", "\"$0\" </dev/null >/dev/full"] {
+        says(&by_shell(line, &held.path), b"", NOT_WRITTEN, line);
+    }
+    says(&by_shell("\"$0\" <\"$1\" >&- 2>&-", &held.path), b"", "", "standard error is closed");
+    // A file that may have a few blocks takes some of the text.
+    let held = Held::new("in-part", &greatest_input(1));
+    let file = Held::new("in-part-text", &[]);
+    let line = format!("trap '' XFSZ; ulimit -f 8; \"$0\" <\"$1\" >'{}'", file.path.display());
+    says(&by_shell(&line, &held.path), b"", NOT_WRITTEN, "a part");
+    let (part, text) = (fs::read(&file.path).expect("the file can be read"), phases(&greatest_input(1)));
+    assert!(!part.is_empty() && part.len() < text.len() && text.starts_with(&part), "{} bytes", part.len());
+}
+
+/// KB of stack that are enough for the program, as docs/FORMAT.md says.
+const STACK: usize = 256;
+
+#[test]
+fn stack_of_the_program() {
+    let document = fs::read_to_string(root().join("docs/FORMAT.md")).expect("the document can be read");
+    assert!(document.contains(&format!("{STACK} KB of stack")), "the document names another stack");
+    // Without a steal all 4,095 steps are one phase.
+    let greatest = [1, 2].map(greatest_input);
+    let alone = greatest.clone().map(|input| input[..3 + 32_760].to_vec());
+    let inputs = stored().into_iter().map(|(_, input, _)| input).chain(greatest).chain(alone);
+    for (k, input) in inputs.enumerate() {
+        let held = Held::new("stack", &input);
+        let output = by_shell(&format!("ulimit -s {STACK}; exec \"$0\" <\"$1\""), &held.path);
+        says(&output, &phases(&input), "", &format!("input {k}"));
     }
 }
 
