@@ -12,6 +12,8 @@ ghost use Rattle.replay_spec.specs.Begins.{mostPhases};
 ghost use Rattle.replay_spec.specs.Lists.{listed, Listable};
 use phase::write_phase;
 use policy::MOST_STEALS;
+use tree::Phase;
+use tree::Step;
 use tree_tables::wide;
 
 // Writes the run list, each phase behind the one before.
@@ -35,9 +37,9 @@ pub fn write_list(
     let mut k = 0;
     let mut at = 0;
     while k < phases {
-        let phase = k;
+        let phase = Phase(k);
+        let first = Step(wide(firsts[k]));
         k += 1;
-        let first = wide(firsts[phase]);
         let count = write_phase(
             tree,
             ends,

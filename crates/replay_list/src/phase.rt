@@ -11,6 +11,7 @@ use policy::held_after;
 use policy::pushed_by;
 use replay_labels::stays;
 use tree::END;
+use tree::Phase;
 use tree::Step;
 use tree::kind;
 use tree_tables::wide;
@@ -22,40 +23,47 @@ pub fn write_phase(
     ends: &[u16],
     labels: &[u16],
     policy: u8,
-    phase: usize,
-    first: usize,
+    phase: Phase,
+    first: Step,
     stack: &mut [u16],
     list: &mut [u8],
 ) -> usize
     requires { ⌜ (treeVerdict (now tree) .number ≡ 0) × Ends (kinds (now tree)) (now ends) (length (now ends)) ⌝ }
     requires { ⌜ (length (now labels) ≡ length (kinds (now tree))) × (length (now stack) ≡ mostTraceRecords) ⌝ }
-    requires { ⌜ Writable policy (kinds (now tree)) (now labels) phase first (length (now list)) ⌝ }
-    ensures counts { λ r. ⌜ r ≡ length (phaseOrder policy (kinds (now (tree .entry))) (now (labels .entry)) phase first) ⌝ }
+    requires { ⌜ Writable policy (kinds (now tree)) (now labels) (phase .0) (first .0) (length (now list)) ⌝ }
+    ensures counts { λ r.
+        let order = phaseOrder policy (kinds (now (tree .entry))) (now (labels .entry)) (phase .0) (first .0) in
+        ⌜ r ≡ length order ⌝ }
     ensures list { λ r.
-        let order = phaseOrder policy (kinds (now (tree .entry))) (now (labels .entry)) phase first in
-        ⌜ now (list .exit) ≡ written (entryBytes (inPhase phase order)) (now (list .entry)) ⌝ }
+        let order = phaseOrder policy (kinds (now (tree .entry))) (now (labels .entry)) (phase .0) (first .0) in
+        ⌜ now (list .exit) ≡ written (entryBytes (inPhase (phase .0) order)) (now (list .entry)) ⌝ }
 {
-    let mut i = first;
+    let mut held = first;
     let mut depth: usize = 0;
     let mut count: usize = 0;
     loop {
         let at = count;
         count += 1;
-        buffers::put_record(list, at, (phase % 256) as u8, (phase / 256 % 256) as u8, i);
-        if kind(tree, Step(i)) == END {
+        buffers::put_record(
+            list,
+            at,
+            (phase.0 % 256) as u8,
+            (phase.0 / 256 % 256) as u8,
+            held.0,
+        );
+        if kind(tree, held) == END {
             if depth == 0 {
                 return count;
             }
             depth -= 1;
-            i = wide(stack[depth]);
+            held = Step(wide(stack[depth]));
             continue;
         }
-        let push = pushed_by(tree, ends, policy, Step(i));
-        let hold = held_after(tree, ends, policy, Step(i));
-        i = hold.0;
-        let pushed = push.0;
-        if stays(labels, phase, pushed) {
-            stack[depth] = pushed as u16;
+        let push = pushed_by(tree, ends, policy, held);
+        let hold = held_after(tree, ends, policy, held);
+        held = hold;
+        if stays(labels, push, phase) {
+            stack[depth] = push.0 as u16;
             depth += 1;
         }
     }

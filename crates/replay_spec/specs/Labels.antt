@@ -28,4 +28,4 @@ Taking openers labels s k r after =
 
 -- A step that phase k pushes is dropped: it has the label of another phase.
 unfoldable pub dropped : List ℕ → ℕ → ℕ → Bool
-dropped labels k x = not (eqb (labelOf labels x) free) && not (eqb (labelOf labels x) k)
+dropped labels x k = not (eqb (labelOf labels x) free) && not (eqb (labelOf labels x) k)

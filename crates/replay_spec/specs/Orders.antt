@@ -12,7 +12,7 @@ use Rattle.replay_spec.specs.Labels.{dropped}
 
 -- The running order of phase k by labels, from its first step.
 unfoldable pub phaseOrder : ℕ → List ℕ → List ℕ → ℕ → ℕ → List ℕ
-phaseOrder p ks labels k first = runAlone (dropped labels k) p ks (length ks) (record { held = some first; deque = [] })
+phaseOrder p ks labels k first = runAlone (λ x. dropped labels x k) p ks (length ks) (record { held = some first; deque = [] })
 
 -- Steps as records of phase k.
 unfoldable pub inPhase : ℕ → List ℕ → List Entry

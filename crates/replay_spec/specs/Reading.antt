@@ -13,9 +13,9 @@ use Rattle.replay_spec.specs.Labels.{Claimed}
 
 -- What reading against phase k comes to, for the step that the number names: that step, where it has no label and the first
 -- labelled one above it has the phase's.
-abbrev pub Reading : List ℕ → List ℕ → ℕ → Option ℕ → Named → List ℕ → Type 0
-Reading openers labels k none r after = r ≡ Nothing
-Reading openers labels k (some s) r after =
+abbrev pub Reading : List ℕ → List ℕ → Option ℕ → ℕ → Named → List ℕ → Type 0
+Reading openers labels none k r after = r ≡ Nothing
+Reading openers labels (some s) k r after =
     ((labelOf labels s ≡ free → ⊥) × (r ≡ Nothing))
     ⊎ ((labelOf labels s ≡ free)
     × ((found : ℕ) × Claimed openers labels s k after found × (r ≡ cond (eqb found k) (At (record { 0 = s })) Nothing)))

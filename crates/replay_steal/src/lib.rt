@@ -16,6 +16,7 @@ ghost use Rattle.replay_spec.specs.Naming.{named};
 ghost use Rattle.replay_spec.specs.Reading.{Reading};
 use policy::MOST_PHASES;
 use replay_spec::Named;
+use tree::Phase;
 use tree_tables::wide;
 
 // Reads a number against a phase: gives the step that it names, if that step can be stolen from the phase. The steps above it
@@ -28,26 +29,27 @@ pub fn read_steal(
     policy: u8,
     bases: &[u16; MOST_PHASES],
     ordinals: &[u16; MOST_PHASES],
-    phase: u16,
+    phase: Phase,
     number: u16,
 ) -> Named
-    requires { ⌜ (treeVerdict (now tree) .number ≡ 0) × (phase < mostPhases) × (getD (now bases) phase 0 < length (kinds (now tree))) ⌝ }
+    requires { let base = getD (now bases) (phase .0) 0 in
+        ⌜ (treeVerdict (now tree) .number ≡ 0) × (phase .0 < mostPhases) × (base < length (kinds (now tree))) ⌝ }
     requires { ⌜ Ends (kinds (now tree)) (now ends) (length (now ends)) ⌝ }
     requires { ⌜ (length (now openers) ≡ length (kinds (now tree))) × Openers (kinds (now tree)) (now openers) (length (now openers)) ⌝ }
     requires { ⌜ (length (now labels) ≡ length (kinds (now tree))) × (labelOf (now labels) 0 ≡ free → ⊥) ⌝ }
     requires { ⌜ (length (now bases) ≡ mostPhases) × (length (now ordinals) ≡ mostPhases) ⌝ }
     ensures { λ r.
-        let base = getD (now (bases .entry)) phase 0 in
-        let ordinal = getD (now (ordinals .entry)) phase 0 in
+        let base = getD (now (bases .entry)) (phase .0) 0 in
+        let ordinal = getD (now (ordinals .entry)) (phase .0) 0 in
         let step = named policy (kinds (now (tree .entry))) base ordinal number in
-        ⌜ Reading (now (openers .entry)) (now (labels .entry)) phase step r (now (labels .exit)) ⌝ }
+        ⌜ Reading (now (openers .entry)) (now (labels .entry)) step (phase .0) r (now (labels .exit)) ⌝ }
 {
-    let at = wide(phase);
+    let at = phase.0;
     let base = wide(bases[at]);
     let ordinal = wide(ordinals[at]);
     match number::decode_number(tree, ends, openers, policy, base, ordinal, wide(number)) {
         Named::At(step) => {
-            if !replay_labels::take(openers, labels, step.0, phase) {
+            if !replay_labels::take(openers, labels, step, phase) {
                 return Named::Nothing;
             }
             Named::At(step)

@@ -18,6 +18,8 @@ use policy::WORKERS;
 use replay_spec::Begun;
 use replay_spec::NO_PHASE;
 use replay_spec::Named;
+use tree::Phase;
+use tree_tables::wide;
 
 // What the walk over the records comes to.
 pub struct Ended {
@@ -88,7 +90,7 @@ pub fn walk(
             policy,
             &bases,
             &ordinals,
-            phase,
+            Phase(wide(phase)),
             steal.number,
         ) {
             Named::At(step) => {

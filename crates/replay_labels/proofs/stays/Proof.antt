@@ -13,9 +13,9 @@ shared-slice-read-if1 c = search needs
 
 returns : tie.Need-returns
 returns c =
-    let s = c .before .before .before in
-    let a = s .args in
-    entry-free (a .labels .now) (a .phase) (a .step) (s .pre) (c .if1 .taken)
+    let start = c .before .before .before in
+    let a = start .args in
+    entry-free (a .labels .now) (a .step .0) (a .phase .0) (start .pre) (c .if1 .taken)
 
 mul-wide : tie.Need-mul-wide
 mul-wide c = search needs
@@ -28,10 +28,10 @@ wide-requires c κs = search needs
 
 returns-2 : tie.Need-returns-2
 returns-2 c =
-    let s = c .before .before .before .before .before in
-    let a = s .args in
-    rw (c .wide .ensures) (entry-other (a .labels .now) (a .phase) (a .step) (s .pre)
-    (c .before .before .if1 .left))
+    let labelled = c .before .before .before in
+    let start = labelled .before .before .before in
+    let a = start .args in
+    rw (c .before .wide .ensures) (entry-other (a .labels .now) (a .step .0) (a .phase .0) (start .pre) (labelled .if1 .left))
 
 pub stays-spec : {M : Type 1} → statement M
 stays-spec =

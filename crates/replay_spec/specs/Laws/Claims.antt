@@ -56,15 +56,22 @@ pub record Claiming (openers first : List ℕ) (s k : ℕ) (labels : List ℕ) (
   pub size : length labels ≡ length first
   pub before : j < s
 
-module _ (openers first : List ℕ) (s k : ℕ) where
-  pub claim-start : 0 < s → s < length openers → Upward openers → (j : ℕ) → j ≡ getD openers s 0
-      → Claiming openers first s k first j
+-- What the climb asks for.
+module _ {openers first : List ℕ} {s k : ℕ}
+    (given : (0 < s) × (s < length openers) × (length openers ≤ length first) × Upward openers) where
+  pub claim-start : (j : ℕ) → j ≡ getD openers s 0 → Claiming openers first s k first j
   unfolding labelled
-  claim-start h l up j e =
-      record { path = []; way = sym e; marks = refl; same = λ x b. refl; size = refl; before = omega (arith, up s h l) }
+  claim-start j e =
+      record {
+        path = [];
+        way = sym e;
+        marks = refl;
+        same = λ x b. refl;
+        size = refl;
+        before = omega (arith, given .3 s (given .0) (given .1));
+      }
 
-  module _ (labels : List ℕ) (j : ℕ) (c : Claiming openers first s k labels j) (l : s < length openers)
-      (room : length openers ≤ length first) where
+  module _ {labels : List ℕ} {j : ℕ} (c : Claiming openers first s k labels j) where
     pub claim-room : (j < length openers) × (j < length labels)
     claim-room = omega (arith, c .before, c .size)
 
@@ -72,18 +79,18 @@ module _ (openers first : List ℕ) (s k : ℕ) where
     claim-reads : getD labels j 0 ≡ labelOf first j
     claim-reads = label-read labels j (claim-room .1) ∙ c .same j (omega arith)
 
-    pub claim-less : Upward openers → (labelOf first 0 ≡ free → ⊥) → getD labels j 0 ≡ free → getD openers j 0 < j
-    claim-less up root f =
+    pub claim-less : (labelOf first 0 ≡ free → ⊥) → getD labels j 0 ≡ free → getD openers j 0 < j
+    claim-less root f =
         elim (ℕ-discrete j 0) [
           | yes z ↦ absurd (root (rw z at (sym claim-reads ∙ f)))
-          | no n ↦ up j (omega arith) (claim-room .0)
+          | no n ↦ given .3 j (omega arith) (claim-room .0)
         ]
 
-    pub claim-turn : Upward openers → (labelOf first 0 ≡ free → ⊥) → getD labels j 0 ≡ free
+    pub claim-turn : (labelOf first 0 ≡ free → ⊥) → getD labels j 0 ≡ free
         → (next : ℕ) → next ≡ getD openers j 0 → Claiming openers first s k (set labels j k) next
     unfolding labelOf
-    claim-turn up root f next e =
-        let less : next < j = omega (arith, claim-less up root f) in
+    claim-turn root f next e =
+        let less : next < j = omega (arith, claim-less root f) in
         record {
           path = c .path ++ (j ∷ []);
           way = way-more openers first (c .path) s j next (c .way) (sym claim-reads ∙ f) (sym e);
@@ -112,7 +119,7 @@ free-past labels s root l f =
       | no n ↦ omega arith
     ]
 
-module _ (openers labels : List ℕ) (s k : ℕ) (l : s < length labels) where
+module _ {openers labels : List ℕ} {s k : ℕ} (l : s < length labels) where
   pub take-labelled : (getD labels s 0 ≡ free → ⊥) → (after : List ℕ) → Taking openers labels s k false after
   take-labelled n after = inl ((λ f. n (label-read labels s l ∙ f)), refl)
 

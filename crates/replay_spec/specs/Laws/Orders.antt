@@ -42,15 +42,15 @@ module _ (p : ℕ) (ks : List ℕ) (some-step : 1 ≤ length ks) (sh : Shape (le
     (split : Split p ks phs) (labels : List ℕ) (shown : Labels ks phs labels) where
   -- A step that a phase pushes stays with it where it covers it.
   pub stays-covered : (k x : ℕ) → k < length phs → covers ks (phaseAt phs k) x ≡ true → isEnd (kindAt ks x) ≡ false
-      → covers ks (phaseAt phs k) (pushes p ks x) ≡ not (dropped labels k (pushes p ks x))
+      → covers ks (phaseAt phs k) (pushes p ks x) ≡ not (dropped labels (pushes p ks x) k)
   stays-covered k x h c e =
       let y = pushes p ks x in
       let drops = label-drops p ks some-step sh phs split labels shown k x h c e in
       elim (ℕ-discrete (labelOf labels y) free) [
-        | yes f ↦ rw (free-stays labels k y f) (drops .0 f)
+        | yes f ↦ rw (free-stays labels y k f) (drops .0 f)
         | no n ↦ elim (ℕ-discrete (labelOf labels y) k) [
-          | yes own ↦ rw (own-stays labels k y own) (drops .1 .0 own)
-          | no m ↦ rw (other-dropped labels k y n m) (drops .1 .1 n m)
+          | yes own ↦ rw (own-stays labels y k own) (drops .1 .0 own)
+          | no m ↦ rw (other-dropped labels y k n m) (drops .1 .1 n m)
         ]
       ]
 
@@ -63,8 +63,8 @@ module _ (p : ℕ) (ks : List ℕ) (some-step : 1 ≤ length ks) (sh : Shape (le
 
     -- Where a step is pushed, it is stolen where it is dropped.
     stolen-dropped : (x : ℕ) → covers ks ph x ≡ true → isEnd (kindAt ks x) ≡ false
-        → stolen (pushes p ks x) ≡ dropped labels k (pushes p ks x)
-    stolen-dropped x c e = by (stolen y) refl (dropped labels k y) refl
+        → stolen (pushes p ks x) ≡ dropped labels (pushes p ks x) k
+    stolen-dropped x c e = by (stolen y) refl (dropped labels y k) refl
       where
         y : ℕ
         y = pushes p ks x
@@ -72,7 +72,7 @@ module _ (p : ℕ) (ks : List ℕ) (some-step : 1 ≤ length ks) (sh : Shape (le
         own : fromStep ks y y ≡ true
         own = from-self ks sh y (pushed-within ks sh p y (x, covered-inside ks sh p ph (split .cuts k h) x c .2, e, refl))
 
-        by : (b : Bool) → stolen y ≡ b → (d : Bool) → dropped labels k y ≡ d → b ≡ d
+        by : (b : Bool) → stolen y ≡ b → (d : Bool) → dropped labels y k ≡ d → b ≡ d
         by true s true d = refl
         by false s false d = refl
         by true s false d =
@@ -106,14 +106,14 @@ module _ (p : ℕ) (ks : List ℕ) (some-step : 1 ≤ length ks) (sh : Shape (le
 
     -- Both ways of running go on alike.
     runs-same : (m : ℕ) (stack : List ℕ) → ((x : ℕ) → Has stack x → covers ks ph x ≡ true)
-        → runAlone (dropped labels k) p ks m (pop stack) ≡ runAlone stolen p ks m (pop stack)
+        → runAlone (λ y. dropped labels y k) p ks m (pop stack) ≡ runAlone stolen p ks m (pop stack)
     unfolding runAlone pop
     runs-same zero stack cs = refl
     runs-same (suc m) [] cs = refl
     runs-same (suc m) (x ∷ deque) cs =
         let c = cs x (has-head x deque) in
         let next = next-covered x deque c (λ y m. cs y (has-tail y x deque m)) in
-        let alike = after-same (dropped labels k) stolen p ks x deque (λ e. sym (stolen-dropped x c e)) in
+        let alike = after-same (λ y. dropped labels y k) stolen p ks x deque (λ e. sym (stolen-dropped x c e)) in
         rw (alike, next .1, runs-same m (next .0) (next .2)) refl
 
   pub order-labelled : (k : ℕ) → k < length phs

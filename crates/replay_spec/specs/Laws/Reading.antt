@@ -114,7 +114,7 @@ module _ (p : ℕ) (either : (p ≡ workFirst) ⊎ (p ≡ helpFirst)) (ks : List
   module _ (phs : List Phase) (split : Split p ks phs) (labels : List ℕ) (shown : Labels ks phs labels) (openers : List ℕ)
       (table : Openers ks openers (length ks)) (k base at number : ℕ) (begun : k < length phs)
       (based : p ≡ workFirst → Based ks sh (phaseAt phs k) base at) (r : Named) (after : List ℕ)
-      (reading : Reading openers labels k (named p ks base at number) r after) where
+      (reading : Reading openers labels (named p ks base at number) k r after) where
     parts : (j : ℕ) → 0 < j → j < length ks → PartOf ks (getD openers j 0) j
     parts = opener-parts ks openers table
 
@@ -149,7 +149,7 @@ module _ (p : ℕ) (either : (p ≡ workFirst) ⊎ (p ≡ helpFirst)) (ks : List
     pub read-broken : numberAllowed p ks (phaseAt phs k) number ≡ false → r ≡ Nothing
     read-broken a = by (named p ks base at number) refl reading
       where
-        by : (o : Option ℕ) → named p ks base at number ≡ o → Reading openers labels k o r after → r ≡ Nothing
+        by : (o : Option ℕ) → named p ks base at number ≡ o → Reading openers labels o k r after → r ≡ Nothing
         by none e is = is
         by (some s) e is =
             ⊎-elim (λ lost. lost .1)

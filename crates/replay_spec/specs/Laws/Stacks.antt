@@ -2,7 +2,7 @@
 -- behind the step that is run next, and the records so far stand at the front of the phase's part of the list. This is so at
 -- the start and after each kind of turn, and at the end it is the phase's whole order.
 use Prim.Native.Nat.{ℕ, _+_, _-_, _*_, _/_, _%_, _≤_, _<_}
-use mathlib.Core.Path.{_≡_, refl, sym, _∙_}
+use mathlib.Core.Path.{_≡_, refl, sym, ap, _∙_}
 use mathlib.Core.Bool.{true, false, not}
 use mathlib.Core.List.{List, [], _∷_, _++_, map-append, flatten}
 use native.Mathlib.Omega.{arith}
@@ -20,7 +20,7 @@ use Rattle.run_invariant.specs.Laws.Weights.{pushed-within}
 use Rattle.replay_invariant.specs.Invariant.{Cut}
 use Rattle.replay_invariant.specs.Laws.Order.{Alone, alone-start, alone-end, alone-drops, alone-keeps, alone-done, alone-within}
 use Rattle.buffers.specs.Terms.{recordPut}
-use Rattle.buffers.specs.Laws.Records.{length-entries, entries-one, put-sets}
+use Rattle.buffers.specs.Laws.Records.{length-entries, entries-one, put-sets, put-length}
 use Rattle.buffers.specs.Laws.Fronts.{length-written}
 use Rattle.replay_spec.specs.Labels.{dropped}
 use Rattle.replay_spec.specs.Orders.{phaseOrder, inPhase, Writable}
@@ -32,6 +32,7 @@ Stacked stack [] = Unit {0}
 Stacked stack (x ∷ deque) = (getD stack (length deque) 0 ≡ x) × Stacked stack deque
 
 pub record Writing (p : ℕ) (tree labels : List ℕ) (k first : ℕ) (before stack list : List ℕ) (i depth count : ℕ) : Type 0 where
+  pub frame : Frame tree
   pub from : Writable p (kinds tree) labels k first (length before)
   pub log : List ℕ
   pub deque : List ℕ
@@ -78,161 +79,179 @@ steps-one k log i = map-append _ log (i ∷ [])
 
 -- ---- the loop
 
-module _ (p : ℕ) (tree labels : List ℕ) (accepts : treeVerdict tree .number ≡ 0) (k first : ℕ) (before : List ℕ) where
-  frame : Frame tree
-  frame = accepted-frame tree accepts
+pub writing-start : {p : ℕ} {tree labels : List ℕ} {k first : ℕ} {before stack : List ℕ} → treeVerdict tree .number ≡ 0
+    → Writable p (kinds tree) labels k first (length before) → length stack ≡ mostTraceRecords
+    → Writing p tree labels k first before stack before first 0 0
+unfolding entryBytes inPhase written flatten
+writing-start {p} {tree} {labels} {k} accepts w room =
+    let frame = accepted-frame tree accepts in
+    record {
+      frame = frame;
+      from = w;
+      log = [];
+      deque = [];
+      alone = rw (← w .from) (alone-start p (kinds tree) (frame .shape) (phaseAt (w .phs) k) (w .split .cuts k (w .begun)));
+      counted = refl;
+      deep = refl;
+      room = room;
+      stacked = tt;
+      filled = refl;
+    }
 
-  cut : (w : Writable p (kinds tree) labels k first (length before)) → Cut p (kinds tree) (phaseAt (w .phs) k)
-  cut w = w .split .cuts k (w .begun)
+module _ {p : ℕ} {tree labels : List ℕ} {k first : ℕ} {before stack list : List ℕ} {i depth count : ℕ}
+    (so : Writing p tree labels k first before stack list i depth count) where
+  cut : Cut p (kinds tree) (phaseAt (so .from .phs) k)
+  cut = so .from .split .cuts k (so .from .begun)
 
-  pub writing-start : Writable p (kinds tree) labels k first (length before) → (stack : List ℕ) → length stack ≡ mostTraceRecords
-      → Writing p tree labels k first before stack before first 0 0
-  unfolding entryBytes inPhase written flatten
-  writing-start w stack room =
+  size : length (entryBytes (inPhase k (so .log))) ≡ 4 * count
+  size = rw (length-entries, length-in-phase, so .counted) refl
+
+  -- The step is one of the tree, its record has room, and the stack is not overfull.
+  pub record-fits : (i < length (kinds tree)) × (4 * count + 4 ≤ length before)
+      × (length list ≡ length before) × (depth ≤ mostTraceRecords)
+  record-fits =
+      let within = alone-within p (kinds tree) (so .frame .shape) _ cut (so .log) i (so .deque) (so .alone) in
+      let room : 4 * count + 4 ≤ length before = omega (arith, within .1, so .from .fits, so .counted) in (
+        within .0,
+        room,
+        rw (so .filled) (length-written (entryBytes (inPhase k (so .log))) before (omega (arith, size))),
+        omega (arith, within .2, so .deep, so .frame .most),
+      )
+
+-- ---- a turn
+
+-- The record of step i has been put.
+pub record Turn (p : ℕ) (tree labels : List ℕ) (k first : ℕ) (before stack list : List ℕ) (i depth count : ℕ) (next : List ℕ)
+    : Type 0 where
+  pub so : Writing p tree labels k first before stack list i depth count
+  pub put : next ≡ recordPut list count (k % 256) (k / 256 % 256) i
+
+-- The step opens a task: `held` is held after it, and `pushed` is what it pushes.
+pub record Opening (p : ℕ) (tree labels : List ℕ) (k first : ℕ) (before stack list : List ℕ) (i depth count : ℕ) (next : List ℕ)
+    (held pushed : ℕ) : Type 0 where
+  pub turn : Turn p tree labels k first before stack list i depth count next
+  pub opens : kindAt (kinds tree) i ≡ 3 → ⊥
+  pub holding : held ≡ holds p (kinds tree) i
+  pub pushing : pushed ≡ pushes p (kinds tree) i
+
+module _ {p : ℕ} {tree labels : List ℕ} {k first : ℕ} {before stack list : List ℕ} {i depth count : ℕ} {next : List ℕ}
+    (t : Turn p tree labels k first before stack list i depth count next) where
+  filled : next ≡ written (entryBytes (inPhase k (t .so .log ++ (i ∷ [])))) before
+  filled =
+      let bytes = entryBytes (inPhase k (t .so .log)) in
+      rw (t .put, t .so .filled, steps-one, entries-one)
+      (put-written bytes before count (k % 256) (k / 256 % 256) i (size (t .so)) (record-fits (t .so) .1))
+
+  counted : count + 1 ≡ length (t .so .log ++ (i ∷ []))
+  counted = omega (arith, length-append (t .so .log) (i ∷ []), t .so .counted)
+
+  -- The list has kept its length.
+  pub list-kept : length next ≡ length before
+  list-kept = ap length (t .put) ∙ put-length list count (k % 256) (k / 256 % 256) i ∙ record-fits (t .so) .2
+
+  -- What is common to the turns that go on.
+  goes-on : (stack : List ℕ) (x : ℕ) (deque : List ℕ)
+      → Alone p (kinds tree) (phaseAt (t .so .from .phs) k) (t .so .log ++ (i ∷ [])) (x ∷ deque)
+      → length stack ≡ mostTraceRecords → Stacked stack deque → (depth : ℕ) → depth ≡ length deque
+      → Writing p tree labels k first before stack next x depth (count + 1)
+  goes-on stack x deque alone room stacked depth deep =
       record {
-        from = w;
-        log = [];
-        deque = [];
-        alone = rw (← w .from) (alone-start p (kinds tree) (frame .shape) (phaseAt (w .phs) k) (cut w));
-        counted = refl;
-        deep = refl;
+        frame = t .so .frame;
+        from = t .so .from;
+        log = t .so .log ++ (i ∷ []);
+        deque = deque;
+        alone = alone;
+        counted = counted;
+        deep = deep;
         room = room;
-        stacked = tt;
-        filled = refl;
+        stacked = stacked;
+        filled = filled;
       }
 
-  module _ (stack list : List ℕ) (i depth count : ℕ) (so : Writing p tree labels k first before stack list i depth count) where
-    abbrev ph : Phase
-    ph = phaseAt (so .from .phs) k
+  -- The step is an end.
+  module _ (end : kindAt (kinds tree) i ≡ 3) where
+    ended : Alone p (kinds tree) (phaseAt (t .so .from .phs) k) (t .so .log ++ (i ∷ [])) (t .so .deque)
+    unfolding isEnd
+    ended =
+        alone-end p (kinds tree) (t .so .frame .shape) _ (cut (t .so)) (t .so .log) i (t .so .deque) (t .so .alone)
+        (eq-eqb (kindAt (kinds tree) i) 3 end)
 
-    abbrev ran : List ℕ
-    ran = so .log ++ (i ∷ [])
+    whole : (d : List ℕ) → length d ≡ 0 → Alone p (kinds tree) (phaseAt (t .so .from .phs) k) (t .so .log ++ (i ∷ [])) d
+        → t .so .log ++ (i ∷ []) ≡ phaseOrder p (kinds tree) labels k first
+    whole [] e a =
+        let from = t .so .from in
+        let frame = t .so .frame in
+        let order =
+        order-labelled p (kinds tree) (frame .some) (frame .shape) (from .phs) (from .split) labels (from .shown) k (from .begun) in
+        rw (← from .from) (alone-done p (kinds tree) (frame .shape) _ (cut (t .so)) _ a ∙ sym order)
+    whole (x ∷ d) e a = absurd (omega arith)
 
-    size : length (entryBytes (inPhase k (so .log))) ≡ 4 * count
-    size = rw (length-entries, length-in-phase, so .counted) refl
+    -- Nothing is pending: that was all.
+    pub phase-done : depth ≡ 0 → (count + 1 ≡ length (phaseOrder p (kinds tree) labels k first))
+        × (next ≡ written (entryBytes (inPhase k (phaseOrder p (kinds tree) labels k first))) before)
+    phase-done e =
+        let all = whole (t .so .deque) (sym (t .so .deep) ∙ e) ended in
+        rw (← all) (counted, filled)
 
-    -- The step is one of the tree, its record has room, and the stack is not overfull.
-    pub record-fits : (i < length (kinds tree)) × (4 * count + 4 ≤ length before)
-        × (length list ≡ length before) × (depth ≤ mostTraceRecords)
-    record-fits =
-        let within = alone-within p (kinds tree) (frame .shape) ph (cut (so .from)) (so .log) i (so .deque) (so .alone) in
-        let room : 4 * count + 4 ≤ length before = omega (arith, within .1, so .from .fits, so .counted) in (
-          within .0,
-          room,
-          rw (so .filled) (length-written (entryBytes (inPhase k (so .log))) before (omega (arith, size))),
-          omega (arith, within .2, so .deep, frame .most),
-        )
+    popped : (d : List ℕ) → Alone p (kinds tree) (phaseAt (t .so .from .phs) k) (t .so .log ++ (i ∷ [])) d
+        → Stacked stack d → depth ≡ length d → (depth ≡ 0 → ⊥)
+        → Writing p tree labels k first before stack next (getD stack (depth - 1) 0) (depth - 1) (count + 1)
+    popped [] a s e n = absurd (n e)
+    popped (x ∷ d) a s e n =
+        let less : depth - 1 ≡ length d = omega arith in
+        rw (less, s .0) (goes-on stack x d a (t .so .room) (s .1) (length d) refl)
 
-    module _ (next : List ℕ) (put : next ≡ recordPut list count (k % 256) (k / 256 % 256) i) where
-      filled : next ≡ written (entryBytes (inPhase k ran)) before
-      filled =
-          rw (put, so .filled, steps-one, entries-one)
-          (put-written (entryBytes (inPhase k (so .log))) before count (k % 256) (k / 256 % 256) i size (record-fits .1))
+    -- The newest step of the stack is run next.
+    pub step-popped : (depth ≡ 0 → ⊥)
+        → Writing p tree labels k first before stack next (getD stack (depth - 1) 0) (depth - 1) (count + 1)
+    step-popped n = popped (t .so .deque) ended (t .so .stacked) (t .so .deep) n
 
-      counted : count + 1 ≡ length ran
-      counted = omega (arith, length-append (so .log) (i ∷ []), so .counted)
-
-      -- What is common to the turns that go on.
-      goes-on : (stack : List ℕ) (x : ℕ) (deque : List ℕ) → Alone p (kinds tree) ph ran (x ∷ deque) → length stack ≡ mostTraceRecords
-          → Stacked stack deque → (depth : ℕ) → depth ≡ length deque
-          → Writing p tree labels k first before stack next x depth (count + 1)
-      goes-on stack x deque alone room stacked depth deep =
-          record {
-            from = so .from;
-            log = ran;
-            deque = deque;
-            alone = alone;
-            counted = counted;
-            deep = deep;
-            room = room;
-            stacked = stacked;
-            filled = filled;
-          }
-
-      -- The step is an end.
-      module _ (end : kindAt (kinds tree) i ≡ 3) where
-        ended : Alone p (kinds tree) ph ran (so .deque)
-        unfolding isEnd
-        ended =
-            alone-end p (kinds tree) (frame .shape) ph (cut (so .from)) (so .log) i (so .deque) (so .alone)
-            (eq-eqb (kindAt (kinds tree) i) 3 end)
-
-        whole : (d : List ℕ) → length d ≡ 0 → Alone p (kinds tree) ph ran d → ran ≡ phaseOrder p (kinds tree) labels k first
-        whole [] e a =
-            let order =
-            order-labelled p (kinds tree) (frame .some) (frame .shape) (so .from .phs) (so .from .split) labels (so .from .shown)
-            k (so .from .begun) in
-            rw (← so .from .from) (alone-done p (kinds tree) (frame .shape) ph (cut (so .from)) ran a ∙ sym order)
-        whole (x ∷ d) e a = absurd (omega arith)
-
-        -- Nothing is pending: that was all.
-        pub phase-done : depth ≡ 0 → (count + 1 ≡ length (phaseOrder p (kinds tree) labels k first))
-            × (next ≡ written (entryBytes (inPhase k (phaseOrder p (kinds tree) labels k first))) before)
-        phase-done e =
-            let all = whole (so .deque) (sym (so .deep) ∙ e) ended in
-            rw (← all) (counted, filled)
-
-        popped : (d : List ℕ) → Alone p (kinds tree) ph ran d → Stacked stack d → depth ≡ length d → (depth ≡ 0 → ⊥)
-            → Writing p tree labels k first before stack next (getD stack (depth - 1) 0) (depth - 1) (count + 1)
-        popped [] a s e n = absurd (n e)
-        popped (x ∷ d) a s e n =
-            let less : depth - 1 ≡ length d = omega arith in
-            rw (less, s .0) (goes-on stack x d a (so .room) (s .1) (length d) refl)
-
-        -- The newest step of the stack is run next.
-        pub step-popped : (depth ≡ 0 → ⊥)
-            → Writing p tree labels k first before stack next (getD stack (depth - 1) 0) (depth - 1) (count + 1)
-        step-popped n = popped (so .deque) ended (so .stacked) (so .deep) n
-
-      -- The step opens a task.
-      module _ (opens : kindAt (kinds tree) i ≡ 3 → ⊥) (held pushed : ℕ) (holding : held ≡ holds p (kinds tree) i)
-          (pushing : pushed ≡ pushes p (kinds tree) i) where
-        opening : isEnd (kindAt (kinds tree) i) ≡ false
-        unfolding isEnd
-        opening = ne-eqb (kindAt (kinds tree) i) 3 opens
-
-        stays : covers (kinds tree) ph (pushes p (kinds tree) i) ≡ not (dropped labels k pushed)
-        stays =
-            rw pushing (stays-covered p (kinds tree) (frame .some) (frame .shape) (so .from .phs) (so .from .split) labels
-            (so .from .shown) k i (so .from .begun) (so .alone .covered i (has-head i (so .deque))) opening)
-
-        -- What it pushes was stolen.
-        pub step-dropped : not (dropped labels k pushed) ≡ false
-            → Writing p tree labels k first before stack next held depth (count + 1)
-        step-dropped gone =
-            rw holding (goes-on stack (holds p (kinds tree) i) (so .deque)
-            (alone-drops p (kinds tree) (frame .shape) ph (cut (so .from)) (so .log) i (so .deque) (so .alone) opening
-            (stays ∙ gone))
-            (so .room) (so .stacked) depth (so .deep))
-
-        -- What it pushes stays with it.
-        module _ (kept : not (dropped labels k pushed) ≡ true) where
-          pending : Alone p (kinds tree) ph ran (holds p (kinds tree) i ∷ pushed ∷ so .deque)
-          pending =
-              rw pushing (alone-keeps p (kinds tree) (frame .shape) ph (cut (so .from)) (so .log) i (so .deque) (so .alone)
-              opening (stays ∙ kept))
-
-          pub push-fits : depth < mostTraceRecords
-          push-fits =
-              let within =
-              alone-within p (kinds tree) (frame .shape) ph (cut (so .from)) ran (holds p (kinds tree) i)
-              (pushed ∷ so .deque) pending in
-              omega (arith, within .2, so .deep, frame .most)
-
-          pub step-pushed : Writing p tree labels k first before (set stack depth pushed) next held (depth + 1) (count + 1)
-          step-pushed =
-              rw holding (goes-on (set stack depth pushed) (holds p (kinds tree) i) (pushed ∷ so .deque) pending
-              (length-set stack depth pushed ∙ so .room)
-              (rw (so .deep) (stacked-push (so .deque) stack pushed (omega (arith, push-fits, so .room, so .deep)) (so .stacked)))
-              (depth + 1) (omega (arith, so .deep)))
-
-  -- What an opening step pushes is a step of the tree.
-  pub pushed-inside : (i : ℕ) → i < length (kinds tree) → (kindAt (kinds tree) i ≡ 3 → ⊥)
-      → (pushed : ℕ) → pushed ≡ pushes p (kinds tree) i → (pushed < length (kinds tree)) × (pushed < mostSteps)
+module _ {p : ℕ} {tree labels : List ℕ} {k first : ℕ} {before stack list : List ℕ} {i depth count : ℕ} {next : List ℕ} {held pushed : ℕ}
+    (o : Opening p tree labels k first before stack list i depth count next held pushed) where
+  opens : isEnd (kindAt (kinds tree) i) ≡ false
   unfolding isEnd
-  pushed-inside i h n pushed e =
-      omega (
-        arith,
-        pushed-within (kinds tree) (frame .shape) p pushed (i, h, ne-eqb (kindAt (kinds tree) i) 3 n, e),
-        frame .most,
-      )
+  opens = ne-eqb (kindAt (kinds tree) i) 3 (o .opens)
+
+  -- What it pushes is a step of the tree.
+  pub pushed-inside : (pushed < length (kinds tree)) × (pushed < mostSteps)
+  pushed-inside =
+      let so = o .turn .so in
+      let within = pushed-within (kinds tree) (so .frame .shape) p pushed (i, record-fits so .0, opens, o .pushing) in
+      omega (arith, within, so .frame .most)
+
+  stays : covers (kinds tree) (phaseAt (o .turn .so .from .phs) k) (pushes p (kinds tree) i) ≡ not (dropped labels pushed k)
+  stays =
+      let so = o .turn .so in
+      let from = so .from in
+      rw (o .pushing) (stays-covered p (kinds tree) (so .frame .some) (so .frame .shape) (from .phs) (from .split) labels (from .shown)
+      k i (from .begun) (so .alone .covered i (has-head i (so .deque))) opens)
+
+  -- What it pushes was stolen.
+  pub step-dropped : not (dropped labels pushed k) ≡ false
+      → Writing p tree labels k first before stack next held depth (count + 1)
+  step-dropped gone =
+      let so = o .turn .so in
+      let alone = alone-drops p (kinds tree) (so .frame .shape) _ (cut so) (so .log) i (so .deque) (so .alone) opens (stays ∙ gone) in
+      rw (o .holding) (goes-on (o .turn) stack (holds p (kinds tree) i) (so .deque) alone (so .room) (so .stacked) depth (so .deep))
+
+  -- What it pushes stays with it.
+  module _ (kept : not (dropped labels pushed k) ≡ true) where
+    pending : Alone p (kinds tree) (phaseAt (o .turn .so .from .phs) k) (o .turn .so .log ++ (i ∷ []))
+        (holds p (kinds tree) i ∷ pushed ∷ o .turn .so .deque)
+    pending =
+        let so = o .turn .so in
+        rw (o .pushing) (alone-keeps p (kinds tree) (so .frame .shape) _ (cut so) (so .log) i (so .deque) (so .alone) opens (stays ∙ kept))
+
+    pub push-fits : depth < mostTraceRecords
+    push-fits =
+        let so = o .turn .so in
+        let within = alone-within p (kinds tree) (so .frame .shape) _ (cut so) _ (holds p (kinds tree) i) (pushed ∷ so .deque) pending in
+        omega (arith, within .2, so .deep, so .frame .most)
+
+    pub step-pushed : Writing p tree labels k first before (set stack depth pushed) next held (depth + 1) (count + 1)
+    step-pushed =
+        let so = o .turn .so in
+        let room : length (so .deque) < length stack = omega (arith, push-fits, so .room, so .deep) in
+        rw (o .holding) (goes-on (o .turn) (set stack depth pushed) (holds p (kinds tree) i) (pushed ∷ so .deque) pending
+        (length-set stack depth pushed ∙ so .room) (rw (so .deep) (stacked-push (so .deque) stack pushed room (so .stacked)))
+        (depth + 1) (omega (arith, so .deep)))

@@ -32,20 +32,20 @@ unfolding namedOf
 named-none none e = refl
 named-none (some s) e = let z : _≡_ {A = ℕ} 0 1 = cc in absurd (omega arith)
 
-module _ (openers labels : List ℕ) (k : ℕ) (o : Option ℕ) where
-  pub read-unnamed : (r : Named) → r ≡ namedOf o → r ≡ Nothing → (after : List ℕ) → Reading openers labels k o Nothing after
+module _ (openers labels : List ℕ) (o : Option ℕ) (k : ℕ) where
+  pub read-unnamed : (r : Named) → r ≡ namedOf o → r ≡ Nothing → (after : List ℕ) → Reading openers labels o k Nothing after
   read-unnamed r e f after = rw (named-none o (sym e ∙ f))
 
   -- The named step, which was asked of the labels.
   module _ (step : Step) (e : namedOf o ≡ At step) (b : Bool) (after : List ℕ) (taking : Taking openers labels (step .0) k b after) where
-    read-taken : Reading openers labels k o (cond b (At step) Nothing) after
+    read-taken : Reading openers labels o k (cond b (At step) Nothing) after
     read-taken =
         rw (named-some o step e)
         (⊎-elim (λ lost. inl (lost .0, rw (lost .1) refl))
         (λ (f, (found, c, is)). inr (f, (found, c, rw is refl))) taking)
 
-    pub read-elsewhere : not b ≡ true → Reading openers labels k o Nothing after
+    pub read-elsewhere : not b ≡ true → Reading openers labels o k Nothing after
     read-elsewhere n = rw (not-true b n) at read-taken
 
-    pub read-there : not b ≡ false → Reading openers labels k o (At step) after
+    pub read-there : not b ≡ false → Reading openers labels o k (At step) after
     read-there n = rw (not-false b n) at read-taken

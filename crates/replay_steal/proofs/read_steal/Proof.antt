@@ -19,20 +19,19 @@ use Rattle.replay_steal.proofs.read_steal.Tie as tie
 -- ---- the step that the number names
 
 abbrev entry : tie.After-decode-number → tie.Start
-entry c = c .before .before .before .before .before .before .before .before .before .before .before
+entry c = c .before .before .before .before .before .before .before .before .before .before
 
 abbrev asked : tie.After-decode-number → Option ℕ
 asked c =
     let a = entry c .args in
-    named (a .policy) (kinds (a .tree .now)) (getD (a .bases .now) (a .phase) 0) (getD (a .ordinals .now) (a .phase) 0) (a .number)
+    named (a .policy) (kinds (a .tree .now)) (getD (a .bases .now) (a .phase .0) 0) (getD (a .ordinals .now) (a .phase .0) 0) (a .number)
 
 answer : (c : tie.After-decode-number) → c .decode-number .result ≡ namedOf (asked c)
 answer c =
-    let number = c .before .wide4 .ensures in
-    let ordinal = c .before .before .wide3 .ensures in
-    let base = c .before .before .before .before .wide2 .ensures in
-    let at = c .before .before .before .before .before .before .wide .ensures in
-    rw (number, ordinal, base, at) at (c .decode-number .ensures)
+    let number = c .before .wide3 .ensures in
+    let ordinal = c .before .before .wide2 .ensures in
+    let base = c .before .before .before .before .wide .ensures in
+    rw (number, ordinal, base) at (c .decode-number .ensures)
 
 -- ---- where it names one
 
@@ -60,17 +59,14 @@ told c = c .before .before .before .before
 
 -- ---- the needs
 
-wide-requires : tie.Need-wide-requires
-wide-requires c κs = search needs
-
 mul-wide : tie.Need-mul-wide
 mul-wide c = search needs
 
 element-copy-out-wide : tie.Need-element-copy-out-wide
 element-copy-out-wide c = search needs
 
-wide-requires-2 : tie.Need-wide-requires-2
-wide-requires-2 c κs = search needs
+wide-requires : tie.Need-wide-requires
+wide-requires c κs = search needs
 
 mul-wide-2 : tie.Need-mul-wide-2
 mul-wide-2 c = search needs
@@ -78,11 +74,11 @@ mul-wide-2 c = search needs
 element-copy-out-wide-2 : tie.Need-element-copy-out-wide-2
 element-copy-out-wide-2 c = search needs
 
+wide-requires-2 : tie.Need-wide-requires-2
+wide-requires-2 c κs = search needs
+
 wide-requires-3 : tie.Need-wide-requires-3
 wide-requires-3 c κs = search needs
-
-wide-requires-4 : tie.Need-wide-requires-4
-wide-requires-4 c κs = search needs
 
 decode-number-requires : tie.Need-decode-number-requires
 decode-number-requires c κs = search needs
@@ -100,7 +96,7 @@ take-requires c κs =
         omega (arith, start .pre .1 .1),
         table-upward (kinds (a .tree .now)) (a .openers .now) (start .pre .1 .1 .0 .1),
       ),
-      start .pre .1 .1 .1 .0 .1,
+      (start .pre .0 .1, start .pre .1 .1 .1 .0 .1),
     )
 
 same-length : tie.Need-same-length
@@ -111,7 +107,7 @@ returns c =
     let at = told (c .before) in
     let a = entry (naming at) .args in
     let take = c .before .before .before .take in
-    read-elsewhere (a .openers .now) (a .labels .now) (a .phase) (asked (naming at)) (step at) (found at) (take .result)
+    read-elsewhere (a .openers .now) (a .labels .now) (asked (naming at)) (a .phase .0) (step at) (found at) (take .result)
     (take .last .1 .0) (take .ensures) (c .if1 .taken)
 
 enum-told : tie.Need-enum-told
@@ -125,28 +121,27 @@ returns-2 c =
     let at = told (c .before) in
     let a = entry (naming at) .args in
     let take = c .before .before .before .take in
-    read-there (a .openers .now) (a .labels .now) (a .phase) (asked (naming at)) (step at) (found at) (take .result)
+    read-there (a .openers .now) (a .labels .now) (asked (naming at)) (a .phase .0) (step at) (found at) (take .result)
     (take .last .1 .0) (take .ensures) (c .if1 .left)
 
 returns-3 : tie.Need-returns-3
 returns-3 c =
     let at = c .before .before in
     let a = entry at .args in
-    read-unnamed (a .openers .now) (a .labels .now) (a .phase) (asked at) (at .decode-number .result) (answer at)
+    read-unnamed (a .openers .now) (a .labels .now) (asked at) (a .phase .0) (at .decode-number .result) (answer at)
     (c .enum-told .given .1) (a .labels .now)
 
 pub read-steal-spec : {M : Type 1} → statement M
 read-steal-spec =
     tie.close
     (tie.spec
-    wide-requires
     mul-wide
     element-copy-out-wide
-    wide-requires-2
+    wide-requires
     mul-wide-2
     element-copy-out-wide-2
+    wide-requires-2
     wide-requires-3
-    wide-requires-4
     decode-number-requires
     enum-known-step
     take-requires

@@ -88,7 +88,7 @@ ready c = read-ready (top (bytes c) .loop .inv) (this (bytes c)) (fine c)
 
 -- Its number has been read.
 abbrev turn : tie.After-labels2 Inv-loop μ-loop → tie.Else1 Inv-loop μ-loop
-turn c = c .before .before .before .before .before .before .before
+turn c = c .before .before .before .before .before .before .before .before
 
 abbrev start : tie.After-labels2 Inv-loop μ-loop → tie.At-loop Inv-loop μ-loop
 start c = top (bytes (turn c))
@@ -99,11 +99,11 @@ after c = c .before .read-steal .last .1 .1 .1 .0
 reading : (c : tie.After-labels2 Inv-loop μ-loop)
     → let a = entry (start c) .args in
     let at = from (turn c) in
-    Reading (a .openers .now) (start c .loop .labels) at
+    Reading (a .openers .now) (start c .loop .labels)
     (named (a .policy) (kinds (a .tree .now)) (getD (start c .loop .bases) at 0) (getD (start c .loop .ordinals) at 0)
     (bytes (turn c) .record-at .result .number))
-    (c .before .read-steal .result) (after c)
-reading c = c .before .read-steal .ensures
+    at (c .before .read-steal .result) (after c)
+reading c = rw (c .before .before .wide .ensures) at (c .before .read-steal .ensures)
 
 kept : (c : tie.After-labels2 Inv-loop μ-loop) → length (after c) ≡ length (start c .loop .labels)
 kept c = c .labels2 .given
@@ -192,15 +192,18 @@ mul-phase c = omega (arith, workers (c .before .before))
 array-read-phase : tie.Need-array-read-phase Inv-loop μ-loop
 array-read-phase c = omega (arith, workers (c .before .before))
 
+wide-requires : tie.Need-wide-requires Inv-loop μ-loop
+wide-requires c κs = search needs
+
 read-steal-requires : tie.Need-read-steal-requires Inv-loop μ-loop
 read-steal-requires c κs =
-    let t = c .before .before .before .before .before in
+    let t = c .before .before .before .before .before .before in
     let room = top (bytes t) .loop .inv in
     let s = entry (top (bytes t)) in (
       (
         start-tree-accepts (s .args .policy) (s .args .tree .now) (s .pre .0 .0),
-        omega (arith, ready t .0, ready t .1),
-        ready t .2,
+        omega (arith, ready t .0, ready t .1, c .wide .ensures),
+        rw (c .wide .ensures) (ready t .2),
       ),
       (s .pre .1 .0 .1, (s .pre .1 .1 .0, ((room .labelRoom, ready t .3), (room .baseRoom, room .ordinalRoom)))),
     )
@@ -291,6 +294,7 @@ walk-spec =
     cast-victim
     mul-phase
     array-read-phase
+    wide-requires
     read-steal-requires
     enum-known-step
     begin-requires

@@ -87,7 +87,7 @@ module _ {p : ℕ} {tree trace : List ℕ} {k : ℕ} {labels firsts bases ordina
 
   -- The number has been read: r is the answer, `after` are the labels.
   module _ {ends openers sums : List ℕ} (tables : Tables tree ends openers sums) (r : Named) (after : List ℕ)
-      (reading : Reading openers labels from (named p ks (getD bases from 0) (getD ordinals from 0) number) r after)
+      (reading : Reading openers labels (named p ks (getD bases from 0) (getD ordinals from 0) number) from r after)
       (kept : length after ≡ length labels) where
     if-allowed : numberAllowed p ks phase number ≡ true
         → (r ≡ At (record { 0 = stolenStep p ks phase number }))
