@@ -2,11 +2,13 @@
 -- step stays exactly where the phase covers it, so each covered step is written once and the loop ends. Assumes nothing.
 use Prim.Native.Nat.{_+_, _-_, _*_, _≤_, _<_}
 use mathlib.Core.Path.{_≡_, sym, _∙_}
+use mathlib.Core.Bool.{true, not}
 use native.Mathlib.Omega.{arith}
 use lib.ListN.{length}
 use borrow.Author.Needs.{needs}
-use Rattle.rules.specs.Tree.{mostSteps, kinds}
+use Rattle.rules.specs.Tree.{kinds}
 use Rattle.rules.specs.Calls.{mostTraceRecords}
+use Rattle.replay_spec.specs.Labels.{dropped}
 use Rattle.replay_spec.specs.Laws.Stacks.{Writing, Turn, Opening, writing-start, record-fits, phase-done, step-popped, pushed-inside}
 use Rattle.replay_spec.specs.Laws.Stacks.{step-dropped, push-fits, step-pushed, list-kept}
 use Rattle.replay_list.proofs.phase.write_phase.Statement.{statement}
@@ -24,25 +26,24 @@ abbrev μ-loop : tie.MeasureT-loop
 abbrev entry : tie.At-loop Inv-loop μ-loop → tie.Start Inv-loop μ-loop
 entry c = c .before .before .before .before .before .before
 
--- The held step's record has been put.
-abbrev top : tie.After-put-record Inv-loop μ-loop → tie.At-loop Inv-loop μ-loop
-top c = c .before .before .before .before
-
--- Its kind has been read.
+-- The held step's record is put, and its kind is read.
 abbrev put : tie.After-kind Inv-loop μ-loop → tie.After-put-record Inv-loop μ-loop
 put c = c .before .before .before
 
--- It is an end, and something is pending: the newest is read from the stack.
-abbrev ended : tie.After-wide Inv-loop μ-loop → tie.Else2 Inv-loop μ-loop
-ended c = c .before .before
+abbrev top : tie.After-kind Inv-loop μ-loop → tie.At-loop Inv-loop μ-loop
+top c = put c .before .before .before .before
 
--- It opens a task: what it pushes, and what is held then, is known.
+-- The step is an end, and the newest of the stack is read.
+abbrev more : tie.After-wide Inv-loop μ-loop → tie.Else2 Inv-loop μ-loop
+more c = c .before .before
+
+-- The step opens a task: what it pushes and what is held then are known.
 abbrev read : tie.After-held-after Inv-loop μ-loop → tie.After-kind Inv-loop μ-loop
 read c = c .before .before .before
 
--- What it pushes stays, or was stolen.
-abbrev kept : tie.After-struct-known3 Inv-loop μ-loop → tie.After-stays Inv-loop μ-loop
-kept c = c .before .before
+-- What it pushes stays.
+abbrev known : tie.After-struct-known3 Inv-loop μ-loop → tie.After-held-after Inv-loop μ-loop
+known c = c .before .before .before
 
 -- ---- the facts
 
@@ -52,26 +53,34 @@ fits : (c : tie.At-loop Inv-loop μ-loop)
     × (length (c .loop .list) ≡ length (entry c .args .list .now)) × (c .loop .depth ≤ mostTraceRecords)
 fits c = record-fits (c .loop .inv)
 
-turn : (c : tie.After-put-record Inv-loop μ-loop)
+turn : (c : tie.After-kind Inv-loop μ-loop)
     → let a = entry (top c) .args in
     let l = top c .loop in
     Turn (a .policy) (a .tree .now) (a .labels .now) (a .phase .0) (a .first .0) (a .list .now) (l .stack) (l .list) (l .held .0)
-    (l .depth) (l .count) (c .put-record .last .0)
-turn c = record { so = top c .loop .inv; put = c .put-record .ensures }
+    (l .depth) (l .count) (put c .put-record .last .0)
+turn c = record { so = top c .loop .inv; put = put c .put-record .ensures }
 
 opening : (c : tie.After-held-after Inv-loop μ-loop)
-    → let at = put (read c) in
-    let a = entry (top at) .args in
-    let l = top at .loop in
+    → let a = entry (top (read c)) .args in
+    let l = top (read c) .loop in
     Opening (a .policy) (a .tree .now) (a .labels .now) (a .phase .0) (a .first .0) (a .list .now) (l .stack) (l .list) (l .held .0)
-    (l .depth) (l .count) (at .put-record .last .0) (c .held-after .result .0) (c .before .pushed-by .result .0)
+    (l .depth) (l .count) (put (read c) .put-record .last .0) (c .held-after .result .0) (c .before .pushed-by .result .0)
 opening c =
     record {
-      turn = turn (put (read c));
+      turn = turn (read c);
       opens = λ e. c .before .before .if1 .left (read c .kind .ensures ∙ e);
       holding = c .held-after .ensures;
       pushing = c .before .pushed-by .ensures;
     }
+
+kept : (c : tie.After-struct-known3 Inv-loop μ-loop)
+    → not (dropped (entry (top (read (known c))) .args .labels .now) (known c .before .pushed-by .result .0)
+    (entry (top (read (known c))) .args .phase .0)) ≡ true
+kept c = sym (c .before .before .stays .ensures) ∙ c .before .if3 .taken
+
+-- So the stack has room for it.
+room : (c : tie.After-struct-known3 Inv-loop μ-loop) → top (read (known c)) .loop .depth < mostTraceRecords
+room c = push-fits (opening (known c)) (kept c)
 
 -- ---- the needs
 
@@ -97,77 +106,68 @@ kind-requires c κs = search needs
 
 same-length : tie.Need-same-length Inv-loop μ-loop
 same-length c =
-    let at = top (put (c .before .before)) in
+    let at = top (c .before .before) in
     at .loop .inv .room ∙ sym (entry at .pre .1 .0 .1)
 
 same-length-2 : tie.Need-same-length-2 Inv-loop μ-loop
-same-length-2 c = list-kept (turn (put (c .before .before)))
+same-length-2 c = list-kept (turn (c .before .before))
 
 returns : tie.Need-returns Inv-loop μ-loop
 returns c =
     let at = c .before .before in
-    phase-done (turn (put at)) (sym (at .kind .ensures) ∙ c .before .if1 .taken) (c .if2 .taken)
+    phase-done (turn at) (sym (at .kind .ensures) ∙ c .before .if1 .taken) (c .if2 .taken)
 
 sub-depth : tie.Need-sub-depth Inv-loop μ-loop
 sub-depth c = search needs
 
 mul-wide : tie.Need-mul-wide Inv-loop μ-loop
-mul-wide c = omega (arith, fits (top (put (c .before .before))))
+mul-wide c = omega (arith, fits (top (c .before .before)))
 
 slice-read-wide : tie.Need-slice-read-wide Inv-loop μ-loop
 slice-read-wide c =
-    let at = top (put (c .before .before .before)) in
+    let at = top (c .before .before .before) in
     omega (arith, fits at, at .loop .inv .room, c .before .if2 .left)
 
 wide-requires : tie.Need-wide-requires Inv-loop μ-loop
 wide-requires c κs = search needs
 
 loop-less : tie.Need-loop-less Inv-loop μ-loop
-loop-less c = omega (arith, fits (top (put (ended c .before .before))))
+loop-less c = omega (arith, fits (top (more c .before .before)))
 
 loop-again : tie.Need-loop-again Inv-loop μ-loop
 loop-again c =
-    let last = ended c .before in
-    let at = last .before in
-    rw (c .wide .ensures) (step-popped (turn (put at)) (sym (at .kind .ensures) ∙ last .if1 .taken) (ended c .if2 .left))
+    let at = more c .before .before in
+    rw (c .wide .ensures) (step-popped (turn at) (sym (at .kind .ensures) ∙ more c .before .if1 .taken) (more c .if2 .left))
 
 pushed-by-requires : tie.Need-pushed-by-requires Inv-loop μ-loop
-pushed-by-requires c κs =
-    let at = top (put (c .before)) in
-    (fits at .0, entry at .pre .0 .1)
+pushed-by-requires c κs = (fits (top (c .before)) .0, entry (top (c .before)) .pre .0 .1)
 
 held-after-requires : tie.Need-held-after-requires Inv-loop μ-loop
-held-after-requires c κs =
-    let at = top (put (c .before .before)) in
-    (fits at .0, entry at .pre .0 .1)
+held-after-requires c κs = (fits (top (c .before .before)) .0, entry (top (c .before .before)) .pre .0 .1)
 
 stays-requires : tie.Need-stays-requires Inv-loop μ-loop
-stays-requires c κs = omega (arith, pushed-inside (opening c), entry (top (put (read c))) .pre .1 .0 .0)
+stays-requires c κs = omega (arith, pushed-inside (opening c), entry (top (read c)) .pre .1 .0 .0)
 
 cast-stack : tie.Need-cast-stack Inv-loop μ-loop
-cast-stack c = omega (arith, pushed-inside (opening (kept c .before)))
-
--- What is pushed has room on the stack.
-stack-fits : (c : tie.After-struct-known3 Inv-loop μ-loop) → top (put (read (kept c .before))) .loop .depth < mostTraceRecords
-stack-fits c = push-fits (opening (kept c .before)) (sym (kept c .stays .ensures) ∙ c .before .if3 .taken)
+cast-stack c = omega (arith, pushed-inside (opening (known c)))
 
 mul-stack : tie.Need-mul-stack Inv-loop μ-loop
-mul-stack c = omega (arith, stack-fits c)
+mul-stack c = omega (arith, room c)
 
 slice-write-stack : tie.Need-slice-write-stack Inv-loop μ-loop
-slice-write-stack c = omega (arith, stack-fits c, top (put (read (kept c .before))) .loop .inv .room)
+slice-write-stack c = omega (arith, room c, top (read (known c)) .loop .inv .room)
 
 add-depth : tie.Need-add-depth Inv-loop μ-loop
-add-depth c = omega (arith, stack-fits c)
+add-depth c = omega (arith, room c)
 
 loop-less-2 : tie.Need-loop-less-2 Inv-loop μ-loop
-loop-less-2 c = omega (arith, fits (top (put (read (kept c .before)))))
+loop-less-2 c = omega (arith, fits (top (read (known c))))
 
 loop-again-2 : tie.Need-loop-again-2 Inv-loop μ-loop
-loop-again-2 c = step-pushed (opening (kept c .before)) (sym (kept c .stays .ensures) ∙ c .before .if3 .taken)
+loop-again-2 c = step-pushed (opening (known c)) (kept c)
 
 loop-less-3 : tie.Need-loop-less-3 Inv-loop μ-loop
-loop-less-3 c = omega (arith, fits (top (put (read (c .before .before)))))
+loop-less-3 c = omega (arith, fits (top (read (c .before .before))))
 
 loop-again-3 : tie.Need-loop-again-3 Inv-loop μ-loop
 loop-again-3 c = step-dropped (opening (c .before .before)) (sym (c .before .stays .ensures) ∙ c .if3 .left)
