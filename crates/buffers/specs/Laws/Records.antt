@@ -1,7 +1,7 @@
 -- Log and trace records as bytes, four each: how many bytes some of them have, one more at the end, and one more stored in an
 -- array that has those before it at its front.
 use Prim.Native.Nat.{ℕ, suc, _+_, _*_, _/_, _%_, _≤_}
-use mathlib.Core.Path.{_≡_, refl, sym}
+use mathlib.Core.Path.{_≡_, refl, sym, _∙_}
 use mathlib.Core.List.{List, [], _∷_, _++_, map, flatten, append-nil, append-assoc}
 use native.Mathlib.Omega.{arith}
 use lib.ListN.{length, take, drop, length-append, length-set}
@@ -11,22 +11,33 @@ use Rattle.rules.specs.Scheduling.{Entry, Steal}
 use Rattle.rules.specs.Traces.{traceNumber, traceBytes, entryBytes}
 use Rattle.buffers.specs.Terms.{recordPut}
 
+-- ---- lists written one behind the other
+
+module _ {A B : Type 0} (f : A → List B) where
+  flat-append : (xs ys : List A) → flatten (map f (xs ++ ys)) ≡ flatten (map f xs) ++ flatten (map f ys)
+  unfolding flatten
+  flat-append [] ys = refl
+  flat-append (x ∷ xs) ys = rw (flat-append xs ys) (sym (append-assoc (f x) (flatten (map f xs)) (flatten (map f ys))))
+
+  pub flat-one : (xs : List A) (x : A) → flatten (map f (xs ++ (x ∷ []))) ≡ flatten (map f xs) ++ f x
+  unfolding flatten
+  flat-one xs x = flat-append xs (x ∷ []) ∙ rw append-nil refl
+
 -- ---- records of four bytes
 
-module _ {A : Type 0} (f : A → List ℕ) where
-  flat-length : ((x : A) → length (f x) ≡ 4) → (xs : List A) → length (flatten (map f xs)) ≡ 4 * length xs
-  unfolding flatten
-  flat-length four [] = refl
-  flat-length four (x ∷ xs) = omega (arith, length-append (f x) (flatten (map f xs)), four x, flat-length four xs)
-
-  flat-one : (xs : List A) (x : A) → flatten (map f (xs ++ (x ∷ []))) ≡ flatten (map f xs) ++ f x
-  unfolding flatten
-  flat-one [] x = append-nil (f x)
-  flat-one (y ∷ ys) x = rw (flat-one ys x) (sym (append-assoc (f y) (flatten (map f ys)) (f x)))
+flat-length : {A : Type 0} (f : A → List ℕ) → ((x : A) → length (f x) ≡ 4)
+    → (xs : List A) → length (flatten (map f xs)) ≡ 4 * length xs
+unfolding flatten
+flat-length f four [] = refl
+flat-length f four (x ∷ xs) = omega (arith, length-append (f x) (flatten (map f xs)), four x, flat-length f four xs)
 
 pub length-entries : (entries : List Entry) → length (entryBytes entries) ≡ 4 * length entries
 unfolding entryBytes twoBytes
 length-entries entries = flat-length (λ e. twoBytes (e .phase) ++ twoBytes (e .step)) (λ e. refl) entries
+
+pub entries-append : (xs ys : List Entry) → entryBytes (xs ++ ys) ≡ entryBytes xs ++ entryBytes ys
+unfolding entryBytes
+entries-append xs ys = flat-append _ xs ys
 
 pub entries-one : (entries : List Entry) (phase step : ℕ)
     → entryBytes (entries ++ (record { phase = phase; step = step } ∷ []))

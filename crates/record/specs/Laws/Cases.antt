@@ -10,8 +10,7 @@ use Rattle.rules.specs.Tree.{kinds}
 use Rattle.rules.specs.Scheduling.{mostWorkers}
 use Rattle.rules.specs.Calls.{mostEvents, startVerdict, recordWalk, recordVerdict, recordOf, recordRefused, recordCall}
 use Rattle.tree.specs.declared.Accepted.{Accepted}
-use Rattle.tree.specs.Laws.Verdicts.{first-accepts}
-use Rattle.run_invariant.specs.Laws.Counts.{or-none}
+use Rattle.tree.specs.Laws.Verdicts.{or-none, first-accepts}
 use Rattle.arguments.specs.Terms.{tooShort, recordAdmitted}
 use Rattle.arguments.specs.Laws.Cases.{Given, given-last, given-refused, given}
 use Rattle.record.specs.Body.Terms.{Admitted}

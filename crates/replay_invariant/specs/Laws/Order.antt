@@ -14,11 +14,11 @@ use Rattle.rules.specs.Scheduling.{workFirst, holds, pushes, pop, afterRun, Pha
 use Rattle.rules.specs.Traces.{fromStep, covers, runAlone, runningOrder}
 use Rattle.tree.specs.Laws.Counts.{count-snoc}
 use Rattle.tree_scan.specs.Laws.Shape.{Shape}
-use Rattle.tree_scan.specs.Laws.Frames.{endAt, sizeAt}
+use Rattle.tree_scan.specs.Laws.Frames.{endAt, sizeAt, end-size}
 use Rattle.run_invariant.specs.Invariant.{self, frontierEnd}
 use Rattle.run_invariant.specs.Laws.Counts.{and-both, Has, has-head, has-cases, has-none, sum-ones, not-so, at-most-one, has-tail}
 use Rattle.run_invariant.specs.Laws.Counts.{sum-same, sum-none, sum-self}
-use Rattle.run_invariant.specs.Laws.Weights.{sum-append, span, end-size, end-within, cont-inside, span-weighs, size-weighs}
+use Rattle.run_invariant.specs.Laws.Weights.{sum-append, span, end-within, cont-inside, span-weighs, size-weighs}
 use Rattle.run_invariant.specs.Laws.Weights.{run-weighs, from-self}
 use Rattle.run_invariant.specs.Laws.Phase.{first-holds, first-pushes, after-ended, after-dropped, after-kept}
 use Rattle.replay_invariant.specs.Invariant.{Cut}

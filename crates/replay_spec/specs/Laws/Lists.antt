@@ -1,20 +1,20 @@
 -- What the loop of `replay_list::write_list` holds: the records of the phases so far stand at the front of the list. This is
 -- so at the start and after each turn, and at the end it is the run list.
 use Prim.Native.Nat.{ℕ, _+_, _*_, _≤_, _<_}
-use mathlib.Core.Path.{_≡_, refl, sym, _∙_}
-use mathlib.Core.List.{List, [], _∷_, _++_, map, flatten, append-assoc, append-nil}
+use mathlib.Core.Path.{_≡_, sym, _∙_}
+use mathlib.Core.List.{List, _++_, flatten}
 use native.Mathlib.Numerals.{add-one}
 use native.Mathlib.Nat.{zero-add}
 use native.Mathlib.Omega.{arith}
 use lib.ListN.{length, getD}
 use Rattle.rules.specs.Bytes.{count}
 use Rattle.rules.specs.Tree.{kinds, treeVerdict}
-use Rattle.rules.specs.Scheduling.{phaseAt, Entry}
+use Rattle.rules.specs.Scheduling.{phaseAt}
 use Rattle.rules.specs.Traces.{runningOrder, entryBytes}
 use Rattle.rules.specs.Calls.{mostTraceRecords, written}
 use Rattle.tree.specs.Laws.Counts.{count-snoc}
 use Rattle.tree_scan.specs.Laws.Frames.{Frame, accepted-frame}
-use Rattle.buffers.specs.Laws.Records.{length-entries}
+use Rattle.buffers.specs.Laws.Records.{flat-one, length-entries, entries-append}
 use Rattle.buffers.specs.Laws.Fronts.{partOf, withPart, Front, front-none, front-within, front-room, front-next}
 use Rattle.replay_spec.specs.Begins.{mostPhases}
 use Rattle.replay_spec.specs.Orders.{phaseOrder, inPhase, Writable}
@@ -35,27 +35,13 @@ pub record Turn (p : ℕ) (tree labels firsts : List ℕ) (phases : ℕ) (before
   pub more : k < phases
   pub begins : first ≡ getD firsts k 0
 
--- ---- lists
-
-flat-append : {A B : Type 0} (f : A → List B) (xs ys : List A)
-    → flatten (map f (xs ++ ys)) ≡ flatten (map f xs) ++ flatten (map f ys)
-unfolding flatten
-flat-append f [] ys = refl
-flat-append f (x ∷ xs) ys = rw (flat-append f xs ys) (sym (append-assoc (f x) (flatten (map f xs)) (flatten (map f ys))))
-
-entries-append : (xs ys : List Entry) → entryBytes (xs ++ ys) ≡ entryBytes xs ++ entryBytes ys
-unfolding entryBytes
-entries-append xs ys = flat-append _ xs ys
-
 module _ (p : ℕ) (ks labels firsts : List ℕ) where
   -- One phase more.
   listed-one : (k : ℕ)
       → listed p ks labels firsts (k + 1) ≡ listed p ks labels firsts k ++ inPhase k (phaseOrder p ks labels k (getD firsts k 0))
   unfolding listed flatten
   listed-one k =
-      rw (add-one, count-snoc k 0, zero-add)
-      (flat-append (λ j. inPhase j (phaseOrder p ks labels j (getD firsts j 0))) (count 0 k) (k ∷ [])
-      ∙ rw append-nil refl)
+      rw (add-one, count-snoc k 0, zero-add) (flat-one (λ j. inPhase j (phaseOrder p ks labels j (getD firsts j 0))) (count 0 k) k)
 
 -- ---- the loop
 

@@ -57,13 +57,11 @@ length-flat f (j ∷ l) = omega (arith, length-append (f j) (flatten (map f l)),
 
 module _ (p : ℕ) (ks : List ℕ) (some-step : 1 ≤ length ks) (sh : Shape (length ks) (endAt ks) (sizeAt ks)) (phs : List Phase)
     (split : Split p ks phs) (labels : List ℕ) (shown : Labels ks phs labels) where
-  order : (k : ℕ) → k < length phs → phaseOrder p ks labels k (phaseAt phs k .first) ≡ runningOrder p ks (phaseAt phs k)
-  order = order-labelled p ks some-step sh phs split labels shown
-
   pub listed-is : (firsts : List ℕ) → ((k : ℕ) → k < length phs → getD firsts k 0 ≡ phaseAt phs k .first)
       → listed p ks labels firsts (length phs) ≡ runList p ks phs
   unfolding listed runList inPhase
   listed-is firsts begins =
+      let order = order-labelled p ks some-step sh phs split labels shown in
       ap (λ (l : List (List Entry)). flatten l)
       (zip-count (λ k ph. map (λ i. record { phase = k; step = i }) (runningOrder p ks ph))
       (λ k. inPhase k (phaseOrder p ks labels k (getD firsts k 0))) phs 0 (λ j l.
@@ -76,6 +74,7 @@ module _ (p : ℕ) (ks : List ℕ) (some-step : 1 ≤ length ks) (sh : Shape (le
       → length (listed p ks labels firsts k) + length (runningOrder p ks (phaseAt phs k)) ≤ length ks
   unfolding listed
   orders-fit firsts begins k h =
+      let order = order-labelled p ks some-step sh phs split labels shown in
       let run : ℕ → List ℕ = λ j. phaseOrder p ks labels j (getD firsts j 0) in
       let covered : Phase → ℕ = λ ph. sum (λ j. cond (covers ks ph j) 1 0) (count 0 (length ks)) in
       let size : (j : ℕ) → j < length phs → length (runningOrder p ks (phaseAt phs j)) ≡ covered (phaseAt phs j) =

@@ -11,7 +11,7 @@ use lib.Seq.{getD-set-same, getD-set-other, sets-eq, take-append-seam, drop-appe
 use borrow.Author.Tests.{eq-eqb, ne-eqb}
 use Rattle.rules.specs.Bytes.{twoBytes}
 use Rattle.rules.specs.Tree.{mostSteps, kinds, kindAt, isEnd, treeVerdict}
-use Rattle.rules.specs.Scheduling.{holds, pushes, Phase, phaseAt}
+use Rattle.rules.specs.Scheduling.{holds, pushes, phaseAt}
 use Rattle.rules.specs.Traces.{covers, entryBytes}
 use Rattle.rules.specs.Calls.{mostTraceRecords, written}
 use Rattle.tree_scan.specs.Laws.Frames.{Frame, accepted-frame}

@@ -13,7 +13,7 @@ use lib.Dec.{eqb, leb}
 use borrow.Author.Tests.{leb-false, eqb-true, eqb-false, lt-leb, eq-eqb, ne-eqb}
 use Rattle.rules.specs.Scheduling.{mostWorkers, Phase, phaseAt, begin}
 use Rattle.rules.specs.Traces.{latestPhase, numberAllowed, recordNumber, judgeRead, judgeTraceRecord}
-use Rattle.run_invariant.specs.Laws.Counts.{or-none}
+use Rattle.tree.specs.Laws.Verdicts.{or-none}
 use Rattle.replay_invariant.specs.Terms.{free}
 use Rattle.replay_invariant.specs.Laws.Always.{latest-own, latest-begin}
 use Rattle.replay_spec.specs.Entries.{judgedWorkers}

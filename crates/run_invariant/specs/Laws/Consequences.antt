@@ -18,14 +18,14 @@ use Rattle.rules.specs.Traces.{lastStolen, frontier, runAlone, runningOrder}
 use Rattle.rules.specs.Tree.{taskEnd, task}
 use Rattle.rules.specs.Calls.{finished}
 use Rattle.tree_scan.specs.Laws.Shape.{Shape, odd}
-use Rattle.tree_scan.specs.Laws.Frames.{endAt, sizeAt}
+use Rattle.tree_scan.specs.Laws.Frames.{endAt, sizeAt, end-size}
 use Rattle.tree_scan.specs.Laws.Places.{last-step}
 use Rattle.run_invariant.specs.Invariant.{Weighs, self, opening, stack, logOf, pending, Chain, Chained, Ends, frontierEnd}
 use Rattle.run_invariant.specs.Invariant.{PhaseFacts, Invariant}
 use Rattle.run_invariant.specs.Laws.Counts.{all-count, count-all, Has, has-head, has-cases, has-none, has-sum, all-members}
 use Rattle.run_invariant.specs.Laws.Counts.{no-members, kept-members, sum-ones, sum-at, sum-below, sum-none, any-sum}
 use Rattle.run_invariant.specs.Laws.Counts.{not-so}
-use Rattle.run_invariant.specs.Laws.Weights.{sum-append, span, openings, end-size, end-within, span-weighs, size-weighs}
+use Rattle.run_invariant.specs.Laws.Weights.{sum-append, span, openings, end-within, span-weighs, size-weighs}
 use Rattle.run_invariant.specs.Laws.Weights.{openings-weigh, span-most, span-in, span-inside, span-self, self-same}
 use Rattle.run_invariant.specs.Laws.Weights.{pushed-within}
 use Rattle.run_invariant.specs.Laws.Phase.{held-within, oldest-within}

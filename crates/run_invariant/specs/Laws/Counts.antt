@@ -18,10 +18,6 @@ pub and-both : (x y : Bool) → x && y ≡ true → (x ≡ true) × (y ≡ true)
 and-both true y e = (refl, e)
 and-both false y e = absurd (true≢false (sym e))
 
-pub or-none : (x y : Bool) → x || y ≡ false → (x ≡ false) × (y ≡ false)
-or-none false y e = (refl, e)
-or-none true y e = absurd (true≢false e)
-
 pub not-so : (x : Bool) → (x ≡ true → ⊥) → x ≡ false
 not-so true n = absurd (n refl)
 not-so false n = refl

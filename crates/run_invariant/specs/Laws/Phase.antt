@@ -11,10 +11,11 @@ use Rattle.rules.specs.Bytes.{all, any, sum}
 use Rattle.rules.specs.Tree.{kindAt, isEnd, taskEnd, cont}
 use Rattle.rules.specs.Scheduling.{workFirst, pushesChild, holds, pushes, pop, afterRun, Phase, oldest}
 use Rattle.rules.specs.Traces.{lastStolen, runAlone}
+use Rattle.tree.specs.Laws.Verdicts.{or-none}
 use Rattle.tree_scan.specs.Laws.Shape.{Shape}
 use Rattle.tree_scan.specs.Laws.Frames.{endAt, sizeAt}
 use Rattle.run_invariant.specs.Invariant.{stack, Weighs, Chain, Pushed, Chained, Ends, frontierEnd, kept, PhaseFacts}
-use Rattle.run_invariant.specs.Laws.Counts.{and-both, or-none, sum-ones}
+use Rattle.run_invariant.specs.Laws.Counts.{and-both, sum-ones}
 use Rattle.run_invariant.specs.Laws.Weights.{sum-append, end-within, cont-inside, size-weighs, run-weighs, holds-inside}
 use Rattle.run_invariant.specs.Laws.Weights.{pushes-inside, nested-end, pushed-within}
 

@@ -14,7 +14,7 @@ use Rattle.rules.specs.Tree.{kindAt, isEnd, taskEnd, cont}
 use Rattle.rules.specs.Scheduling.{pushesChild, holds, pushes}
 use Rattle.rules.specs.Traces.{fromStep}
 use Rattle.tree_scan.specs.Laws.Shape.{after, Shape, child-inside, nested, odd}
-use Rattle.tree_scan.specs.Laws.Frames.{endAt, sizeAt, cont-after}
+use Rattle.tree_scan.specs.Laws.Frames.{endAt, sizeAt, cont-after, end-size}
 use Rattle.run_invariant.specs.Invariant.{Weighs, self, opening, Pushed}
 use Rattle.run_invariant.specs.Laws.Counts.{and-both, not-so, at-most-one, one-true}
 
@@ -125,13 +125,8 @@ module _ (ks : List ℕ) where
       elim (pushesChild p (kindAt ks i)) as (λ x. P (cond x (cont ks i) (suc i)) (cond x (suc i) (cont ks i))) [ true ↦ b | false ↦ a ]
 
 module _ (ks : List ℕ) (sh : Shape (length ks) (endAt ks) (sizeAt ks)) where
-  -- The end of the task, by sizes.
-  pub end-size : (i : ℕ) → i < length ks → taskEnd ks i ≡ i + sizeAt ks i
-  unfolding sizeAt
-  end-size i h = omega (arith, sh .at i h .some)
-
   pub end-within : (i : ℕ) → i < length ks → (i < taskEnd ks i) × (taskEnd ks i ≤ length ks)
-  end-within i h = omega (arith, end-size i h, sh .at i h .some, sh .at i h .fits)
+  end-within i h = omega (arith, end-size ks sh i h, sh .at i h .some, sh .at i h .fits)
 
   -- A step is in the part from it.
   pub from-self : (i : ℕ) → i < length ks → fromStep ks i i ≡ true
@@ -146,20 +141,20 @@ module _ (ks : List ℕ) (sh : Shape (length ks) (endAt ks) (sizeAt ks)) where
   unfolding endAt after
   cont-inside i h e =
       let room = sh .at i h .room e in
-      let size = end-size i h in
+      let size = end-size ks sh i h in
       let parts = sh .at i h .parts e in
       rw (cont-after ks i h) (
         omega (arith, sh .at (suc i) (child-inside sh i h e) .some),
         room,
         omega (arith, sh .at (after (sizeAt ks) i) room .some),
-        omega (arith, end-size (after (sizeAt ks) i) room),
+        omega (arith, end-size ks sh (after (sizeAt ks) i) room),
       )
 
   pub span-weighs : (j : ℕ) → Weighs ks (span ks j) (self j)
   unfolding endAt cont
   span-weighs j =
       record {
-        end = λ i h e. rw (span-below ks j i (omega (arith, end-within i h)), self-below, end-size i h, sh .at i h .leaf e, add-one);
+        end = λ i h e. rw (span-below ks j i (omega (arith, end-within i h)), self-below, end-size ks sh i h, sh .at i h .leaf e, add-one);
         opens = λ i h e.
             let c = cont-inside i h e in
             omega (
@@ -219,5 +214,5 @@ module _ (ks : List ℕ) (sh : Shape (length ks) (endAt ks) (sizeAt ks)) where
   -- Nesting, by ends of tasks.
   pub nested-end : (i j : ℕ) → i < length ks → i ≤ j → j < taskEnd ks i → taskEnd ks j ≤ taskEnd ks i
   nested-end i j h l u =
-      let here = end-size i h in
-      omega (arith, end-size j (omega (arith, end-within i h)), nested sh i j h (l, omega arith))
+      let here = end-size ks sh i h in
+      omega (arith, end-size ks sh j (omega (arith, end-within i h)), nested sh i j h (l, omega arith))

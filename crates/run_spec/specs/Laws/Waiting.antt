@@ -1,7 +1,7 @@
 -- Whether all steps of a finish child have run, as a loop finds it; and whether a step waits, by the finish child before it.
 use Prim.Native.Nat.{ℕ, suc, _+_, _-_, _≤_, _<_}
 use mathlib.Core.Path.{_≡_, refl, sym, ap, _∙_}
-use mathlib.Core.Bool.{Bool, true, false, true≢false, _&&_, _||_, not}
+use mathlib.Core.Bool.{true, false, true≢false, _&&_, _||_, not}
 use mathlib.Core.List.{List}
 use mathlib.Core.Option.{Option, none, some}
 use native.Mathlib.Decide.{ℕ-discrete}
@@ -13,6 +13,7 @@ use borrow.Author.Tests.{eq-eqb, ne-eqb, leb-false}
 use Rattle.rules.specs.Bytes.{all}
 use Rattle.rules.specs.Tree.{finishBefore}
 use Rattle.tree.specs.declared.Step.{Step}
+use Rattle.tree.specs.Laws.Verdicts.{or-none}
 use Rattle.tree_scan.specs.declared.FinishChild.{FinishChild}
 use Rattle.tree_scan.specs.declared.FinishChild.the-variants.{From, Nothing}
 use Rattle.tree_scan.specs.Contract.{childOf}
@@ -95,15 +96,11 @@ module _ (ks place : List ℕ) (i : ℕ) where
 
 -- ---- only at `low`
 
-neither : (a b : Bool) → a || b ≡ false → (a ≡ false) × (b ≡ false)
-neither true b e = absurd (true≢false e)
-neither false b e = (refl, e)
-
 -- A held step that the table has and that is not at `low` does not wait.
 pub waits-at-low : (ks openers place held low : List ℕ) (w : ℕ) → WaitsAtLow ks openers place held low w
     → (i : ℕ) → i ≡ getD held w 0 → (from : ℕ) → from ≡ getD low w 0 → leb (length openers) i || eqb i from ≡ false
     → waitsFor ks place i ≡ false
 waits-at-low ks openers place held low w asked i holding from e no-wait =
-    let both = neither (leb (length openers) i) (eqb i from) no-wait in
+    let both = or-none (leb (length openers) i) (eqb i from) no-wait in
     let apart : i ≡ from → ⊥ = λ same. true≢false (sym (eq-eqb i from same) ∙ both .1) in
     rw holding (asked (rw (← holding) (leb-false (length openers) i (both .0))) (rw (← holding, ← e) apart))

@@ -1,9 +1,15 @@
 -- Conditions judged one after the other.
 use mathlib.Core.Path.{_≡_, refl}
+use mathlib.Core.Bool.{Bool, true, false, _||_, true≢false}
 use mathlib.Core.List.{List, [], _∷_}
 use native.Mathlib.Decide.{ℕ-discrete}
 use borrow.Author.Tests.{eq-eqb, ne-eqb}
 use Rattle.rules.specs.Bytes.{Verdict, accepted, firstRefused}
+
+-- Where one or the other does not hold, neither does.
+pub or-none : (x y : Bool) → x || y ≡ false → (x ≡ false) × (y ≡ false)
+or-none false y e = (refl, e)
+or-none true y e = absurd (true≢false e)
 
 -- Where none of them refuses, the first does not, nor do the others,
 pub first-accepts : (x : Verdict) (xs : List Verdict) → firstRefused (x ∷ xs) .number ≡ 0

@@ -76,6 +76,11 @@ module _ (ks : List ℕ) where
   unfolding cont after sizeAt
   cont-after i h = omega (arith, end-within (suc i) h)
 
+  -- The end of a step's task, by sizes.
+  pub end-size : Shape (length ks) (endAt ks) (sizeAt ks) → (i : ℕ) → i < length ks → taskEnd ks i ≡ i + sizeAt ks i
+  unfolding sizeAt
+  end-size sh i h = omega (arith, sh .at i h .some)
+
   -- How many tasks are open after one record more.
   open-length : (j : ℕ) → j < length ks → 1 ≤ length (openAt ks j)
       → length (openAt ks (suc j)) ≡ openAfter (kindAt ks j) (length (openAt ks j))

@@ -14,7 +14,7 @@ use Rattle.rules.specs.Bytes.{count, sum}
 use Rattle.rules.specs.Tree.{isEnd, kindAt, taskEnd, cont}
 use Rattle.tree.specs.Laws.Counts.{count-snoc}
 use Rattle.tree_scan.specs.Laws.Shape.{after, Shape, child-inside, after-end, nested}
-use Rattle.tree_scan.specs.Laws.Frames.{endAt, sizeAt, cont-after}
+use Rattle.tree_scan.specs.Laws.Frames.{endAt, sizeAt, cont-after, end-size}
 use Rattle.tree_scan.specs.Laws.Places.{Part, last-step, finish-child, finish-cont, part}
 use Rattle.tree_tables.specs.Terms.{Ends, Opener, Openers, weightBefore, Sums}
 
@@ -44,14 +44,9 @@ open-kind ks i n = ne-eqb (kindAt ks i) 3 n
 -- ---- openers: the child and the continuation of an opening step
 
 module _ (ks : List ℕ) (sh : Shape (length ks) (endAt ks) (sizeAt ks)) where
-  -- The end of the task, by sizes.
-  end-size : (i : ℕ) → i < length ks → taskEnd ks i ≡ i + sizeAt ks i
-  unfolding sizeAt
-  end-size i h = omega (arith, sh .at i h .some)
-
   -- An end's task ends with it.
   leaf-end : (i : ℕ) → i < length ks → endAt ks i ≡ true → taskEnd ks i ≡ i + 1
-  leaf-end i h e = omega (arith, end-size i h, sh .at i h .leaf e)
+  leaf-end i h e = omega (arith, end-size ks sh i h, sh .at i h .leaf e)
 
   module _ (q : ℕ) (h : q < length ks) (e : endAt ks q ≡ false) where
     -- The continuation is a step, and its task is the opening step's.
@@ -59,7 +54,9 @@ module _ (ks : List ℕ) (sh : Shape (length ks) (endAt ks) (sizeAt ks)) where
     cont-within = rw (cont-after ks q h) (sh .at q h .room e)
 
     cont-end : taskEnd ks (cont ks q) ≡ taskEnd ks q
-    cont-end = rw (cont-after ks q h) (omega (arith, end-size (after (sizeAt ks) q) (sh .at q h .room e), end-size q h, after-end sh q h e))
+    cont-end =
+        let last = end-size ks sh (after (sizeAt ks) q) (sh .at q h .room e) in
+        rw (cont-after ks q h) (omega (arith, last, end-size ks sh q h, after-end sh q h e))
 
     -- Between a step and its continuation is its child's task.
     between : (k : ℕ) → q < k → k < cont ks q → taskEnd ks k ≤ cont ks q
@@ -67,7 +64,7 @@ module _ (ks : List ℕ) (sh : Shape (length ks) (endAt ks) (sizeAt ks)) where
     between k a b =
         let child = child-inside sh q h e in
         let at = cont-after ks q h in
-        omega (arith, end-size k (omega (arith, cont-within)), nested sh (suc q) k child (a, omega arith))
+        omega (arith, end-size ks sh k (omega (arith, cont-within)), nested sh (suc q) k child (a, omega arith))
 
     opener-child : Opener ks q (suc q)
     unfolding endAt
