@@ -13,17 +13,21 @@ use Rattle.rules.specs.Cases.{answer, bytes, ofKinds, S}
 unfoldable fed : List ℕ → List ℕ → List ℕ → List ℕ
 fed head tree trace = head ++ (tree ++ trace)
 
--- "For 01 07 00, S and P1's trace". Then P8 and P12, an empty input, and S cut to five records.
+-- "For 01 07 00, S and P1's trace". Then P8 and P12, an empty input, one that breaks off within the count, and S cut to five
+-- records, where n is 5 and where n is 256.
 unfoldable inputs : List (List ℕ)
 inputs =
     fed (bytes 3 0x01_0700) S (bytes 12 0x0100_0100_0201_0200_0001_0100)
     ∷ fed (bytes 3 0x01_0700) S (bytes 8 0x0100_0100_0201_0100)
     ∷ fed (bytes 3 0x02_0700) S (bytes 4 0x0001_0100)
     ∷ []
+    ∷ bytes 2 0x01_07
     ∷ fed (bytes 3 0x01_0500) (take 40 S) []
+    ∷ fed (bytes 3 0x01_0001) (take 40 S) []
     ∷ []
 
--- In ASCII: the heading and seven lines, three to a numeral; then `refused 15 1`, `refused 14 0`, `refused 1 0`, `refused 5 5`.
+-- In ASCII: the heading and seven lines, three to a numeral; then `refused 15 1`, `refused 14 0`, `refused 1 0`, `refused 2 0`,
+-- `refused 5 5` twice.
 unfoldable texts : List (List ℕ)
 texts =
     flatten
@@ -35,6 +39,8 @@ texts =
     ∷ bytes 13 0x7265_6675_7365_6420_3135_2031_0a
     ∷ bytes 13 0x7265_6675_7365_6420_3134_2030_0a
     ∷ bytes 12 0x7265_6675_7365_6420_3120_300a
+    ∷ bytes 12 0x7265_6675_7365_6420_3220_300a
+    ∷ bytes 12 0x7265_6675_7365_6420_3520_350a
     ∷ bytes 12 0x7265_6675_7365_6420_3520_350a
     ∷ []
 
@@ -42,6 +48,11 @@ printed-as-shown : map (printed mostWorkers) inputs ≡ texts
 unfolding answer bytes ofKinds S fed inputs texts inputPolicy inputCount inputTree inputTrace digits decimal line heading
     phaseLines refusedLine phasesText printed flatten
 printed-as-shown = refl
+
+-- Of an input it reads the first 49,152 bytes.
+printed-of-longer : (input : List ℕ) → printed mostWorkers input ≡ phasesText mostWorkers (take 49152 input)
+unfolding printed
+printed-of-longer input = refl
 
 -- Numbers of one to five digits, in ASCII.
 numbers-as-shown :

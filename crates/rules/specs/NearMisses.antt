@@ -1,17 +1,19 @@
 -- Cases that tell the rules from near misses which P1 to P12 let pass: document 01's "Misreadings" first, then the order of
 -- refusals, the limits, lent bytes and loads. Each table is one theorem, closed by computation; the longest lists are judged by
 -- their length alone.
-use Prim.Native.Nat.{ℕ}
+use Prim.Native.Nat.{ℕ, _*_}
 use mathlib.Core.Path.{_≡_, refl}
 use mathlib.Core.Bool.{Bool, true, false}
 use mathlib.Core.List.{List, [], _∷_, _++_, map, flatten}
 use lib.ListN.{length, replicate, take}
-use Rattle.rules.specs.Bytes.{count, wholeRecords, Verdict, accepted}
+use Rattle.rules.specs.Bytes.{records, count, wholeRecords, Verdict, accepted}
 use Rattle.rules.specs.Tree.{kinds, wrongLength, treeVerdict}
 use Rattle.rules.specs.Scheduling.{workFirst, helpFirst, mostWorkers, firstPhases, phaseAt, start}
-use Rattle.rules.specs.Traces.{serialAllowed}
-use Rattle.rules.specs.Calls.{mostEvents, mostTraceRecords, eventCall, Recorded, recordCall, Replayed, replayCall}
-use Rattle.rules.specs.Cases.{recording, replaying, idling, ran, phases, idle, refused, answer, Row, row, bytes, ofKinds, S}
+use Rattle.rules.specs.Traces.{traceBytes, entryBytes, serialAllowed, nextPhases}
+use Rattle.rules.specs.Calls.{mostEvents, mostTraceRecords, startVerdict, eventCall, afterEvents, Recorded, recordWalk}
+use Rattle.rules.specs.Calls.{recordVerdict, recordCall, Replayed, replayVerdict, replayCall}
+use Rattle.rules.specs.Cases.{recording, replaying, idling, ran, phases, idle, refused, answer, Row, row, bytes, ofKinds}
+use Rattle.rules.specs.Cases.{S, oneEnd}
 
 -- ---- schedules and traces
 
@@ -23,9 +25,17 @@ nested = ofKinds (2 ∷ 2 ∷ 3 ∷ 3 ∷ 3 ∷ [])
 unfoldable asyncs : List ℕ
 asyncs = ofKinds (1 ∷ 1 ∷ 3 ∷ 3 ∷ 3 ∷ [])
 
+-- Four asyncs, each inside the one before.
+unfoldable deepAsyncs : List ℕ
+deepAsyncs = ofKinds (1 ∷ 1 ∷ 1 ∷ 1 ∷ 3 ∷ 3 ∷ 3 ∷ 3 ∷ 3 ∷ [])
+
 -- Two asyncs, one inside the other, and one more in the root.
 unfoldable three : List ℕ
 three = ofKinds (1 ∷ 1 ∷ 3 ∷ 3 ∷ 1 ∷ 3 ∷ 3 ∷ [])
+
+-- A finish child with two asyncs in it, one after the other.
+unfoldable inside : List ℕ
+inside = ofKinds (2 ∷ 1 ∷ 3 ∷ 1 ∷ 3 ∷ 3 ∷ 3 ∷ [])
 
 -- Fifteen asyncs in the root, one after the other.
 unfoldable flat : List ℕ
@@ -46,51 +56,117 @@ schedules =
     -- and runs once 4 has run
     ∷ row (recording helpFirst S (bytes 20 0x0000_0000_0000_0100_0200_0300_0000_0303_0202_0101))
     (ran true (bytes 12 0x0100_0100_0200_0600_0300_0400))
-    -- worker 2 waits at 6, and is not idle: 0 and 4 to 15 are
+    -- worker 2 waits at 6, and is not idle: 0 and 4 to 15 are; so it is no thief
     ∷ row (idling helpFirst S (bytes 14 0x0000_0000_0000_0100_0200_0300_0000)) (idle false 65521 13 0)
+    ∷ row (recording helpFirst S (bytes 16 0x0000_0000_0000_0100_0200_0300_0000_0203)) (refused 11 7)
+    -- 6 waits for 2, in the first async of two, though the second and the child's own steps have run
+    ∷ row (recording helpFirst inside (bytes 16 0x0000_0000_0000_0100_0200_0000_0000_0101)) (refused 10 7)
+    -- 3 waits for 2, the only step of the inner finish child
+    ∷ row (recording helpFirst nested (bytes 10 0x0000_0000_0100_0200_0202)) (refused 10 4)
     -- all sixteen workers hold a step
     ∷ row (idling helpFirst flat (replicate 30 0 ++ allSteal)) (idle false 0 0 16)
     -- the step after an async child does not wait for it
     ∷ row (recording workFirst S (bytes 6 0x0000_0100_0101)) (ran false (bytes 4 0x0100_0100))
+    -- nor in a finish child, where worker 2 runs 3 before 2; nor does the next async, where worker 0 runs 4 before 2
+    ∷ row (recording workFirst inside (bytes 10 0x0000_0000_0100_0200_0202)) (ran false (bytes 8 0x0100_0100_0200_0100))
+    ∷ row (recording helpFirst inside (bytes 10 0x0000_0000_0000_0000_0000)) (ran false [])
+    -- the root's end has run, and the run has not finished
+    ∷ row (recording workFirst asyncs (bytes 6 0x0000_0100_0101)) (ran false (bytes 4 0x0100_0100))
     -- a thief that holds a step is refused before a victim whose deque is empty, a worker 16 before either
     ∷ row (recording workFirst S (bytes 2 0x0001)) (refused 11 0)
     ∷ row (recording workFirst S (bytes 2 0x0010)) (refused 8 0)
     ∷ row (recording workFirst S (bytes 2 0x1010)) (refused 8 0)
-    -- P1's trace replayed: the picture of document 01's listing
-    ∷ row (replaying workFirst S (bytes 12 0x0100_0100_0201_0200_0001_0100))
-    (phases ((0 ∷ 1 ∷ []) ∷ (2 ∷ 3 ∷ 4 ∷ []) ∷ (6 ∷ []) ∷ (5 ∷ []) ∷ []))
-    -- a steal is read against worker 0's latest phase, which covers step 2 alone, and not its first, which covers step 5
-    ∷ row (replaying helpFirst three (bytes 12 0x0100_0100_0001_0200_0200_0500)) (refused 15 2)
-    -- steps 1 to 3, of which 2 has been stolen
-    ∷ row (replaying helpFirst asyncs (bytes 8 0x0100_0200_0200_0100)) (refused 15 1)
-    -- a phase's first step is not its own steal
-    ∷ row (replaying helpFirst S (bytes 8 0x0100_0100_0201_0100)) (refused 15 1)
-    -- the step after an async child, step 0, and a number that is no step
-    ∷ row (replaying helpFirst S (bytes 4 0x0100_0200)) (refused 15 0)
-    ∷ row (replaying helpFirst S (bytes 4 0x0100_0000)) (refused 15 0)
-    ∷ row (replaying helpFirst S (bytes 4 0x0100_0700)) (refused 15 0)
-    -- work-first numbers: 0, 1 with its bytes exchanged, one more than the root's children, and the frontier's next child
-    ∷ row (replaying workFirst S (bytes 4 0x0100_0000)) (refused 15 0)
-    ∷ row (replaying workFirst S (bytes 4 0x0100_0001)) (refused 15 0)
-    ∷ row (replaying workFirst S (bytes 4 0x0100_0300)) (refused 15 0)
-    ∷ row (replaying workFirst S (bytes 8 0x0100_0200_0200_0100))
-    (phases ((0 ∷ 1 ∷ 2 ∷ 3 ∷ 4 ∷ []) ∷ (6 ∷ []) ∷ (5 ∷ []) ∷ []))
-    -- equal workers are 13, with and without a phase; a thief, a victim or both of 16 and above are 8
-    ∷ row (replaying workFirst S (bytes 4 0x0000_0100)) (refused 13 0)
-    ∷ row (replaying workFirst S (bytes 4 0x0505_0100)) (refused 13 0)
-    ∷ row (replaying workFirst S (bytes 4 0x1000_0100)) (refused 8 0)
-    ∷ row (replaying workFirst S (bytes 4 0x0010_0100)) (refused 8 0)
-    ∷ row (replaying workFirst S (bytes 4 0x1010_0100)) (refused 8 0)
+    -- as is a thief or a victim far above 16
+    ∷ row (recording workFirst S (bytes 2 0xff00)) (refused 8 0)
+    ∷ row (recording workFirst S (bytes 2 0x00ff)) (refused 8 0)
     ∷ []
 
 schedules-as-stated : map (λ r. answer (r .given)) schedules ≡ map (λ r. r .says) schedules
-unfolding answer bytes schedules row nested asyncs three flat allSteal ofKinds S flatten
+unfolding answer bytes schedules row nested asyncs inside flat allSteal ofKinds S flatten
 schedules-as-stated = refl
+
+-- Work-first traces.
+unfoldable ordinals : List Row
+ordinals =
+    -- P1's trace replayed: the picture of document 01's listing
+    row (replaying workFirst S (bytes 12 0x0100_0100_0201_0200_0001_0100))
+    (phases ((0 ∷ 1 ∷ []) ∷ (2 ∷ 3 ∷ 4 ∷ []) ∷ (6 ∷ []) ∷ (5 ∷ []) ∷ []))
+    -- 0, 1 with its bytes exchanged, 1 with a high byte, one more than the root's children, and the frontier's next child
+    ∷ row (replaying workFirst S (bytes 4 0x0100_0000)) (refused 15 0)
+    ∷ row (replaying workFirst S (bytes 4 0x0100_0001)) (refused 15 0)
+    ∷ row (replaying workFirst S (bytes 4 0x0100_0101)) (refused 15 0)
+    ∷ row (replaying workFirst S (bytes 4 0x0100_0300)) (refused 15 0)
+    ∷ row (replaying workFirst S (bytes 8 0x0100_0200_0200_0100))
+    (phases ((0 ∷ 1 ∷ 2 ∷ 3 ∷ 4 ∷ []) ∷ (6 ∷ []) ∷ (5 ∷ []) ∷ []))
+    -- a later number counts the frontier's children: not 0, not 2, though the root has two, and 2 though the first was 1
+    ∷ row (replaying workFirst S (bytes 8 0x0100_0200_0200_0000)) (refused 15 1)
+    ∷ row (replaying workFirst S (bytes 8 0x0100_0200_0200_0200)) (refused 15 1)
+    ∷ row (replaying workFirst inside (bytes 8 0x0100_0100_0200_0200))
+    (phases ((0 ∷ 1 ∷ 2 ∷ 3 ∷ 4 ∷ []) ∷ (6 ∷ []) ∷ (5 ∷ []) ∷ []))
+    -- the frontier moves at every steal
+    ∷ row (replaying workFirst deepAsyncs (bytes 16 0x0100_0100_0200_0100_0300_0100_0400_0100))
+    (phases ((0 ∷ 1 ∷ 2 ∷ 3 ∷ 4 ∷ []) ∷ (8 ∷ []) ∷ (7 ∷ []) ∷ (6 ∷ []) ∷ (5 ∷ []) ∷ []))
+    -- equal workers are 13, with a phase, with a number that is not allowed, and without a phase
+    ∷ row (replaying workFirst S (bytes 4 0x0000_0100)) (refused 13 0)
+    ∷ row (replaying workFirst S (bytes 4 0x0000_0000)) (refused 13 0)
+    ∷ row (replaying workFirst S (bytes 4 0x0505_0100)) (refused 13 0)
+    -- a thief, a victim or both of 16 and above are 8
+    ∷ row (replaying workFirst S (bytes 4 0x1000_0100)) (refused 8 0)
+    ∷ row (replaying workFirst S (bytes 4 0x0010_0100)) (refused 8 0)
+    ∷ row (replaying workFirst S (bytes 4 0x1010_0100)) (refused 8 0)
+    ∷ row (replaying workFirst S (bytes 4 0xff00_0100)) (refused 8 0)
+    ∷ row (replaying workFirst S (bytes 4 0x00ff_0100)) (refused 8 0)
+    ∷ []
+
+ordinals-as-stated : map (λ r. answer (r .given)) ordinals ≡ map (λ r. r .says) ordinals
+unfolding answer bytes ordinals row inside deepAsyncs ofKinds S flatten
+ordinals-as-stated = refl
+
+-- Help-first traces.
+unfoldable serials : List Row
+serials =
+    -- a steal is read against worker 0's latest phase, which covers step 2 alone, and not its first, which covers step 5
+    row (replaying helpFirst three (bytes 12 0x0100_0100_0001_0200_0200_0500)) (refused 15 2)
+    -- steps 1 to 3, of which 2 has been stolen; 2, which has been stolen with 1; 1 for the second time
+    ∷ row (replaying helpFirst asyncs (bytes 8 0x0100_0200_0200_0100)) (refused 15 1)
+    ∷ row (replaying helpFirst asyncs (bytes 8 0x0100_0100_0200_0200)) (refused 15 1)
+    ∷ row (replaying helpFirst S (bytes 8 0x0100_0100_0200_0100)) (refused 15 1)
+    -- a phase's first step is not its own steal
+    ∷ row (replaying helpFirst S (bytes 8 0x0100_0100_0201_0100)) (refused 15 1)
+    -- the step after an async child, step 0, a number that is no step, and 1 with a high byte
+    ∷ row (replaying helpFirst S (bytes 4 0x0100_0200)) (refused 15 0)
+    ∷ row (replaying helpFirst S (bytes 4 0x0100_0000)) (refused 15 0)
+    ∷ row (replaying helpFirst S (bytes 4 0x0100_0700)) (refused 15 0)
+    ∷ row (replaying helpFirst S (bytes 4 0x0100_0101)) (refused 15 0)
+    -- in a finish child: the step after an async child, first or last, and the first step of a finish child
+    ∷ row (replaying helpFirst inside (bytes 4 0x0100_0300)) (refused 15 0)
+    ∷ row (replaying helpFirst inside (bytes 4 0x0100_0500)) (refused 15 0)
+    ∷ row (replaying helpFirst nested (bytes 4 0x0100_0200)) (refused 15 0)
+    -- the step after a finish child of one step
+    ∷ row (replaying helpFirst nested (bytes 4 0x0100_0300)) (phases ((0 ∷ 1 ∷ 2 ∷ 4 ∷ []) ∷ (3 ∷ []) ∷ []))
+    ∷ []
+
+serials-as-stated : map (λ r. answer (r .given)) serials ≡ map (λ r. r .says) serials
+unfolding answer bytes serials row nested asyncs three inside ofKinds S flatten
+serials-as-stated = refl
 
 -- Help-first, the number n names no step, though the last kind of this list, which is no tree, opens an async.
 number-n : serialAllowed (1 ∷ []) (phaseAt firstPhases 0) 1 ≡ false
 unfolding answer
 number-n = refl
+
+-- A number above 255 is entered whole; numbers, phases and steps above 255 are written whole.
+number-258 :
+    nextPhases helpFirst [] firstPhases (bytes 4 0x0100_0201)
+    ≡ record { worker = 0; first = 0; stolen = 258 ∷ [] } ∷ record { worker = 1; first = 258; stolen = [] } ∷ []
+unfolding answer bytes
+number-258 = refl
+
+written-258 :
+    traceBytes helpFirst [] (record { thief = 5; victim = 6; step = 258 } ∷ []) ++ entryBytes (record { phase = 772; step = 1286 } ∷ [])
+    ≡ bytes 8 0x0506_0201_0403_0605
+unfolding answer bytes flatten
+written-258 = refl
 
 -- A refused event hands back the state it got, at position 0: on S, a steal from worker 0 before anything was pushed.
 refused-event :
@@ -98,6 +174,13 @@ refused-event :
     ≡ record { verdict = record { number = 12; position = 0 }; state = start mostWorkers }
 unfolding answer bytes ofKinds S flatten
 refused-event = refl
+
+-- On S, in turn: 12, a run, 9, a steal, 11, a run. The state is that of the three events that are not refused.
+events-in-turn :
+    afterEvents workFirst (kinds S) (start mostWorkers) (records 2 (bytes 12 0x0100_0000_0101_0100_0001_0101))
+    ≡ recordWalk mostWorkers workFirst (kinds S) (records 2 (bytes 6 0x0000_0100_0101)) .state
+unfolding answer bytes ofKinds S flatten afterEvents
+events-in-turn = refl
 
 -- ---- trees
 
@@ -123,6 +206,7 @@ unfoldable trees : List TreeRow
 trees =
     tree [] (bad 2 0)
     ∷ tree (3 ∷ []) (bad 2 0)
+    ∷ tree (take 12 S) (bad 2 0)
     ∷ tree (ofKinds (3 ∷ [])) accepted
     ∷ tree (ofKinds (4 ∷ [])) (bad 3 0)
     ∷ tree (ofKinds (8 ∷ [])) (bad 3 0)
@@ -132,23 +216,33 @@ trees =
     ∷ tree (bytes 8 0x0301_0000_0000_0000) (bad 3 0)
     ∷ tree (unclean 3) (bad 3 0)
     ∷ tree (bytes 8 0x0300_0001_0000_0000) (bad 3 0)
-    -- the root's end, then one record more; 3 goes before 5 in one record
+    -- the root's end, then one record more or a second tree; 3 goes before 5 in one record
     ∷ tree (ofKinds (3 ∷ 3 ∷ [])) (bad 5 1)
+    ∷ tree (ofKinds (3 ∷ 1 ∷ 3 ∷ [])) (bad 5 1)
     ∷ tree (ofKinds (3 ∷ []) ++ unclean 3) (bad 3 1)
     -- the earlier record decides, whatever the number
     ∷ tree (ofKinds (3 ∷ 3 ∷ 4 ∷ [])) (bad 5 1)
     -- the root is still open
     ∷ tree (ofKinds (1 ∷ 3 ∷ [])) (bad 5 2)
-    -- 64 open, ended or not; a 65th; a 65th whose record is not well formed
-    ∷ tree (deep 63 ++ ofKinds (replicate 64 3)) accepted
-    ∷ tree (deep 63) (bad 5 63)
-    ∷ tree (deep 64) (bad 4 63)
-    ∷ tree (deep 63 ++ unclean 2) (bad 3 63)
     ∷ []
 
 trees-as-stated : map (λ t. treeVerdict (t .tree)) trees ≡ map (λ t. t .says) trees
-unfolding answer bytes trees tree bad unclean deep ofKinds flatten
+unfolding answer bytes trees tree bad unclean ofKinds S flatten
 trees-as-stated = refl
+
+unfoldable deepTrees : List TreeRow
+deepTrees =
+    -- 64 open, ended or not; a 65th, finish or async; a 65th whose record is not well formed
+    tree (deep 63 ++ ofKinds (replicate 64 3)) accepted
+    ∷ tree (deep 63) (bad 5 63)
+    ∷ tree (deep 64) (bad 4 63)
+    ∷ tree (deep 63 ++ ofKinds (1 ∷ [])) (bad 4 63)
+    ∷ tree (deep 63 ++ unclean 2) (bad 3 63)
+    ∷ []
+
+deep-trees-as-stated : map (λ t. treeVerdict (t .tree)) deepTrees ≡ map (λ t. t .says) deepTrees
+unfolding answer bytes deepTrees tree bad unclean deep ofKinds flatten
+deep-trees-as-stated = refl
 
 -- ---- the longest lists, by their length alone
 
@@ -291,6 +385,20 @@ replays =
             list = bytes 20 0x0000_0000_0000_0100_0100_0200_0100_0300_0200_0400;
           };
     }
+    -- weights of four bytes, and a load of more
+    ∷ record {
+      tree = bytes 24 0x0100_0000_ffff_ffff_0300_0000_ffff_ffff_0300_0000_0403_0201;
+      trace = [];
+      list = replicate 12 7;
+      says =
+          record {
+            verdict = accepted;
+            phaseCount = 1;
+            loads = sixteenLoads (8606843650 ∷ []);
+            heaviest = 0;
+            list = bytes 12 0x0000_0000_0000_0100_0000_0200;
+          };
+    }
     -- a trace of three bytes, before a list one byte short
     ∷ record {
       tree = weighted;
@@ -310,3 +418,116 @@ replays =
 replays-as-stated : map (λ r. replayCall mostWorkers workFirst (r .tree) (r .trace) (r .list)) replays ≡ map (λ r. r .says) replays
 unfolding answer bytes replays weighted sixteenLoads bad ofKinds flatten
 replays-as-stated = refl
+
+-- ---- whole calls: the phase that a steal is entered in, and the steps that a phase covers
+
+-- Three asyncs in the root, one after the other.
+unfoldable apart : List ℕ
+apart = ofKinds (1 ∷ 3 ∷ 1 ∷ 3 ∷ 1 ∷ 3 ∷ 3 ∷ [])
+
+-- A finished recording of a tree of seven records, with its log and trace; the run list of that trace; the loads of both.
+record PhasesRow : Type 0 where
+  policy : ℕ
+  tree : List ℕ
+  events : List ℕ
+  log : List ℕ
+  trace : List ℕ
+  list : List ℕ
+  loads : List ℕ
+
+unfoldable recordedOf : PhasesRow → List (List ℕ)
+recordedOf r =
+    let c = recordCall mostWorkers (r .policy) (r .tree) (r .events) (replicate 28 7) (replicate 12 9) in
+    c .log ∷ take (4 * c .traceCount) (c .trace) ∷ c .loads ∷ []
+
+unfoldable replayedOf : PhasesRow → List (List ℕ)
+replayedOf r = let c = replayCall mostWorkers (r .policy) (r .tree) (r .trace) (replicate 28 7) in c .list ∷ c .loads ∷ []
+
+unfoldable stolenPhases : List PhasesRow
+stolenPhases =
+    -- P1: the second and the third steal are from phase 1, the third by worker 0, which has had phase 0
+    record {
+      policy = workFirst;
+      tree = S;
+      events = bytes 20 0x0000_0100_0101_0201_0101_0000_0001_0000_0101_0202;
+      log = bytes 28 0x0000_0000_0100_0200_0100_0300_0000_0100_0300_0500_0100_0400_0200_0600;
+      trace = bytes 12 0x0100_0100_0201_0200_0001_0100;
+      list = bytes 28 0x0000_0000_0000_0100_0100_0200_0100_0300_0100_0400_0200_0600_0300_0500;
+      loads = 3 ∷ 3 ∷ 1 ∷ [];
+    }
+    -- the third steal is from phase 2, worker 0's second
+    ∷ record {
+      policy = workFirst;
+      tree = apart;
+      events = bytes 20 0x0000_0100_0000_0101_0001_0000_0200_0101_0000_0202;
+      log = bytes 28 0x0000_0000_0000_0100_0100_0200_0200_0400_0100_0300_0200_0500_0300_0600;
+      trace = bytes 12 0x0100_0100_0001_0200_0200_0300;
+      list = bytes 28 0x0000_0000_0000_0100_0100_0200_0100_0300_0200_0400_0200_0500_0300_0600;
+      loads = 4 ∷ 2 ∷ 1 ∷ [];
+    }
+    -- P4: phase 1 ends long before the tree does
+    ∷ record {
+      policy = helpFirst;
+      tree = S;
+      events = bytes 18 0x0000_0100_0000_0200_0101_0000_0000_0000_0202;
+      log = bytes 28 0x0000_0000_0000_0200_0100_0100_0000_0300_0000_0500_0000_0400_0200_0600;
+      trace = bytes 8 0x0100_0100_0200_0600;
+      list = bytes 28 0x0000_0000_0000_0200_0000_0300_0000_0500_0000_0400_0100_0100_0200_0600;
+      loads = 5 ∷ 1 ∷ 1 ∷ [];
+    }
+    ∷ []
+
+phases-recorded : map recordedOf stolenPhases ≡ map (λ r. r .log ∷ r .trace ∷ sixteenLoads (r .loads) ∷ []) stolenPhases
+unfolding answer bytes stolenPhases recordedOf apart sixteenLoads ofKinds S flatten
+phases-recorded = refl
+
+phases-replayed : map replayedOf stolenPhases ≡ map (λ r. r .list ∷ sixteenLoads (r .loads) ∷ []) stolenPhases
+unfolding answer bytes stolenPhases replayedOf apart sixteenLoads ofKinds S flatten
+phases-replayed = refl
+
+-- ---- whole calls: the longest lists, by their length alone
+
+-- What is said of a tree where one byte of events or trace is given and no buffer is lent: by the tree's own rules, the start,
+-- recording, replay.
+unfoldable saidOf : List ℕ → List Verdict
+saidOf t =
+    treeVerdict t
+    ∷ startVerdict workFirst t
+    ∷ recordVerdict mostWorkers workFirst t (0 ∷ []) [] []
+    ∷ replayVerdict mostWorkers workFirst t (0 ∷ []) []
+    ∷ []
+
+-- 4,095 records of which the first has kind 0 are walked, and 4,096 are not.
+said-of-4095 : (t : List ℕ) → length t ≡ 32752 → saidOf (replicate 8 0 ++ t) ≡ replicate 4 (bad 3 0)
+unfolding answer bad saidOf
+said-of-4095 t e = rw e refl
+
+said-of-4096 : (t : List ℕ) → length t ≡ 32760 → saidOf (replicate 8 0 ++ t) ≡ replicate 4 (bad 2 0)
+unfolding answer bad saidOf
+said-of-4096 t e = rw e refl
+
+-- 8,192 events are refused for a log of no bytes alone; 8,193, and half an event less than 8,192, for themselves.
+recorded-8192 : (es : List ℕ) → length es ≡ 16384 → recordVerdict mostWorkers helpFirst oneEnd es [] [] ≡ bad 7 0
+unfolding answer bad bytes ofKinds oneEnd flatten
+recorded-8192 es e = rw e refl
+
+recorded-8193 : (es : List ℕ) → length es ≡ 16386 → recordVerdict mostWorkers helpFirst oneEnd es [] [] ≡ bad 6 0
+unfolding answer bad bytes ofKinds oneEnd flatten
+recorded-8193 es e = rw e refl
+
+recorded-half : (es : List ℕ) → length es ≡ 16383 → recordVerdict mostWorkers helpFirst oneEnd es [] [] ≡ bad 6 0
+unfolding answer bad bytes ofKinds oneEnd flatten
+recorded-half es e = rw e refl
+
+-- 2,047 trace records are refused for a run list of no bytes alone; 2,048, and half a record less than 2,047, for themselves.
+replayed-2047 : (rs : List ℕ) → length rs ≡ 8188 → replayVerdict mostWorkers helpFirst oneEnd rs [] ≡ bad 7 0
+unfolding answer bad bytes ofKinds oneEnd flatten
+replayed-2047 rs e = rw e refl
+
+replayed-2048 : (rs : List ℕ) → length rs ≡ 8192 → replayVerdict mostWorkers helpFirst oneEnd rs [] ≡ bad 6 0
+unfolding answer bad bytes ofKinds oneEnd flatten
+replayed-2048 rs e = rw e refl
+
+replayed-half : (rs : List ℕ) → length rs ≡ 8186 → replayVerdict mostWorkers helpFirst oneEnd rs [] ≡ bad 6 0
+unfolding answer bad bytes ofKinds oneEnd flatten
+replayed-half rs e = rw e refl
