@@ -14,7 +14,7 @@ unfoldable fed : List ℕ → List ℕ → List ℕ → List ℕ
 fed head tree trace = head ++ (tree ++ trace)
 
 -- "For 01 07 00, S and P1's trace". Then P8 and P12, an empty input, one that breaks off within the count, and S cut to five
--- records, where n is 5 and where n is 256.
+-- records: where n is 5, the same before a trace of one byte, and where n is 256.
 unfoldable inputs : List (List ℕ)
 inputs =
     fed (bytes 3 0x01_0700) S (bytes 12 0x0100_0100_0201_0200_0001_0100)
@@ -23,11 +23,12 @@ inputs =
     ∷ []
     ∷ bytes 2 0x01_07
     ∷ fed (bytes 3 0x01_0500) (take 40 S) []
+    ∷ fed (bytes 3 0x01_0500) (take 40 S) (bytes 1 0x00)
     ∷ fed (bytes 3 0x01_0001) (take 40 S) []
     ∷ []
 
 -- In ASCII: the heading and seven lines, three to a numeral; then `refused 15 1`, `refused 14 0`, `refused 1 0`, `refused 2 0`,
--- `refused 5 5` twice.
+-- `refused 5 5` three times.
 unfoldable texts : List (List ℕ)
 texts =
     flatten
@@ -40,6 +41,7 @@ texts =
     ∷ bytes 13 0x7265_6675_7365_6420_3134_2030_0a
     ∷ bytes 12 0x7265_6675_7365_6420_3120_300a
     ∷ bytes 12 0x7265_6675_7365_6420_3220_300a
+    ∷ bytes 12 0x7265_6675_7365_6420_3520_350a
     ∷ bytes 12 0x7265_6675_7365_6420_3520_350a
     ∷ bytes 12 0x7265_6675_7365_6420_3520_350a
     ∷ []

@@ -131,8 +131,13 @@ serials =
     ∷ row (replaying helpFirst asyncs (bytes 8 0x0100_0200_0200_0100)) (refused 15 1)
     ∷ row (replaying helpFirst asyncs (bytes 8 0x0100_0100_0200_0200)) (refused 15 1)
     ∷ row (replaying helpFirst S (bytes 8 0x0100_0100_0200_0100)) (refused 15 1)
-    -- a phase's first step is not its own steal
+    -- a phase's first step is not its own steal, whoever's phase it is
     ∷ row (replaying helpFirst S (bytes 8 0x0100_0100_0201_0100)) (refused 15 1)
+    ∷ row (replaying helpFirst S (bytes 8 0x0300_0100_0203_0100)) (refused 15 1)
+    -- step 1 is still in the phase when 6 is not; step 3 is in worker 3's phase, which begins with 1
+    ∷ row (replaying helpFirst S (bytes 8 0x0100_0600_0200_0100)) (phases ((0 ∷ 2 ∷ 3 ∷ 5 ∷ 4 ∷ []) ∷ (6 ∷ []) ∷ (1 ∷ []) ∷ []))
+    ∷ row (replaying helpFirst deepAsyncs (bytes 8 0x0300_0100_0203_0300))
+    (phases ((0 ∷ 8 ∷ []) ∷ (1 ∷ 7 ∷ 2 ∷ 6 ∷ []) ∷ (3 ∷ 5 ∷ 4 ∷ []) ∷ []))
     -- the step after an async child, step 0, a number that is no step, and 1 with a high byte
     ∷ row (replaying helpFirst S (bytes 4 0x0100_0200)) (refused 15 0)
     ∷ row (replaying helpFirst S (bytes 4 0x0100_0000)) (refused 15 0)
@@ -144,10 +149,12 @@ serials =
     ∷ row (replaying helpFirst nested (bytes 4 0x0100_0200)) (refused 15 0)
     -- the step after a finish child of one step
     ∷ row (replaying helpFirst nested (bytes 4 0x0100_0300)) (phases ((0 ∷ 1 ∷ 2 ∷ 4 ∷ []) ∷ (3 ∷ []) ∷ []))
+    -- 6 does not wait for 4, which was stolen, nor is it judged that 1 and 6 are older than 4
+    ∷ row (replaying helpFirst S (bytes 4 0x0100_0400)) (phases ((0 ∷ 2 ∷ 3 ∷ 5 ∷ 6 ∷ 1 ∷ []) ∷ (4 ∷ []) ∷ []))
     ∷ []
 
 serials-as-stated : map (λ r. answer (r .given)) serials ≡ map (λ r. r .says) serials
-unfolding answer bytes serials row nested asyncs three inside ofKinds S flatten
+unfolding answer bytes serials row nested asyncs deepAsyncs three inside ofKinds S flatten
 serials-as-stated = refl
 
 -- Help-first, the number n names no step, though the last kind of this list, which is no tree, opens an async.
@@ -212,7 +219,8 @@ trees =
     ∷ tree (ofKinds (8 ∷ [])) (bad 3 0)
     ∷ tree (ofKinds (255 ∷ [])) (bad 3 0)
     ∷ tree (ofKinds (0 ∷ [])) (bad 3 0)
-    -- byte 1, byte 2, byte 3
+    -- a weight of 0; then byte 1, byte 2, byte 3
+    ∷ tree (bytes 8 0x0300_0000_0000_0000) accepted
     ∷ tree (bytes 8 0x0301_0000_0000_0000) (bad 3 0)
     ∷ tree (unclean 3) (bad 3 0)
     ∷ tree (bytes 8 0x0300_0001_0000_0000) (bad 3 0)
@@ -384,6 +392,14 @@ replays =
             heaviest = 0;
             list = bytes 20 0x0000_0000_0000_0100_0100_0200_0100_0300_0200_0400;
           };
+    }
+    -- no weight at all: the lowest worker is the heaviest
+    ∷ record {
+      tree = bytes 8 0x0300_0000_0000_0000;
+      trace = [];
+      list = replicate 4 7;
+      says =
+          record { verdict = accepted; phaseCount = 1; loads = sixteenLoads []; heaviest = 0; list = bytes 4 0x0000_0000 };
     }
     -- weights of four bytes, and a load of more
     ∷ record {
