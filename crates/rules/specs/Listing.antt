@@ -51,6 +51,11 @@ unfolding answer bytes ofKinds S fed inputs texts inputPolicy inputCount inputTr
     phaseLines refusedLine phasesText printed flatten
 printed-as-shown = refl
 
+-- A count of two bytes.
+count-258 : inputCount (bytes 3 0x01_0201) ≡ 258
+unfolding bytes inputCount
+count-258 = refl
+
 -- Of an input it reads the first 49,152 bytes.
 printed-of-longer : (input : List ℕ) → printed mostWorkers input ≡ phasesText mostWorkers (take 49152 input)
 unfolding printed

@@ -63,7 +63,8 @@ schedules =
     ∷ row (recording helpFirst inside (bytes 16 0x0000_0000_0000_0100_0200_0000_0000_0101)) (refused 10 7)
     -- 3 waits for 2, the only step of the inner finish child
     ∷ row (recording helpFirst nested (bytes 10 0x0000_0000_0100_0200_0202)) (refused 10 4)
-    -- all sixteen workers hold a step
+    -- workers 0 and 1 hold a step; all sixteen do
+    ∷ row (idling workFirst S (bytes 4 0x0000_0100)) (idle false 65532 14 2)
     ∷ row (idling helpFirst flat (replicate 30 0 ++ allSteal)) (idle false 0 0 16)
     -- the step after an async child does not wait for it
     ∷ row (recording workFirst S (bytes 6 0x0000_0100_0101)) (ran false (bytes 4 0x0100_0100))
@@ -76,9 +77,10 @@ schedules =
     ∷ row (recording workFirst S (bytes 2 0x0001)) (refused 11 0)
     ∷ row (recording workFirst S (bytes 2 0x0010)) (refused 8 0)
     ∷ row (recording workFirst S (bytes 2 0x1010)) (refused 8 0)
-    -- as is a thief or a victim far above 16
+    -- as is a thief or a victim far above 16; worker 15 is not
     ∷ row (recording workFirst S (bytes 2 0xff00)) (refused 8 0)
     ∷ row (recording workFirst S (bytes 2 0x00ff)) (refused 8 0)
+    ∷ row (recording workFirst S (bytes 2 0x0f0f)) (refused 9 0)
     ∷ []
 
 schedules-as-stated : map (λ r. answer (r .given)) schedules ≡ map (λ r. r .says) schedules
@@ -110,12 +112,13 @@ ordinals =
     ∷ row (replaying workFirst S (bytes 4 0x0000_0100)) (refused 13 0)
     ∷ row (replaying workFirst S (bytes 4 0x0000_0000)) (refused 13 0)
     ∷ row (replaying workFirst S (bytes 4 0x0505_0100)) (refused 13 0)
-    -- a thief, a victim or both of 16 and above are 8
+    -- a thief, a victim or both of 16 and above are 8, and 15 is not
     ∷ row (replaying workFirst S (bytes 4 0x1000_0100)) (refused 8 0)
     ∷ row (replaying workFirst S (bytes 4 0x0010_0100)) (refused 8 0)
     ∷ row (replaying workFirst S (bytes 4 0x1010_0100)) (refused 8 0)
     ∷ row (replaying workFirst S (bytes 4 0xff00_0100)) (refused 8 0)
     ∷ row (replaying workFirst S (bytes 4 0x00ff_0100)) (refused 8 0)
+    ∷ row (replaying workFirst S (bytes 8 0x0f00_0200_000f_0100)) (refused 15 1)
     ∷ []
 
 ordinals-as-stated : map (λ r. answer (r .given)) ordinals ≡ map (λ r. r .says) ordinals
@@ -169,11 +172,11 @@ number-258 :
 unfolding answer bytes
 number-258 = refl
 
-written-258 :
-    traceBytes helpFirst [] (record { thief = 5; victim = 6; step = 258 } ∷ []) ++ entryBytes (record { phase = 772; step = 1286 } ∷ [])
-    ≡ bytes 8 0x0506_0201_0403_0605
+numbers-written :
+    traceBytes helpFirst [] (record { thief = 5; victim = 6; step = 4094 } ∷ []) ++ entryBytes (record { phase = 256; step = 2047 } ∷ [])
+    ≡ bytes 8 0x0506_fe0f_0001_ff07
 unfolding answer bytes flatten
-written-258 = refl
+numbers-written = refl
 
 -- A refused event hands back the state it got, at position 0: on S, a steal from worker 0 before anything was pushed.
 refused-event :
@@ -181,6 +184,13 @@ refused-event :
     ≡ record { verdict = record { number = 12; position = 0 }; state = start mostWorkers }
 unfolding answer bytes ofKinds S flatten
 refused-event = refl
+
+-- On S, after the events of P2 but the last: worker 2 waits.
+waiting-event :
+    let s = recordWalk mostWorkers workFirst (kinds S) (records 2 (bytes 16 0x0000_0100_0101_0201_0101_0000_0001_0101)) .state in
+    eventCall workFirst (kinds S) s (bytes 2 0x0202) ≡ record { verdict = record { number = 10; position = 0 }; state = s }
+unfolding answer bytes ofKinds S flatten
+waiting-event = refl
 
 -- On S, in turn: 12, a run, 9, a steal, 11, a run. The state is that of the three events that are not refused.
 events-in-turn :
@@ -220,7 +230,7 @@ trees =
     ∷ tree (ofKinds (255 ∷ [])) (bad 3 0)
     ∷ tree (ofKinds (0 ∷ [])) (bad 3 0)
     -- a weight of 0; then byte 1, byte 2, byte 3
-    ∷ tree (bytes 8 0x0300_0000_0000_0000) accepted
+    ∷ tree (bytes 8 0x0300_0000_0000_0000) (bad 0 0)
     ∷ tree (bytes 8 0x0301_0000_0000_0000) (bad 3 0)
     ∷ tree (unclean 3) (bad 3 0)
     ∷ tree (bytes 8 0x0300_0001_0000_0000) (bad 3 0)
@@ -414,6 +424,13 @@ replays =
             heaviest = 0;
             list = bytes 12 0x0000_0000_0000_0100_0000_0200;
           };
+    }
+    -- a tree whose root is still open, before a trace of three bytes
+    ∷ record {
+      tree = take 16 weighted;
+      trace = bytes 3 0x0100_01;
+      list = replicate 11 7;
+      says = record { verdict = bad 5 2; phaseCount = 0; loads = sixteenLoads []; heaviest = 0; list = replicate 11 7 };
     }
     -- a trace of three bytes, before a list one byte short
     ∷ record {
