@@ -37,6 +37,10 @@ three = ofKinds (1 ∷ 1 ∷ 3 ∷ 3 ∷ 1 ∷ 3 ∷ 3 ∷ [])
 unfoldable inside : List ℕ
 inside = ofKinds (2 ∷ 1 ∷ 3 ∷ 1 ∷ 3 ∷ 3 ∷ 3 ∷ [])
 
+-- An async whose only child is a finish.
+unfoldable around : List ℕ
+around = ofKinds (1 ∷ 2 ∷ 3 ∷ 3 ∷ 3 ∷ [])
+
 -- Fifteen asyncs in the root, one after the other.
 unfoldable flat : List ℕ
 flat = ofKinds (flatten (replicate 15 (1 ∷ 3 ∷ [])) ++ (3 ∷ []))
@@ -81,6 +85,7 @@ schedules =
     ∷ row (recording workFirst S (bytes 2 0xff00)) (refused 8 0)
     ∷ row (recording workFirst S (bytes 2 0x00ff)) (refused 8 0)
     ∷ row (recording workFirst S (bytes 2 0x0f0f)) (refused 9 0)
+    ∷ row (recording workFirst S (bytes 4 0x0000_0f00)) (ran false (bytes 4 0x0f00_0100))
     ∷ []
 
 schedules-as-stated : map (λ r. answer (r .given)) schedules ≡ map (λ r. r .says) schedules
@@ -105,6 +110,9 @@ ordinals =
     ∷ row (replaying workFirst S (bytes 8 0x0100_0200_0200_0200)) (refused 15 1)
     ∷ row (replaying workFirst inside (bytes 8 0x0100_0100_0200_0200))
     (phases ((0 ∷ 1 ∷ 2 ∷ 3 ∷ 4 ∷ []) ∷ (6 ∷ []) ∷ (5 ∷ []) ∷ []))
+    -- the first frontier of worker 2's phase is the finish child that it begins in, and not the root
+    ∷ row (replaying workFirst inside (bytes 12 0x0100_0100_0200_0100_0302_0200))
+    (phases ((0 ∷ 1 ∷ 2 ∷ []) ∷ (6 ∷ []) ∷ (3 ∷ 4 ∷ []) ∷ (5 ∷ []) ∷ []))
     -- the frontier moves at every steal
     ∷ row (replaying workFirst deepAsyncs (bytes 16 0x0100_0100_0200_0100_0300_0100_0400_0100))
     (phases ((0 ∷ 1 ∷ 2 ∷ 3 ∷ 4 ∷ []) ∷ (8 ∷ []) ∷ (7 ∷ []) ∷ (6 ∷ []) ∷ (5 ∷ []) ∷ []))
@@ -118,7 +126,7 @@ ordinals =
     ∷ row (replaying workFirst S (bytes 4 0x1010_0100)) (refused 8 0)
     ∷ row (replaying workFirst S (bytes 4 0xff00_0100)) (refused 8 0)
     ∷ row (replaying workFirst S (bytes 4 0x00ff_0100)) (refused 8 0)
-    ∷ row (replaying workFirst S (bytes 8 0x0f00_0200_000f_0100)) (refused 15 1)
+    ∷ row (replaying workFirst S (bytes 8 0x0f00_0100_000f_0200)) (phases ((0 ∷ 1 ∷ []) ∷ (2 ∷ 3 ∷ 4 ∷ 5 ∷ []) ∷ (6 ∷ []) ∷ []))
     ∷ []
 
 ordinals-as-stated : map (λ r. answer (r .given)) ordinals ≡ map (λ r. r .says) ordinals
@@ -130,15 +138,17 @@ unfoldable serials : List Row
 serials =
     -- a steal is read against worker 0's latest phase, which covers step 2 alone, and not its first, which covers step 5
     row (replaying helpFirst three (bytes 12 0x0100_0100_0001_0200_0200_0500)) (refused 15 2)
-    -- steps 1 to 3, of which 2 has been stolen; 2, which has been stolen with 1; 1 for the second time
+    -- steps 1 to 3, of which 2 has been stolen, or 3; 2, which has been stolen with 1; 1 for the second time
     ∷ row (replaying helpFirst asyncs (bytes 8 0x0100_0200_0200_0100)) (refused 15 1)
+    ∷ row (replaying helpFirst around (bytes 8 0x0100_0300_0200_0100)) (refused 15 1)
     ∷ row (replaying helpFirst asyncs (bytes 8 0x0100_0100_0200_0200)) (refused 15 1)
     ∷ row (replaying helpFirst S (bytes 8 0x0100_0100_0200_0100)) (refused 15 1)
     -- a phase's first step is not its own steal, whoever's phase it is
     ∷ row (replaying helpFirst S (bytes 8 0x0100_0100_0201_0100)) (refused 15 1)
     ∷ row (replaying helpFirst S (bytes 8 0x0300_0100_0203_0100)) (refused 15 1)
-    -- step 1 is still in the phase when 6 is not; step 3 is in worker 3's phase, which begins with 1
+    -- 1 is still in the phase when 6 is not, 3 when 4 is not; 3 is in worker 3's phase, which begins with 1
     ∷ row (replaying helpFirst S (bytes 8 0x0100_0600_0200_0100)) (phases ((0 ∷ 2 ∷ 3 ∷ 5 ∷ 4 ∷ []) ∷ (6 ∷ []) ∷ (1 ∷ []) ∷ []))
+    ∷ row (replaying helpFirst nested (bytes 8 0x0100_0400_0200_0300)) (phases ((0 ∷ 1 ∷ 2 ∷ []) ∷ (4 ∷ []) ∷ (3 ∷ []) ∷ []))
     ∷ row (replaying helpFirst deepAsyncs (bytes 8 0x0300_0100_0203_0300))
     (phases ((0 ∷ 8 ∷ []) ∷ (1 ∷ 7 ∷ 2 ∷ 6 ∷ []) ∷ (3 ∷ 5 ∷ 4 ∷ []) ∷ []))
     -- the step after an async child, step 0, a number that is no step, and 1 with a high byte
@@ -157,7 +167,7 @@ serials =
     ∷ []
 
 serials-as-stated : map (λ r. answer (r .given)) serials ≡ map (λ r. r .says) serials
-unfolding answer bytes serials row nested asyncs deepAsyncs three inside ofKinds S flatten
+unfolding answer bytes serials row nested asyncs deepAsyncs three inside around ofKinds S flatten
 serials-as-stated = refl
 
 -- Help-first, the number n names no step, though the last kind of this list, which is no tree, opens an async.
@@ -194,8 +204,10 @@ waiting-event = refl
 
 -- On S, in turn: 12, a run, 9, a steal, 11, a run. The state is that of the three events that are not refused.
 events-in-turn :
-    afterEvents workFirst (kinds S) (start mostWorkers) (records 2 (bytes 12 0x0100_0000_0101_0100_0001_0101))
-    ≡ recordWalk mostWorkers workFirst (kinds S) (records 2 (bytes 6 0x0000_0100_0101)) .state
+    let given = records 2 (bytes 12 0x0100_0000_0101_0100_0001_0101) in
+    let kept = records 2 (bytes 6 0x0000_0100_0101) in
+    map (λ p. afterEvents p (kinds S) (start mostWorkers) given) (workFirst ∷ helpFirst ∷ [])
+    ≡ map (λ p. recordWalk mostWorkers p (kinds S) kept .state) (workFirst ∷ helpFirst ∷ [])
 unfolding answer bytes ofKinds S flatten afterEvents
 events-in-turn = refl
 
@@ -451,6 +463,13 @@ replays =
 replays-as-stated : map (λ r. replayCall mostWorkers workFirst (r .tree) (r .trace) (r .list)) replays ≡ map (λ r. r .says) replays
 unfolding answer bytes replays weighted sixteenLoads bad ofKinds flatten
 replays-as-stated = refl
+
+-- A policy that is none.
+replays-of-no-policy :
+    map (λ p. replayCall mostWorkers p weighted [] (replicate 12 7)) (0 ∷ 3 ∷ [])
+    ≡ replicate 2 (record { verdict = bad 1 0; phaseCount = 0; loads = sixteenLoads []; heaviest = 0; list = replicate 12 7 })
+unfolding answer bytes weighted sixteenLoads bad
+replays-of-no-policy = refl
 
 -- ---- whole calls: the phase that a steal is entered in, and the steps that a phase covers
 
