@@ -7,31 +7,29 @@ use lib.ListN.{take}
 use Rattle.rules.specs.Scheduling.{mostWorkers}
 use Rattle.rules.specs.Program.{inputPolicy, inputCount, inputTree, inputTrace, digits, decimal, line, heading, phaseLines}
 use Rattle.rules.specs.Program.{refusedLine, phasesText, printed}
-use Rattle.rules.specs.Cases.{answer, bytes, ofKinds, S}
+use Rattle.rules.specs.Cases.{answer, bytes, ofKinds, S, oneEnd}
 
 -- Policy and n in front of a tree and a trace.
 unfoldable fed : List ℕ → List ℕ → List ℕ → List ℕ
 fed head tree trace = head ++ (tree ++ trace)
 
--- "For 01 07 00, S and P1's trace". Then help-first, where worker 15 takes the only child; P8 and P12; worker 16; an empty
--- input, one that breaks off within the count, and S cut to five records: where n is 5, the same before a trace of one byte, and
--- where n is 256.
+-- "For 01 07 00, S and P1's trace". Then help-first, where worker 15 takes the only child; one record where n is 256; P8 and P12;
+-- worker 16; an empty input, one that breaks off within the count, and S cut to five records.
 unfoldable inputs : List (List ℕ)
 inputs =
     fed (bytes 3 0x01_0700) S (bytes 12 0x0100_0100_0201_0200_0001_0100)
     ∷ fed (bytes 3 0x02_0300) (ofKinds (1 ∷ 3 ∷ 3 ∷ [])) (bytes 4 0x0f00_0100)
+    ∷ fed (bytes 3 0x01_0001) oneEnd []
     ∷ fed (bytes 3 0x01_0700) S (bytes 8 0x0100_0100_0201_0100)
     ∷ fed (bytes 3 0x02_0700) S (bytes 4 0x0001_0100)
     ∷ fed (bytes 3 0x01_0700) S (bytes 4 0x1000_0100)
     ∷ []
     ∷ bytes 2 0x01_07
     ∷ fed (bytes 3 0x01_0500) (take 40 S) []
-    ∷ fed (bytes 3 0x01_0500) (take 40 S) (bytes 1 0x00)
-    ∷ fed (bytes 3 0x01_0001) (take 40 S) []
     ∷ []
 
--- In ASCII: the heading and seven lines, three to a numeral; the heading and three lines; then `refused 15 1`, `refused 14 0`,
--- `refused 8 0`, `refused 1 0`, `refused 2 0`, `refused 5 5` three times.
+-- In ASCII: the heading and seven lines, three to a numeral; the heading and three lines; the heading and one line; then
+-- `refused 15 1`, `refused 14 0`, `refused 8 0`, `refused 1 0`, `refused 2 0`, `refused 5 5`.
 unfoldable texts : List (List ℕ)
 texts =
     flatten
@@ -41,18 +39,17 @@ texts =
     ∷ bytes 6 0x3320_3020_350a
     ∷ [])
     ∷ (bytes 18 0x7068_6173_6520_776f_726b_6572_2073_7465_700a ++ bytes 19 0x3020_3020_300a_3020_3020_320a_3120_3135_2031_0a)
+    ∷ (bytes 18 0x7068_6173_6520_776f_726b_6572_2073_7465_700a ++ bytes 6 0x3020_3020_300a)
     ∷ bytes 13 0x7265_6675_7365_6420_3135_2031_0a
     ∷ bytes 13 0x7265_6675_7365_6420_3134_2030_0a
     ∷ bytes 12 0x7265_6675_7365_6420_3820_300a
     ∷ bytes 12 0x7265_6675_7365_6420_3120_300a
     ∷ bytes 12 0x7265_6675_7365_6420_3220_300a
     ∷ bytes 12 0x7265_6675_7365_6420_3520_350a
-    ∷ bytes 12 0x7265_6675_7365_6420_3520_350a
-    ∷ bytes 12 0x7265_6675_7365_6420_3520_350a
     ∷ []
 
 printed-as-shown : map (printed mostWorkers) inputs ≡ texts
-unfolding answer bytes ofKinds S fed inputs texts inputPolicy inputCount inputTree inputTrace digits decimal line heading
+unfolding answer bytes ofKinds S oneEnd fed inputs texts inputPolicy inputCount inputTree inputTrace digits decimal line heading
     phaseLines refusedLine phasesText printed flatten
 printed-as-shown = refl
 

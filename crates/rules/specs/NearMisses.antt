@@ -49,6 +49,7 @@ flat = ofKinds (flatten (replicate 15 (1 ∷ 3 ∷ [])) ++ (3 ∷ []))
 unfoldable allSteal : List ℕ
 allSteal = flatten (map (λ w. w ∷ 0 ∷ []) (count 1 15))
 
+-- Recordings, and idle workers.
 unfoldable schedules : List Row
 schedules =
     -- the steal takes the oldest step, 4, and leaves 3
@@ -60,7 +61,7 @@ schedules =
     -- and runs once 4 has run
     ∷ row (recording helpFirst S (bytes 20 0x0000_0000_0000_0100_0200_0300_0000_0303_0202_0101))
     (ran true (bytes 12 0x0100_0100_0200_0600_0300_0400))
-    -- worker 2 waits at 6, and is not idle: 0 and 4 to 15 are; so it is no thief
+    -- worker 2 waits at 6, and is not idle: 0 and 4 to 15 are; nor may it steal
     ∷ row (idling helpFirst S (bytes 14 0x0000_0000_0000_0100_0200_0300_0000)) (idle false 65521 13 0)
     ∷ row (recording helpFirst S (bytes 16 0x0000_0000_0000_0100_0200_0300_0000_0203)) (refused 11 7)
     -- 6 waits for 2, in the first async of two, though the second and the child's own steps have run
