@@ -286,6 +286,15 @@ steps-4096 : (t : List ℕ) → length t ≡ 32768 → wrongLength t ≡ true
 unfolding answer
 steps-4096 t e = rw e refl
 
+-- A first record of kind 0 is refused in a tree of 4,095 records; one of 4,096 is refused for its length.
+walked-4095 : (t : List ℕ) → length t ≡ 32752 → treeVerdict (replicate 8 0 ++ t) ≡ bad 3 0
+unfolding answer bad
+walked-4095 t e = rw e refl
+
+walked-4096 : (t : List ℕ) → length t ≡ 32760 → treeVerdict (replicate 8 0 ++ t) ≡ bad 2 0
+unfolding answer bad
+walked-4096 t e = rw e refl
+
 -- 8,192 events pass, and 8,193 do not.
 events-8192 : (es : List ℕ) → length es ≡ 16384 → wholeRecords 2 mostEvents es ≡ true
 unfolding answer
@@ -540,22 +549,20 @@ phases-replayed = refl
 
 -- ---- whole calls: the longest lists, by their length alone
 
--- What is said of a tree where one byte of events or trace is given and no buffer is lent: by the tree's own rules, the start,
--- recording, replay.
+-- What start, recording and replay say of a tree, where the events or the trace have one byte and the buffers none.
 unfoldable saidOf : List ℕ → List Verdict
 saidOf t =
-    treeVerdict t
-    ∷ startVerdict workFirst t
+    startVerdict workFirst t
     ∷ recordVerdict mostWorkers workFirst t (0 ∷ []) [] []
     ∷ replayVerdict mostWorkers workFirst t (0 ∷ []) []
     ∷ []
 
--- 4,095 records of which the first has kind 0 are walked, and 4,096 are not.
-said-of-4095 : (t : List ℕ) → length t ≡ 32752 → saidOf (replicate 8 0 ++ t) ≡ replicate 4 (bad 3 0)
+-- As the tree's own verdict, with 4,095 records and with 4,096.
+said-of-4095 : (t : List ℕ) → length t ≡ 32752 → saidOf (replicate 8 0 ++ t) ≡ replicate 3 (bad 3 0)
 unfolding answer bad saidOf
 said-of-4095 t e = rw e refl
 
-said-of-4096 : (t : List ℕ) → length t ≡ 32760 → saidOf (replicate 8 0 ++ t) ≡ replicate 4 (bad 2 0)
+said-of-4096 : (t : List ℕ) → length t ≡ 32760 → saidOf (replicate 8 0 ++ t) ≡ replicate 3 (bad 2 0)
 unfolding answer bad saidOf
 said-of-4096 t e = rw e refl
 
