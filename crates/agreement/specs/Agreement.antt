@@ -14,6 +14,7 @@ use Rattle.rules.specs.Scheduling.{mostWorkers, Entry, Steal}
 use Rattle.rules.specs.Calls.{Recorded, recordCall, Replayed, replayCall}
 use Rattle.run_invariant.specs.Invariant.{logOf, self}
 use Rattle.run_state.specs.declared.RunState.{RunState}
+use Rattle.run_spec.specs.declared.Event.{Event}
 use Rattle.run_spec.specs.declared.Outcome.{Outcome}
 use Rattle.run_spec.specs.declared.Outcome.the-variants.{Ran, Stole, Refused}
 use Rattle.run_state.specs.declared.Answer.{Answer}
@@ -21,11 +22,7 @@ use Rattle.run_state.specs.Contract.{startAnswer, eventAnswer}
 
 -- ---- the live run, by the calls of single events
 
--- An event's two bytes.
-pub record Event : Type 0 where
-  pub first : ℕ
-  pub second : ℕ
-
+-- The list of events as bytes.
 unfoldable pub eventBytes : List Event → List ℕ
 eventBytes es = flatten (map (λ e. e .first ∷ e .second ∷ []) es)
 

@@ -3,7 +3,8 @@ use Prim.Native.Nat.{ℕ}
 use mathlib.Core.Path.{_≡_}
 use mathlib.Core.List.{List}
 use Rattle.run_state.specs.Contract.{startAnswer}
-use Rattle.agreement.specs.Agreement.{Event, Agreement}
+use Rattle.run_spec.specs.declared.Event.{Event}
+use Rattle.agreement.specs.Agreement.{Agreement}
 use Rattle.agreement.specs.Laws.Whole.{agrees}
 
 pub same-phases : (p : ℕ) (tree : List ℕ) → startAnswer p tree .number ≡ 0 → (es : List Event) → Agreement p tree es

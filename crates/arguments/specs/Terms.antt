@@ -11,8 +11,8 @@ use Rattle.rules.specs.Calls.{mostEvents, mostTraceRecords, startVerdict}
 use Rattle.tree.specs.declared.Accepted.{Accepted}
 
 -- The refusal and position of a policy and a tree, or the tree's count of steps; what is not answered is 0.
-unfoldable pub admission : ℕ → List ℕ → Accepted
-admission p tree =
+unfoldable pub startJudged : ℕ → List ℕ → Accepted
+startJudged p tree =
     record {
       number = startVerdict p tree .number;
       position = startVerdict p tree .position;
@@ -24,8 +24,8 @@ unfoldable pub givenVerdict : ℕ → List ℕ → Bool → Bool → Verdict
 givenVerdict p tree whole short = firstRefused (startVerdict p tree ∷ refusedIf (not whole) 6 0 ∷ refusedIf short 7 0 ∷ [])
 
 -- The refusal and position, or the tree's count of steps; what is not answered is 0.
-unfoldable pub admitted : ℕ → List ℕ → Bool → Bool → Accepted
-admitted p tree whole short =
+unfoldable pub givenJudged : ℕ → List ℕ → Bool → Bool → Accepted
+givenJudged p tree whole short =
     let v = givenVerdict p tree whole short in
     record { number = v .number; position = v .position; steps = cond (eqb (v .number) 0) (length (kinds tree)) 0 }
 
@@ -34,13 +34,13 @@ unfoldable pub tooShort : ℕ → ℕ → ℕ → Bool
 tooShort n log trace = ltb log (4 * n) || ltb trace (2 * (n - 1))
 
 -- What is answered of a record call whose lent log and trace have so many bytes,
-unfoldable pub recordAdmitted : ℕ → List ℕ → List ℕ → ℕ → ℕ → Accepted
-recordAdmitted p tree events log trace =
-    admitted p tree (wholeRecords 2 mostEvents events) (tooShort (length (kinds tree)) log trace)
+unfoldable pub recordJudged : ℕ → List ℕ → List ℕ → ℕ → ℕ → Accepted
+recordJudged p tree events log trace =
+    givenJudged p tree (wholeRecords 2 mostEvents events) (tooShort (length (kinds tree)) log trace)
 
 -- and of a replay call whose lent run list has so many.
-unfoldable pub replayAdmitted : ℕ → List ℕ → List ℕ → ℕ → Accepted
-replayAdmitted p tree trace list = admitted p tree (wholeRecords 4 mostTraceRecords trace) (ltb list (4 * length (kinds tree)))
+unfoldable pub replayJudged : ℕ → List ℕ → List ℕ → ℕ → Accepted
+replayJudged p tree trace list = givenJudged p tree (wholeRecords 4 mostTraceRecords trace) (ltb list (4 * length (kinds tree)))
 
 -- Refusals 6 and 7 behind the answer on policy and tree.
 unfoldable pub judged : Accepted → Bool → Bool → Accepted

@@ -4,7 +4,7 @@ ghost use mathlib.Core.Path.{_≡_};
 ghost use Prim.Native.Nat.{_≤_};
 ghost use Rattle.rules.specs.Tree.{mostSteps};
 ghost use Rattle.tree.specs.declared.Accepted.{Accepted};
-ghost use Rattle.arguments.specs.Terms.{admission, judged, tooShort, recordAdmitted, replayAdmitted};
+ghost use Rattle.arguments.specs.Terms.{startJudged, judged, tooShort, recordJudged, replayJudged};
 use buffers::EVENT;
 use buffers::RECORD;
 use policy::HELP_FIRST;
@@ -18,7 +18,7 @@ pub const MOST_EVENTS: usize = 8192;
 
 // Judges a policy and a tree: refusals 1 to 5, or how many steps the tree has.
 pub fn judge_start(tree: &[u8], policy: u8) -> Accepted
-    ensures { λ r. ⌜ r ≡ admission policy (now (tree .entry)) ⌝ }
+    ensures { λ r. ⌜ r ≡ startJudged policy (now (tree .entry)) ⌝ }
 {
     if policy < WORK_FIRST {
         return Accepted {
@@ -78,7 +78,7 @@ fn too_short(steps: usize, log: usize, trace: usize) -> bool
 
 // Judges a record call whose lent log and trace have so many bytes: refusals 1 to 7, or how many steps the tree has.
 pub fn judge_record(tree: &[u8], policy: u8, events: &[u8], log: usize, trace: usize) -> Accepted
-    ensures { λ r. ⌜ r ≡ recordAdmitted policy (now (tree .entry)) (now (events .entry)) log trace ⌝ }
+    ensures { λ r. ⌜ r ≡ recordJudged policy (now (tree .entry)) (now (events .entry)) log trace ⌝ }
 {
     let start = judge_start(tree, policy);
     let whole = buffers::whole_records(events, EVENT, MOST_EVENTS);
@@ -88,7 +88,7 @@ pub fn judge_record(tree: &[u8], policy: u8, events: &[u8], log: usize, trace: u
 
 // Judges a replay call whose lent list has so many bytes: refusals 1 to 7, or how many steps the tree has.
 pub fn judge_replay(tree: &[u8], policy: u8, trace: &[u8], list: usize) -> Accepted
-    ensures { λ r. ⌜ r ≡ replayAdmitted policy (now (tree .entry)) (now (trace .entry)) list ⌝ }
+    ensures { λ r. ⌜ r ≡ replayJudged policy (now (tree .entry)) (now (trace .entry)) list ⌝ }
 {
     let start = judge_start(tree, policy);
     let whole = buffers::whole_records(trace, RECORD, MOST_STEALS);

@@ -6,7 +6,7 @@ ghost use lib.ListN.{length};
 ghost use Rattle.rules.specs.Tree.{mostSteps};
 ghost use Rattle.rules.specs.Calls.{mostTraceRecords, startVerdict};
 ghost use Rattle.record_walk.specs.Terms.{Walks};
-ghost use Rattle.record.specs.Body.Terms.{Admitted, Outcome};
+ghost use Rattle.record.specs.Body.Terms.{Admitted, Result};
 use buffers::RECORD;
 use policy::MOST_STEALS;
 use record_walk::Ended;
@@ -46,7 +46,7 @@ fn walk_events(tree: &[u8], policy: u8, events: &[u8], log: &mut [u8], trace: &m
 pub fn run(tree: &[u8], policy: u8, events: &[u8], log: &mut [u8], trace: &mut [u8]) -> Ended
     requires { ⌜ Admitted policy (now tree) (now log) (now trace) ⌝ }
     ensures { λ r.
-        ⌜ Outcome policy (now (tree .entry)) (now (events .entry)) (now (log .entry)) (now (trace .entry)) r
+        ⌜ Result policy (now (tree .entry)) (now (events .entry)) (now (log .entry)) (now (trace .entry)) r
         (now (log .exit)) (now (trace .exit)) ⌝ }
 {
     let mut own_log: [u8; LOG_BYTES] = [0; LOG_BYTES];

@@ -1,6 +1,6 @@
 // What an admitted replay comes to (document 01, "Trace, log, run list"): the trace is walked with the tree's tables, and the run
 // list is written once every record is accepted.
-ghost use Rattle.replay.specs.Body.Terms.{Admitted, Outcome};
+ghost use Rattle.replay.specs.Body.Terms.{Admitted, Result};
 use policy::MOST_PHASES;
 use replay_spec::FREE;
 use replay_walk::Ended;
@@ -10,7 +10,7 @@ use tree_tables::sums::SUMS;
 // Walks the trace of a tree of n steps. The lent list is written where no record is refused.
 pub fn run(tree: &[u8], policy: u8, trace: &[u8], n: usize, list: &mut [u8]) -> Ended
     requires { ⌜ Admitted policy (now tree) (now trace) n (now list) ⌝ }
-    ensures { λ r. ⌜ Outcome policy (now (tree .entry)) (now (trace .entry)) (now (list .entry)) r (now (list .exit)) ⌝ }
+    ensures { λ r. ⌜ Result policy (now (tree .entry)) (now (trace .entry)) (now (list .entry)) r (now (list .exit)) ⌝ }
 {
     let mut ends: [u16; MOST_STEPS] = [0; MOST_STEPS];
     let mut openers: [u16; MOST_STEPS] = [0; MOST_STEPS];

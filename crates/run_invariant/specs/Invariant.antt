@@ -64,10 +64,10 @@ Chained p ks [] = 0 ≤ 0
 Chained p ks (x ∷ r) = Chain p ks x r
 
 -- Each pending step's task ends just before the next older one, and the oldest's just before step e.
-abbrev pub Ends : List ℕ → List ℕ → ℕ → Type 0
-Ends ks [] e = 0 ≤ 0
-Ends ks (x ∷ []) e = taskEnd ks x ≡ e
-Ends ks (x ∷ y ∷ r) e = (taskEnd ks x ≡ y) × Ends ks (y ∷ r) e
+abbrev pub EndToEnd : List ℕ → List ℕ → ℕ → Type 0
+EndToEnd ks [] e = 0 ≤ 0
+EndToEnd ks (x ∷ []) e = taskEnd ks x ≡ e
+EndToEnd ks (x ∷ y ∷ r) e = (taskEnd ks x ≡ y) × EndToEnd ks (y ∷ r) e
 
 -- The step after the end of a phase's frontier task: the step last stolen from it, and the end of its first step's task before
 -- anything is.
@@ -95,7 +95,7 @@ pub record PhaseFacts (p : ℕ) (ks : List ℕ) (ph : Phase) (log stack : List �
       → log ++ runAlone gone p ks (length ks - length log) (pop (kept gone stack))
       ≡ runAlone gone p ks (length ks) (record { held = some (ph .first); deque = [] })
   -- Frontier, work-first: "the child whose end stands just before the step last stolen" is the oldest pending step's task.
-  pub frontier : p ≡ workFirst → Ends ks stack (frontierEnd ks ph)
+  pub frontier : p ≡ workFirst → EndToEnd ks stack (frontierEnd ks ph)
 
 -- ---- the whole run
 

@@ -1,6 +1,6 @@
 -- What is claimed of single events. From an accepted start on, whatever events follow, refused ones included: each event's
 -- outcome is the rules' word on it, the state then shows the rules' run, and its idle answers are the rules'. `outcomes` and
--- `stateAfter` are folds of `eventAnswer`, which is what the contract of `event` gives; `startAnswer` and `idleAnswer` are what
+-- `stateReached` are folds of `eventAnswer`, which is what the contract of `event` gives; `startAnswer` and `idleAnswer` are what
 -- those of `start` and `idle` give.
 use Prim.Native.Nat.{ℕ}
 use mathlib.Core.Path.{_≡_}
@@ -11,7 +11,7 @@ use Rattle.rules.specs.Calls.{afterEvents}
 use Rattle.run_invariant.specs.Invariant.{Invariant}
 use Rattle.run_state.specs.declared.RunState.{RunState}
 use Rattle.run_state.specs.Contract.{fields, startAnswer, idleAnswer}
-use Rattle.run_refinement.specs.Tie.{Shows, toldAll, outcomes, stateAfter}
+use Rattle.run_refinement.specs.Tie.{Shows, toldAll, outcomes, stateReached}
 
 module _ (p : ℕ) (tree : List ℕ) (es : List (List ℕ)) where
   -- The rules' run of the events, and the state after their calls.
@@ -19,7 +19,7 @@ module _ (p : ℕ) (tree : List ℕ) (es : List (List ℕ)) where
   ruled = afterEvents p (kinds tree) (start mostWorkers) es
 
   unfoldable pub reached : RunState
-  reached = stateAfter tree (startAnswer p tree .state) es
+  reached = stateReached tree (startAnswer p tree .state) es
 
   pub record Follows : Type 0 where
     pub invariant : Invariant p (kinds tree) ruled

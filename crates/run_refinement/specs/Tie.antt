@@ -123,6 +123,6 @@ outcomes tree s (e ∷ es) =
     let answer = eventAnswer s tree (getD e 0 0) (getD e 1 0) in
     answer .outcome ∷ outcomes tree (answer .state) es
 
-unfoldable pub stateAfter : List ℕ → RunState → List (List ℕ) → RunState
-stateAfter tree s [] = s
-stateAfter tree s (e ∷ es) = stateAfter tree (eventAnswer s tree (getD e 0 0) (getD e 1 0) .state) es
+unfoldable pub stateReached : List ℕ → RunState → List (List ℕ) → RunState
+stateReached tree s [] = s
+stateReached tree s (e ∷ es) = stateReached tree (eventAnswer s tree (getD e 0 0) (getD e 1 0) .state) es

@@ -21,7 +21,8 @@ use Rattle.tree_scan.specs.Laws.Starts.{start-tree-accepts}
 use Rattle.run_refinement.specs.Tie.{Shows, told}
 use Rattle.run_refinement.specs.Laws.Events.{start-shows, event-tells, event-shows}
 use Rattle.agreement.specs.Laws.Folds.{AcceptedTo}
-use Rattle.agreement.specs.Agreement.{Event, eventBytes, call, refusalOf, stole, stateAfter, liveRun, liveSteals, runsIn}
+use Rattle.run_spec.specs.declared.Event.{Event}
+use Rattle.agreement.specs.Agreement.{eventBytes, call, refusalOf, stole, stateAfter, liveRun, liveSteals, runsIn}
 
 -- An event's bytes, as the rules take an event.
 unfoldable pub pair : Event → List ℕ

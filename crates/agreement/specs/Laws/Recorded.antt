@@ -21,7 +21,8 @@ use Rattle.run_invariant.specs.Laws.Consequences.{runs-most, steals-most}
 use Rattle.arguments.specs.Terms.{tooShort}
 use Rattle.record.specs.Laws.Cases.{Ready, record-event, record-all}
 use Rattle.agreement.specs.Laws.Folds.{AcceptedTo, accepted-walks, refused-walks, walk-folds, counts}
-use Rattle.agreement.specs.Agreement.{Event, eventBytes, shortOutputs}
+use Rattle.run_spec.specs.declared.Event.{Event}
+use Rattle.agreement.specs.Agreement.{eventBytes, shortOutputs}
 use Rattle.agreement.specs.Laws.Live.{pair, event-records}
 
 -- ---- bytes

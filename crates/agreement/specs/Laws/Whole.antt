@@ -21,7 +21,8 @@ use Rattle.replay_invariant.specs.Laws.Always.{always-split}
 use Rattle.replay_invariant.specs.Laws.Traces.{trace-replays}
 use Rattle.replay_invariant.specs.Laws.Consequences.{list-none, list-length, list-once, list-within}
 use Rattle.run_state.specs.Contract.{startAnswer}
-use Rattle.agreement.specs.Agreement.{Event, entriesOf, replayedWorkers, liveWorkers, shortOutputs, shortList, live, steals}
+use Rattle.run_spec.specs.declared.Event.{Event}
+use Rattle.agreement.specs.Agreement.{entriesOf, replayedWorkers, liveWorkers, shortOutputs, shortList, live, steals}
 use Rattle.agreement.specs.Agreement.{recorded, traced, logged, replayed, listed, Same, Agreement}
 use Rattle.agreement.specs.Laws.Live.{pair, runAfter, call-number, live-same, live-accepted, live-runs, live-steals}
 use Rattle.agreement.specs.Laws.Records.{Small, entries-back, trace-back, workers-back}

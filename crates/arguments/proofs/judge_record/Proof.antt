@@ -3,7 +3,7 @@
 use Prim.Native.Nat.{ℕ}
 use mathlib.Core.Path.{_∙_}
 use borrow.Author.Needs.{needs}
-use Rattle.arguments.specs.Terms.{tooShort, recordAdmitted}
+use Rattle.arguments.specs.Terms.{tooShort, recordJudged}
 use Rattle.arguments.specs.Laws.Cases.{few-steps, judged-is}
 use Rattle.arguments.proofs.judge_record.Statement.{statement}
 use Rattle.arguments.proofs.judge_record.Tie as tie
@@ -23,7 +23,7 @@ judge-call-requires : tie.Need-judge-call-requires
 judge-call-requires c κs = search needs
 
 returns : tie.Need-returns
-unfolding recordAdmitted
+unfolding recordJudged
 returns c =
     let short = c .before in
     let whole = short .before in

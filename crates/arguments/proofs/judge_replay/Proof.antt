@@ -5,7 +5,7 @@ use mathlib.Core.Path.{_∙_}
 use native.Mathlib.Omega.{arith}
 use lib.Dec.{ltb}
 use borrow.Author.Needs.{needs}
-use Rattle.arguments.specs.Terms.{replayAdmitted}
+use Rattle.arguments.specs.Terms.{replayJudged}
 use Rattle.arguments.specs.Laws.Cases.{few-steps, judged-is}
 use Rattle.arguments.proofs.judge_replay.Statement.{statement}
 use Rattle.arguments.proofs.judge_replay.Tie as tie
@@ -26,7 +26,7 @@ judge-call-requires : tie.Need-judge-call-requires
 judge-call-requires c κs = search needs
 
 returns : tie.Need-returns
-unfolding replayAdmitted
+unfolding replayJudged
 returns c =
     let whole = c .before .before in
     let start = whole .before in

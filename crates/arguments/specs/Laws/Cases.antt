@@ -14,37 +14,37 @@ use Rattle.rules.specs.Tree.{kinds}
 use Rattle.rules.specs.Calls.{startVerdict}
 use Rattle.tree.specs.declared.Accepted.{Accepted}
 use Rattle.tree.specs.Laws.Verdicts.{first-accepts}
-use Rattle.arguments.specs.Terms.{admission}
+use Rattle.arguments.specs.Terms.{startJudged}
 use Rattle.tree_scan.specs.Laws.Starts.{admitted-position}
 use Rattle.arguments.specs.Laws.Starts.{start-judged, start-begins, begun-steps}
-use Rattle.arguments.specs.Terms.{givenVerdict, admitted, judged}
+use Rattle.arguments.specs.Terms.{givenVerdict, givenJudged, judged}
 
 -- ---- the code's answer
 
 module _ (p : ℕ) (tree : List ℕ) where
   -- The start is accepted.
   past-start : startVerdict p tree .number ≡ 0 → (whole short : Bool)
-      → judged (admission p tree) whole short ≡ admitted p tree whole short
-  unfolding judged admission admitted givenVerdict firstRefused refusedIf accepted
+      → judged (startJudged p tree) whole short ≡ givenJudged p tree whole short
+  unfolding judged startJudged givenJudged givenVerdict firstRefused refusedIf accepted
   past-start z true true = rw (eq-eqb (startVerdict p tree .number) 0 z) refl
   past-start z true false = rw (eq-eqb (startVerdict p tree .number) 0 z, z, admitted-position p tree z) refl
   past-start z false short = rw (eq-eqb (startVerdict p tree .number) 0 z) refl
 
   -- It is refused, whatever the other tests say.
   at-start : (startVerdict p tree .number ≡ 0 → ⊥) → (whole short other : Bool)
-      → judged (admission p tree) whole short ≡ admitted p tree whole other
-  unfolding judged admission admitted givenVerdict firstRefused
+      → judged (startJudged p tree) whole short ≡ givenJudged p tree whole other
+  unfolding judged startJudged givenJudged givenVerdict firstRefused
   at-start n whole short other =
       let no = ne-eqb (startVerdict p tree .number) 0 n in
       rw (no, no) refl
 
-  module _ (a : Accepted) (is : a ≡ admission p tree) where
+  module _ (a : Accepted) (is : a ≡ startJudged p tree) where
     numbered : startVerdict p tree .number ≡ a .number
     numbered = sym (ap (λ (v : Verdict). v .number) (start-judged p tree a is))
 
     -- Not too many steps: none where the start is refused.
     pub few-steps : a .steps ≤ 4095
-    unfolding admission
+    unfolding startJudged
     few-steps =
         elim (ℕ-discrete (a .number) 0) [
           | yes z ↦ begun-steps (start-begins p tree a is z) .1
@@ -53,7 +53,7 @@ module _ (p : ℕ) (tree : List ℕ) where
 
     -- The answer, where the lent outputs are judged by the count of steps.
     pub judged-is : (whole : Bool) (short : ℕ → Bool)
-        → judged a whole (short (a .steps)) ≡ admitted p tree whole (short (length (kinds tree)))
+        → judged a whole (short (a .steps)) ≡ givenJudged p tree whole (short (length (kinds tree)))
     judged-is whole short =
         elim (ℕ-discrete (a .number) 0) [
           | yes z ↦
@@ -103,9 +103,9 @@ module _ (p : ℕ) (tree : List ℕ) where
   one-refused false short n last = refl
 
 -- What the answer says.
-module _ (p : ℕ) (tree : List ℕ) (whole short : Bool) (a : Accepted) (is : a ≡ admitted p tree whole short) where
+module _ (p : ℕ) (tree : List ℕ) (whole short : Bool) (a : Accepted) (is : a ≡ givenJudged p tree whole short) where
   told : _≡_ {A = Verdict} (record { number = a .number; position = a .position }) (givenVerdict p tree whole short)
-  unfolding admitted
+  unfolding givenJudged
   told = ap {B = Verdict} (λ (x : Accepted). record { number = x .number; position = x .position }) is
 
   number : givenVerdict p tree whole short .number ≡ a .number
@@ -120,5 +120,5 @@ module _ (p : ℕ) (tree : List ℕ) (whole short : Bool) (a : Accepted) (is : a
     given = none-refused p tree whole short (number ∙ z)
 
     pub given-steps : a .steps ≡ length (kinds tree)
-    unfolding admitted
+    unfolding givenJudged
     given-steps = ap (λ (x : Accepted). x .steps) is ∙ rw (eq-eqb (givenVerdict p tree whole short .number) 0 (number ∙ z)) refl

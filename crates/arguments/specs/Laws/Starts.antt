@@ -17,7 +17,7 @@ use Rattle.tree.specs.Contract.{acceptance}
 use Rattle.tree.specs.Laws.Verdicts.{first-position}
 use Rattle.tree_scan.specs.Laws.Starts.{start-tree-accepts}
 use Rattle.tree_scan.specs.Laws.Frames.{accepted-frame}
-use Rattle.arguments.specs.Terms.{admission}
+use Rattle.arguments.specs.Terms.{startJudged}
 
 -- One condition alone decides.
 alone : (v : Verdict) → (v .number ≡ 0 → v .position ≡ 0) → firstRefused (v ∷ []) ≡ v
@@ -41,10 +41,10 @@ tree-position tree e =
 -- ---- each answer
 
 module _ (p : ℕ) (tree : List ℕ) where
-  pub admission-policy : (p ≡ 1 → ⊥) → (p ≡ 2 → ⊥)
-      → _≡_ {A = Accepted} (record { number = 1; position = 0; steps = 0 }) (admission p tree)
-  unfolding admission startVerdict firstRefused refusedIf
-  admission-policy n m = rw (ne-eqb p 1 n, ne-eqb p 2 m) refl
+  pub start-policy : (p ≡ 1 → ⊥) → (p ≡ 2 → ⊥)
+      → _≡_ {A = Accepted} (record { number = 1; position = 0; steps = 0 }) (startJudged p tree)
+  unfolding startJudged startVerdict firstRefused refusedIf
+  start-policy n m = rw (ne-eqb p 1 n, ne-eqb p 2 m) refl
 
   -- The policy is one of the two, so the tree decides.
   by-tree : (1 ≤ p) × (p ≤ 2) → startVerdict p tree ≡ firstRefused (treeVerdict tree ∷ [])
@@ -55,16 +55,16 @@ module _ (p : ℕ) (tree : List ℕ) where
         | no n ↦ rw (eq-eqb p 2 (omega arith), or-true (eqb p 1)) refl
       ]
 
-  pub admission-tree : (1 ≤ p) × (p ≤ 2) → (r : Accepted) → r ≡ acceptance tree → r ≡ admission p tree
-  unfolding admission acceptance
-  admission-tree h r e = rw (by-tree h, alone (treeVerdict tree) (tree-position tree)) e
+  pub start-tree : (1 ≤ p) × (p ≤ 2) → (r : Accepted) → r ≡ acceptance tree → r ≡ startJudged p tree
+  unfolding startJudged acceptance
+  start-tree h r e = rw (by-tree h, alone (treeVerdict tree) (tree-position tree)) e
 
 -- ---- what the answer says
 
 -- The start's verdict is the rules'.
-pub start-judged : (p : ℕ) (tree : List ℕ) (a : Accepted) → a ≡ admission p tree
+pub start-judged : (p : ℕ) (tree : List ℕ) (a : Accepted) → a ≡ startJudged p tree
     → _≡_ {A = Verdict} (record { number = a .number; position = a .position }) (startVerdict p tree)
-unfolding admission
+unfolding startJudged
 start-judged p tree a e = ap {B = Verdict} (λ (x : Accepted). record { number = x .number; position = x .position }) e
 
 -- What is known once the start is accepted: n is the count of steps.
@@ -72,8 +72,8 @@ pub record Begun (p : ℕ) (tree : List ℕ) (n : ℕ) : Type 0 where
   pub fine : startVerdict p tree .number ≡ 0
   pub steps : n ≡ length (kinds tree)
 
-pub start-begins : (p : ℕ) (tree : List ℕ) (a : Accepted) → a ≡ admission p tree → a .number ≡ 0 → Begun p tree (a .steps)
-unfolding admission
+pub start-begins : (p : ℕ) (tree : List ℕ) (a : Accepted) → a ≡ startJudged p tree → a .number ≡ 0 → Begun p tree (a .steps)
+unfolding startJudged
 start-begins p tree a e z =
     let fine = sym (ap (λ (v : Verdict). v .number) (start-judged p tree a e)) ∙ z in
     record {

@@ -3,7 +3,7 @@
 use mathlib.Core.Path.{_≡_}
 use lib.ListN.{length}
 use borrow.Author.Needs.{needs}
-use Rattle.arguments.specs.Terms.{recordAdmitted}
+use Rattle.arguments.specs.Terms.{recordJudged}
 use Rattle.record.specs.Laws.Cases.{record-ready, ready-admitted}
 use Rattle.record.specs.Laws.Results.{given-refusal, some-steps, walk-answered}
 use Rattle.record.proofs.record.Statement.{statement}
@@ -15,7 +15,7 @@ entry c = c .before .before .before .before .before
 
 judged : (c : tie.After-judge-record)
     → let a = entry c .args in
-    c .judge-record .result ≡ recordAdmitted (a .policy) (a .tree .now) (a .events .now) (length (a .log .now)) (length (a .trace .now))
+    c .judge-record .result ≡ recordJudged (a .policy) (a .tree .now) (a .events .now) (length (a .log .now)) (length (a .trace .now))
 judged c = c .judge-record .ensures
 
 -- The events have been walked.

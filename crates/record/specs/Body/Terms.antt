@@ -28,7 +28,7 @@ pub record Told (p : ℕ) (tree : List ℕ) (s : Run) (log trace : List ℕ) (r 
   pub traced : trace-after ≡ written (traceBytes p (kinds tree) (s .steals)) trace
 
 -- The verdict on the events; then either log and trace are as they were, or the run of the events is answered.
-pub record Outcome (p : ℕ) (tree events log trace : List ℕ) (r : Ended) (log-after trace-after : List ℕ) : Type 0 where
+pub record Result (p : ℕ) (tree events log trace : List ℕ) (r : Ended) (log-after trace-after : List ℕ) : Type 0 where
   pub number : r .number ≡ recordWalk mostWorkers p (kinds tree) (records 2 events) .verdict .number
   pub position : r .position ≡ recordWalk mostWorkers p (kinds tree) (records 2 events) .verdict .position
   pub same : (r .number ≡ 0 → ⊥) → (log-after ≡ log) × (trace-after ≡ trace)

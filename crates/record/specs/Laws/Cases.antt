@@ -11,7 +11,7 @@ use Rattle.rules.specs.Scheduling.{mostWorkers}
 use Rattle.rules.specs.Calls.{mostEvents, startVerdict, recordWalk, recordVerdict, recordOf, recordRefused, recordCall}
 use Rattle.tree.specs.declared.Accepted.{Accepted}
 use Rattle.tree.specs.Laws.Verdicts.{or-none, first-accepts}
-use Rattle.arguments.specs.Terms.{tooShort, recordAdmitted}
+use Rattle.arguments.specs.Terms.{tooShort, recordJudged}
 use Rattle.arguments.specs.Laws.Cases.{Given, given-last, given-refused, given}
 use Rattle.record.specs.Body.Terms.{Admitted}
 
@@ -57,15 +57,15 @@ module _ (p : ℕ) (tree events log trace : List ℕ) where
   unfolding recordCall
   by-refused v e n = rw (e, ne-eqb (v .number) 0 n) refl
 
-  module _ (a : Accepted) (is : a ≡ recordAdmitted p tree events (length log) (length trace)) where
+  module _ (a : Accepted) (is : a ≡ recordJudged p tree events (length log) (length trace)) where
     pub record-given : (a .number ≡ 0 → ⊥)
         → recordRefused mostWorkers (record { number = a .number; position = a .position }) log trace
         ≡ recordCall mostWorkers p tree events log trace
-    unfolding recordVerdict recordAdmitted tooShort
+    unfolding recordVerdict recordJudged tooShort
     record-given n = by-refused _ (given-refused p tree _ _ a is n _) n
 
     pub record-ready : a .number ≡ 0 → Ready p tree events log trace
-    unfolding recordAdmitted
+    unfolding recordJudged
     record-ready z = given p tree _ _ a is z
 
   module _ (ready : Ready p tree events log trace) where

@@ -15,9 +15,9 @@ use Rattle.tree.specs.declared.Accepted.{Accepted}
 use Rattle.tree_scan.specs.Laws.Starts.{start-tree-accepts}
 use Rattle.tree_scan.specs.Laws.Frames.{accepted-frame}
 use Rattle.record_walk.specs.declared.Ended.{Ended}
-use Rattle.arguments.specs.Terms.{recordAdmitted}
+use Rattle.arguments.specs.Terms.{recordJudged}
 use Rattle.arguments.specs.Laws.Cases.{given-steps}
-use Rattle.record.specs.Body.Terms.{Outcome}
+use Rattle.record.specs.Body.Terms.{Result}
 use Rattle.record.specs.declared.answer.Recorded.{Recorded}
 use Rattle.record.specs.Answer.Terms.{refusal, answered}
 use Rattle.record.specs.Contract.{answers}
@@ -44,19 +44,19 @@ run-answers : (p : ℕ) (tree : List ℕ) (r : Run) (log trace : List ℕ) (logs
 unfolding answers recordOf accepted
 run-answers p tree r log trace logs steals done ls e f g h = rw (e, f, g, h) refl
 
-module _ (p : ℕ) (tree events log trace : List ℕ) (a : Accepted) (is : a ≡ recordAdmitted p tree events (length log) (length trace)) where
+module _ (p : ℕ) (tree events log trace : List ℕ) (a : Accepted) (is : a ≡ recordJudged p tree events (length log) (length trace)) where
   pub given-refusal : (a .number ≡ 0 → ⊥) → (r : Recorded) → r ≡ refusal (a .number) (a .position)
       → Meets (recordCall mostWorkers p tree events log trace) r log trace
   given-refusal n = refusal-meets _ log trace _ (record-given p tree events log trace a is n)
 
   pub some-steps : a .number ≡ 0 → 1 ≤ a .steps
-  unfolding recordAdmitted
+  unfolding recordJudged
   some-steps z =
       let ready = record-ready p tree events log trace a is z in
       rw (given-steps p tree _ _ a is z) (accepted-frame tree (start-tree-accepts p tree (ready .started)) .some)
 
   -- The walk over the events, and the answer on what it comes to.
-  module _ (z : a .number ≡ 0) (w : Ended) (log-out trace-out : List ℕ) (so : Outcome p tree events log trace w log-out trace-out)
+  module _ (z : a .number ≡ 0) (w : Ended) (log-out trace-out : List ℕ) (so : Result p tree events log trace w log-out trace-out)
       (r : Recorded) (answer : r ≡ answered (w .number) (w .position) (w .logs) (w .steals) (a .steps - 1) (w .loads)) where
     event-refusal : (w .number ≡ 0 → ⊥) → Meets (recordCall mostWorkers p tree events log trace) r log-out trace-out
     unfolding answered
@@ -70,7 +70,7 @@ module _ (p : ℕ) (tree events log trace : List ℕ) (a : Accepted) (is : a ≡
         rw (kept .0, kept .1) (refusal-meets v log trace _ call r (answer ∙ rw (ne-eqb (w .number) 0 n) refl))
 
     all-answered : w .number ≡ 0 → Meets (recordCall mostWorkers p tree events log trace) r log-out trace-out
-    unfolding answered recordOf recordAdmitted
+    unfolding answered recordOf recordJudged
     all-answered none =
         let told = so .told none in
         let steps = given-steps p tree _ _ a is z in

@@ -3,7 +3,7 @@
 use mathlib.Core.Path.{_≡_}
 use lib.ListN.{length}
 use borrow.Author.Needs.{needs}
-use Rattle.arguments.specs.Terms.{replayAdmitted}
+use Rattle.arguments.specs.Terms.{replayJudged}
 use Rattle.replay.specs.Laws.Cases.{replay-ready}
 use Rattle.replay.specs.Laws.Results.{given-refusal, walk-answered}
 use Rattle.replay.proofs.replay.Statement.{statement}
@@ -15,7 +15,7 @@ entry c = c .before .before .before .before
 
 judged : (c : tie.After-judge-replay)
     → let a = entry c .args in
-    c .judge-replay .result ≡ replayAdmitted (a .policy) (a .tree .now) (a .trace .now) (length (a .list .now))
+    c .judge-replay .result ≡ replayJudged (a .policy) (a .tree .now) (a .trace .now) (length (a .list .now))
 judged c = c .judge-replay .ensures
 
 judge-replay-requires : tie.Need-judge-replay-requires

@@ -21,7 +21,7 @@ pub record Admitted (p : ℕ) (tree trace : List ℕ) (n : ℕ) (list : List ℕ
 
 -- The verdict on the trace's records; then either the lent list is as it was, or the phases are answered and their run list
 -- stands at the front of it.
-pub record Outcome (p : ℕ) (tree trace list : List ℕ) (r : Ended) (after : List ℕ) : Type 0 where
+pub record Result (p : ℕ) (tree trace list : List ℕ) (r : Ended) (after : List ℕ) : Type 0 where
   pub number : r .number ≡ ruled p tree trace .verdict .number
   pub position : r .position ≡ ruled p tree trace .verdict .position
   pub same : (r .number ≡ 0 → ⊥) → after ≡ list

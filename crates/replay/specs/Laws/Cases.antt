@@ -10,7 +10,7 @@ use Rattle.rules.specs.Scheduling.{mostWorkers}
 use Rattle.rules.specs.Traces.{replayWalk}
 use Rattle.rules.specs.Calls.{replayVerdict, replayOf, replayRefused, replayCall}
 use Rattle.tree.specs.declared.Accepted.{Accepted}
-use Rattle.arguments.specs.Terms.{replayAdmitted}
+use Rattle.arguments.specs.Terms.{replayJudged}
 use Rattle.arguments.specs.Laws.Cases.{given-last, given-refused, given, given-steps}
 use Rattle.replay.specs.Body.Terms.{Admitted}
 
@@ -21,15 +21,15 @@ module _ (p : ℕ) (tree trace list : List ℕ) where
   unfolding replayCall
   by-refused v e n = rw (e, ne-eqb (v .number) 0 n) refl
 
-  module _ (a : Accepted) (is : a ≡ replayAdmitted p tree trace (length list)) where
+  module _ (a : Accepted) (is : a ≡ replayJudged p tree trace (length list)) where
     pub replay-given : (a .number ≡ 0 → ⊥)
         → replayRefused mostWorkers (record { number = a .number; position = a .position }) list ≡ replayCall mostWorkers p tree trace list
-    unfolding replayVerdict replayAdmitted
+    unfolding replayVerdict replayJudged
     replay-given n = by-refused _ (given-refused p tree _ _ a is n _) n
 
     module _ (z : a .number ≡ 0) where
       pub replay-ready : Admitted p tree trace (a .steps) list
-      unfolding replayAdmitted
+      unfolding replayJudged
       replay-ready =
           let g = given p tree _ _ a is z in
           record {
@@ -42,7 +42,7 @@ module _ (p : ℕ) (tree trace list : List ℕ) where
       -- The trace's records decide.
       by-walk : replayVerdict mostWorkers p tree trace list
           ≡ firstRefused (replayWalk mostWorkers p (kinds tree) (records 4 trace) .verdict ∷ [])
-      unfolding replayVerdict replayAdmitted
+      unfolding replayVerdict replayJudged
       by-walk = given-last (given p tree _ _ a is z) _
 
       pub record-refused : (v : Verdict) → v ≡ replayWalk mostWorkers p (kinds tree) (records 4 trace) .verdict → (v .number ≡ 0 → ⊥)

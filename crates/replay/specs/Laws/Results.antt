@@ -12,8 +12,8 @@ use Rattle.rules.specs.Traces.{replayWalk, loads, heaviest}
 use Rattle.rules.specs.Calls.{replayOf, replayRefused, replayCall, Replayed as Call}
 use Rattle.tree.specs.declared.Accepted.{Accepted}
 use Rattle.replay_walk.specs.declared.Ended.{Ended}
-use Rattle.arguments.specs.Terms.{replayAdmitted}
-use Rattle.replay.specs.Body.Terms.{Outcome}
+use Rattle.arguments.specs.Terms.{replayJudged}
+use Rattle.replay.specs.Body.Terms.{Result}
 use Rattle.replay.specs.declared.answer.Replayed.{Replayed}
 use Rattle.replay.specs.Answer.Terms.{refusal, answered}
 use Rattle.replay.specs.Contract.{answers}
@@ -37,13 +37,13 @@ phase-answers : (p : ℕ) (tree : List ℕ) (phs : List Phase) (list : List ℕ)
 unfolding answers replayOf accepted
 phase-answers p tree phs list many ls e f = rw (e, f) refl
 
-module _ (p : ℕ) (tree trace list : List ℕ) (a : Accepted) (is : a ≡ replayAdmitted p tree trace (length list)) where
+module _ (p : ℕ) (tree trace list : List ℕ) (a : Accepted) (is : a ≡ replayJudged p tree trace (length list)) where
   pub given-refusal : (a .number ≡ 0 → ⊥) → (r : Replayed) → r ≡ refusal (a .number) (a .position)
       → Meets (replayCall 16 p tree trace list) r list
   given-refusal n = refusal-meets _ list _ (replay-given p tree trace list a is n)
 
   -- The walk over the trace's records, and the answer on what it comes to.
-  module _ (z : a .number ≡ 0) (w : Ended) (out : List ℕ) (so : Outcome p tree trace list w out)
+  module _ (z : a .number ≡ 0) (w : Ended) (out : List ℕ) (so : Result p tree trace list w out)
       (r : Replayed) (answer : r ≡ answered (w .number) (w .position) (w .phases) (w .loads)) where
     record-refusal : (w .number ≡ 0 → ⊥) → Meets (replayCall 16 p tree trace list) r out
     unfolding answered

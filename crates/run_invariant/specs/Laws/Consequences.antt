@@ -20,7 +20,7 @@ use Rattle.rules.specs.Calls.{finished}
 use Rattle.tree_scan.specs.Laws.Shape.{Shape, odd}
 use Rattle.tree_scan.specs.Laws.Frames.{endAt, sizeAt, end-size}
 use Rattle.tree_scan.specs.Laws.Places.{last-step}
-use Rattle.run_invariant.specs.Invariant.{Weighs, self, opening, stack, logOf, pending, Chain, Chained, Ends, frontierEnd}
+use Rattle.run_invariant.specs.Invariant.{Weighs, self, opening, stack, logOf, pending, Chain, Chained, EndToEnd, frontierEnd}
 use Rattle.run_invariant.specs.Invariant.{PhaseFacts, Invariant}
 use Rattle.run_invariant.specs.Laws.Counts.{all-count, count-all, Has, has-head, has-cases, has-none, has-sum, all-members}
 use Rattle.run_invariant.specs.Laws.Counts.{no-members, kept-members, sum-ones, sum-at, sum-below, sum-none, any-sum}
@@ -78,7 +78,7 @@ module _ (p : ℕ) (ks : List ℕ) (sh : Shape (length ks) (endAt ks) (sizeAt ks
       by (some t) e = rw (e, frontierEnd, frontier) refl
 
   -- The oldest pending step's task ends at the frontier.
-  ends-oldest : (y : ℕ) (r : List ℕ) (e : ℕ) → Ends ks (y ∷ r) e → taskEnd ks (oldest (y ∷ r)) ≡ e
+  ends-oldest : (y : ℕ) (r : List ℕ) (e : ℕ) → EndToEnd ks (y ∷ r) e → taskEnd ks (oldest (y ∷ r)) ≡ e
   unfolding oldest
   ends-oldest y [] e t = t
   ends-oldest y (z ∷ r) e t = ends-oldest z r e (t .1)

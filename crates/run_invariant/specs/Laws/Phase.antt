@@ -14,7 +14,7 @@ use Rattle.rules.specs.Traces.{lastStolen, runAlone}
 use Rattle.tree.specs.Laws.Verdicts.{or-none}
 use Rattle.tree_scan.specs.Laws.Shape.{Shape}
 use Rattle.tree_scan.specs.Laws.Frames.{endAt, sizeAt}
-use Rattle.run_invariant.specs.Invariant.{stack, Weighs, Chain, Pushed, Chained, Ends, frontierEnd, kept, PhaseFacts}
+use Rattle.run_invariant.specs.Invariant.{stack, Weighs, Chain, Pushed, Chained, EndToEnd, frontierEnd, kept, PhaseFacts}
 use Rattle.run_invariant.specs.Laws.Counts.{and-both, sum-ones}
 use Rattle.run_invariant.specs.Laws.Weights.{sum-append, end-within, cont-inside, size-weighs, run-weighs, holds-inside}
 use Rattle.run_invariant.specs.Laws.Weights.{pushes-inside, nested-end, pushed-within}
@@ -57,15 +57,15 @@ oldest-last (x ∷ []) n = refl
 oldest-last (x ∷ y ∷ r) n = ap (λ (l : List ℕ). x ∷ l) (oldest-last (y ∷ r) (omega arith))
 
 module _ (ks : List ℕ) (e : ℕ) where
-  ends-same : (x y : ℕ) (r : List ℕ) → taskEnd ks y ≡ taskEnd ks x → Ends ks (x ∷ r) e → Ends ks (y ∷ r) e
+  ends-same : (x y : ℕ) (r : List ℕ) → taskEnd ks y ≡ taskEnd ks x → EndToEnd ks (x ∷ r) e → EndToEnd ks (y ∷ r) e
   ends-same x y [] same h = same ∙ h
   ends-same x y (z ∷ r) same h = (same ∙ h .0, h .1)
 
-  ends-rest : (x : ℕ) (r : List ℕ) → Ends ks (x ∷ r) e → Ends ks r e
+  ends-rest : (x : ℕ) (r : List ℕ) → EndToEnd ks (x ∷ r) e → EndToEnd ks r e
   ends-rest x [] h = omega arith
   ends-rest x (y ∷ r) h = h .1
 
-  ends-robbed : (x : ℕ) (front : List ℕ) (o : ℕ) → Ends ks (x ∷ front ++ (o ∷ [])) e → Ends ks (x ∷ front) o
+  ends-robbed : (x : ℕ) (front : List ℕ) (o : ℕ) → EndToEnd ks (x ∷ front ++ (o ∷ [])) e → EndToEnd ks (x ∷ front) o
   ends-robbed x [] o h = h .0
   ends-robbed x (y ∷ front) o h = (h .0, ends-robbed y front o (h .1))
 
@@ -179,7 +179,7 @@ module _ (p : ℕ) (ks : List ℕ) (sh : Shape (length ks) (endAt ks) (sizeAt ks
         → ((whole each : ℕ → ℕ) → Weighs ks whole each → each i + sum whole next ≡ whole i + sum whole deque)
         → Chained p ks next
         → ((gone : ℕ → Bool) → any gone (take 1 next) ≡ false → pop (kept gone next) ≡ afterRun gone p ks i (kept gone deque))
-        → (p ≡ workFirst → Ends ks next (frontierEnd ks ph))
+        → (p ≡ workFirst → EndToEnd ks next (frontierEnd ks ph))
         → PhaseFacts p ks ph (log ++ (i ∷ [])) next
     unfolding sum any
     runs-into next weighs chain alone ends =

@@ -21,7 +21,7 @@ use Rattle.run_spec.specs.Numbers.{numberBy, numberValue}
 use Rattle.run_spec.specs.Moves.{fresh}
 use Rattle.run_state.specs.declared.RunState.{RunState}
 use Rattle.run_state.specs.Contract.{fields, stateOf, startAnswer, eventAnswer, idleAnswer}
-use Rattle.run_refinement.specs.Tie.{Shows, toldAll, outcomes, stateAfter}
+use Rattle.run_refinement.specs.Tie.{Shows, toldAll, outcomes, stateReached}
 use Rattle.run_refinement.specs.Follows.{Follows, ruled, reached}
 use Rattle.run_refinement.specs.Laws.Events.{start-shows, event-tells, event-shows, idle-set-shown, idle-count-shown}
 use Rattle.run_refinement.specs.Laws.Events.{idle-lowest-shown}
@@ -39,8 +39,8 @@ module _ (p : ℕ) (tree : List ℕ) (frame : Frame tree) where
   -- From any state that shows a run on: both go on alike.
   along : (es : List (List ℕ)) (s : RunState) (r : Run) → Invariant p (kinds tree) r → Shows p (kinds tree) (fields s) r
       → (outcomes tree s es ≡ toldAll p (kinds tree) r es)
-      × Shows p (kinds tree) (fields (stateAfter tree s es)) (afterEvents p (kinds tree) r es)
-  unfolding outcomes toldAll stateAfter afterEvents eventAnswer
+      × Shows p (kinds tree) (fields (stateReached tree s es)) (afterEvents p (kinds tree) r es)
+  unfolding outcomes toldAll stateReached afterEvents eventAnswer
   along [] s r inv shows = (refl, shows)
   along (e ∷ es) s r inv shows =
       let rest =
@@ -59,7 +59,7 @@ follows p tree accepts es =
     (start-invariant p (kinds tree) (frame .some) (frame .shape) mostWorkers (omega arith))
     (start-shows p (kinds tree) (frame .some) (frame .most))
     in
-    let after = fields (stateAfter tree (stateOf (fresh p)) es) in
+    let after = fields (stateReached tree (stateOf (fresh p)) es) in
     let run = afterEvents p (kinds tree) (start mostWorkers) es in
     let first : startAnswer p tree .state ≡ stateOf (fresh p) = rw accepts refl in
     record {

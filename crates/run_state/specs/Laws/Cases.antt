@@ -7,7 +7,7 @@ use lib.Count.{ones, trailingZeros}
 use borrow.Author.Tests.{ne-eqb}
 use Rattle.rules.specs.Calls.{startVerdict}
 use Rattle.tree.specs.declared.Accepted.{Accepted}
-use Rattle.arguments.specs.Terms.{admission}
+use Rattle.arguments.specs.Terms.{startJudged}
 use Rattle.tree_scan.specs.Laws.Starts.{admitted-position}
 use Rattle.run_spec.specs.Moves.{Move, fresh, runMove, stealMove}
 use Rattle.run_spec.specs.Idle.{idleBits}
@@ -49,14 +49,14 @@ idle-answers s set e = rw (e, ones-set (s .held) 16 0, lowest-set (s .held)) ref
 
 -- ---- the start
 
-module _ (p : ℕ) (tree : List ℕ) (r : Accepted) (judged : r ≡ admission p tree) where
+module _ (p : ℕ) (tree : List ℕ) (r : Accepted) (judged : r ≡ startJudged p tree) where
   number : startVerdict p tree .number ≡ r .number
-  unfolding admission
+  unfolding startJudged
   number = sym (ap (λ (x : Accepted). x .number) judged)
 
   pub start-refused : (r .number ≡ 0 → ⊥) → (s : RunState) → s ≡ zeros
       → _≡_ {A = Started} (record { number = r .number; position = r .position; state = s }) (startAnswer p tree)
-  unfolding startAnswer admission
+  unfolding startAnswer startJudged
   start-refused n s z =
       let position : startVerdict p tree .position ≡ r .position = sym (ap (λ (x : Accepted). x .position) judged) in
       rw (z, number, position, ne-eqb (r .number) 0 n) refl

@@ -4,7 +4,7 @@ use native.Mathlib.Omega.{arith}
 use mathlib.Core.Path.{refl}
 use borrow.Author.Needs.{needs}
 use Rattle.record_walk.specs.Terms.{Walks}
-use Rattle.record.specs.Body.Laws.Results.{lost-outcome, bytes-most, log-room, trace-room, done-outcome}
+use Rattle.record.specs.Body.Laws.Results.{lost-result, bytes-most, log-room, trace-room, done-result}
 use Rattle.record.proofs.body.run.Statement.{statement}
 use Rattle.record.proofs.body.run.Tie as tie
 
@@ -42,7 +42,7 @@ walk-events-requires c κs = (c .before .before .before .before .before .before 
 returns : tie.Need-returns
 returns c =
     let at = c .before .before .before .before in
-    lost-outcome (entry at .pre) (walked at) (c .if1 .taken)
+    lost-result (entry at .pre) (walked at) (c .if1 .taken)
 
 slice-aggregate-copy-out : tie.Need-slice-aggregate-copy-out
 slice-aggregate-copy-out c = search needs
@@ -89,7 +89,7 @@ returns-2 c =
     let log = first .before .before .copy-out in
     let one = one-copied first in
     let at = walk-at one in
-    done-outcome (entry at .pre) (walked at) (one .if1 .left) (log .last .1 .1 .0) (trace .last .1 .1 .0) (log .ensures) (trace .ensures)
+    done-result (entry at .pre) (walked at) (one .if1 .left) (log .last .1 .1 .0) (trace .last .1 .1 .0) (log .ensures) (trace .ensures)
 
 pub run-spec : {M : Type 1} → statement M
 run-spec =

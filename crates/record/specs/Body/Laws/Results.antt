@@ -19,13 +19,13 @@ use Rattle.run_invariant.specs.Laws.Consequences.{runs-most, steals-most, finis
 use Rattle.buffers.specs.Laws.Records.{length-entries, length-trace}
 use Rattle.record_walk.specs.declared.Ended.{Ended}
 use Rattle.record_walk.specs.Terms.{Reached, Walks}
-use Rattle.record.specs.Body.Terms.{Admitted, Told, Outcome}
+use Rattle.record.specs.Body.Terms.{Admitted, Told, Result}
 
 module _ {p : ℕ} {tree events log trace : List ℕ} {w : Ended} {own-log own-trace : List ℕ}
     (ready : Admitted p tree log trace) (walks : Walks p tree events w own-log own-trace) where
   -- An event is refused: log and trace are as they were.
-  pub lost-outcome : (w .number ≡ 0 → ⊥) → Outcome p tree events log trace w log trace
-  lost-outcome n =
+  pub lost-result : (w .number ≡ 0 → ⊥) → Result p tree events log trace w log trace
+  lost-result n =
       record {
         number = walks .number;
         position = walks .position;
@@ -96,8 +96,8 @@ module _ {p : ℕ} {tree events log trace : List ℕ} {w : Ended} {own-log own-t
             traced = traced ∙ ap (λ (x : List ℕ). written x trace) (ap (λ (m : ℕ). take m own-trace) trace-bytes ∙ so .traced);
           }
 
-      pub done-outcome : Outcome p tree events log trace w log-out trace-out
-      done-outcome =
+      pub done-result : Result p tree events log trace w log-out trace-out
+      done-result =
           record {
             number = walks .number;
             position = walks .position;

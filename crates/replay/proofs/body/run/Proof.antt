@@ -13,7 +13,7 @@ use Rattle.tree_scan.specs.Laws.Starts.{start-tree-accepts}
 use Rattle.tree_tables.specs.Terms.{Ends}
 use Rattle.tree_tables.specs.Laws.Fronts.{start-frame, ends-prefix, openers-prefix}
 use Rattle.replay_walk.specs.Terms.{Retraced}
-use Rattle.replay.specs.Body.Laws.Results.{take-replicate, front-room, front-length, lost-outcome, done-asked, done-outcome}
+use Rattle.replay.specs.Body.Laws.Results.{take-replicate, front-room, front-length, lost-result, done-asked, done-result}
 use Rattle.replay.proofs.body.run.Statement.{statement}
 use Rattle.replay.proofs.body.run.Tie as tie
 
@@ -138,7 +138,7 @@ walk-requires c κs =
 returns : tie.Need-returns
 returns c =
     let at = c .before .before .before in
-    lost-outcome (start at .pre) (walked at) (c .if1 .taken)
+    lost-result (start at .pre) (walked at) (c .if1 .taken)
 
 array-share-prefix-ends-2 : tie.Need-array-share-prefix-ends-2
 array-share-prefix-ends-2 c = ends-room (filled (summed (walk-at c .before)))
@@ -178,7 +178,7 @@ returns-2 c =
     let one = wrote .before .before .before .before .before in
     let at = walk-at one in
     let same = take-at (labels at) _ (start at .args .n) (labels-many at) in
-    done-outcome (start at .pre) (walked at) (one .if1 .left) _ same (list .last .1 .1 .1 .1 .1 .1 .0) (list .ensures)
+    done-result (start at .pre) (walked at) (one .if1 .left) _ same (list .last .1 .1 .1 .1 .1 .1 .0) (list .ensures)
 
 pub run-spec : {M : Type 1} → statement M
 run-spec =

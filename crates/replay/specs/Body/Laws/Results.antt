@@ -21,7 +21,7 @@ use Rattle.replay_spec.specs.Lists.{listed, Listable}
 use Rattle.replay_spec.specs.Laws.RunLists.{listed-is}
 use Rattle.replay_walk.specs.declared.Ended.{Ended}
 use Rattle.replay_walk.specs.Terms.{Retraced}
-use Rattle.replay.specs.Body.Terms.{Admitted, Outcome}
+use Rattle.replay.specs.Body.Terms.{Admitted, Result}
 
 -- ---- arrays whose front is lent
 
@@ -44,8 +44,8 @@ module _ (n : ℕ) (front rest : List ℕ) (many : length front ≡ n) where
 module _ {p : ℕ} {tree trace list : List ℕ} {n : ℕ} {w : Ended} {labels firsts : List ℕ}
     (ready : Admitted p tree trace n list) (so : Retraced p tree trace w labels firsts) where
   -- A record is refused: the list is as it was.
-  pub lost-outcome : (w .number ≡ 0 → ⊥) → Outcome p tree trace list w list
-  lost-outcome n =
+  pub lost-result : (w .number ≡ 0 → ⊥) → Result p tree trace list w list
+  lost-result n =
       record {
         number = so .number;
         position = so .position;
@@ -95,9 +95,9 @@ module _ {p : ℕ} {tree trace list : List ℕ} {n : ℕ} {w : Ended} {labels fi
         rw (so .phases none)
         (listed-is p (kinds tree) (frame .some) (frame .shape) phs split labels shown firsts (so .begins none))
 
-    pub done-outcome : (lent : List ℕ) → lent ≡ labels → (out : List ℕ)
-        → out ≡ written (entryBytes (listed p (kinds tree) lent firsts (w .phases))) list → Outcome p tree trace list w out
-    done-outcome lent same out g =
+    pub done-result : (lent : List ℕ) → lent ≡ labels → (out : List ℕ)
+        → out ≡ written (entryBytes (listed p (kinds tree) lent firsts (w .phases))) list → Result p tree trace list w out
+    done-result lent same out g =
         record {
           number = so .number;
           position = so .position;
