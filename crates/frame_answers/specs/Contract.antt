@@ -5,7 +5,7 @@ use Rattle.run_spec.specs.declared.Outcome.the-variants.{Ran, Stole, Refused}
 use Rattle.run_state.specs.declared.Answer.{Answer}
 use Rattle.run_state.specs.declared.Started.{Started}
 use Rattle.run_state.specs.declared.Idle.{Idle}
-use Rattle.run_spec.specs.Numbers.{numberValue}
+use Rattle.trace.specs.Contract.{numberValue}
 use Rattle.record.specs.declared.answer.Recorded.{Recorded}
 use Rattle.replay.specs.declared.answer.Replayed.{Replayed}
 use Rattle.frame_answers.specs.declared.FrameStart.{FrameStart}

@@ -63,7 +63,7 @@ pub fn flat_outcome(outcome: Outcome) -> FrameOutcome
             what: 2,
             phase: 0,
             step: 0,
-            trace: run_event::number::encode_number(number),
+            trace: trace::number::encode_number(number).0,
         },
         Outcome::Refused(number) => FrameOutcome {
             number: number as usize,

@@ -8,6 +8,7 @@ ghost use Rattle.rules.specs.Scheduling.{mostWorkers};
 ghost use Rattle.rules.specs.Traces.{heaviest as heaviestOf};
 ghost use Rattle.loads.specs.Terms.{loadMoved, weightBetween, Movable, totalsOf};
 use policy::WORKERS;
+use tree::Step;
 use tree_tables::wide;
 
 // Some weight leaves the victim's load for the thief's.
@@ -27,16 +28,17 @@ pub fn move_part(
     loads: &mut [u64; WORKERS],
     thief: usize,
     victim: usize,
-    step: usize,
+    step: Step,
 )
     requires { ⌜ (thief < mostWorkers) × (victim < mostWorkers) × (thief ≡ victim → ⊥) ⌝ }
-    requires { ⌜ Movable (now ends) (now sums) (now loads) thief victim step ⌝ }
+    requires { ⌜ Movable (now ends) (now sums) (now loads) thief victim (step .0) ⌝ }
     ensures { λ r.
-        let weight = weightBetween (now (ends .entry)) (now (sums .entry)) step in
+        let weight = weightBetween (now (ends .entry)) (now (sums .entry)) (step .0) in
         ⌜ now (loads .exit) ≡ loadMoved (now (loads .entry)) thief victim weight ⌝ }
 {
-    let end = wide(ends[step]);
-    let weight = sums[end] - sums[step];
+    let first = step.0;
+    let end = wide(ends[first]);
+    let weight = sums[end] - sums[first];
     move_load(loads, thief, victim, weight);
 }
 

@@ -6,6 +6,7 @@ ghost use Rattle.rules.specs.Calls.{written};
 ghost use Rattle.phases_text.specs.Contract.{mostLine};
 ghost use Rattle.phases_text.specs.Line.Terms.{numberAt, workerBy, linesOf, Phased};
 use super::number::put_line;
+use tree::Phase;
 
 // The number of the two bytes at a place.
 fn number_at(bytes: &[u8], at: usize) -> usize
@@ -16,14 +17,15 @@ fn number_at(bytes: &[u8], at: usize) -> usize
 }
 
 // The worker of a phase: worker 0 of phase 0, of a later one the thief of the trace record that began it.
-fn worker_of(trace: &[u8], phase: usize) -> usize
-    requires { ⌜ 4 * phase ≤ length (now trace) ⌝ }
-    ensures { λ r. ⌜ r ≡ workerBy (now (trace .entry)) phase ⌝ }
+fn worker_of(trace: &[u8], phase: Phase) -> usize
+    requires { ⌜ 4 * phase .0 ≤ length (now trace) ⌝ }
+    ensures { λ r. ⌜ r ≡ workerBy (now (trace .entry)) (phase .0) ⌝ }
 {
-    if phase == 0 {
+    let k = phase.0;
+    if k == 0 {
         return 0;
     }
-    trace[buffers::RECORD * (phase - 1)] as usize
+    trace[buffers::RECORD * (k - 1)] as usize
 }
 
 // Writes a line for each of the first records of a run list. Gives the count of all bytes. A line has at most 18 of them.
@@ -44,7 +46,7 @@ pub fn put_lines(text: &mut [u8], trace: &[u8], list: &[u8], records: usize) -> 
         k += 1;
         let phase = number_at(list, i);
         let step = number_at(list, i + 2);
-        let worker = worker_of(trace, phase);
+        let worker = worker_of(trace, Phase(phase));
         at += put_line(&mut text[at..], phase, worker, step);
     }
     at

@@ -1,4 +1,4 @@
--- What running a step does to its worker under a policy, in the rules' words.
+-- What a run is set up with, and what running a step does to its worker under a policy, in the rules' words.
 use Prim.Native.Nat.{ℕ}
 use mathlib.Core.Bool.{cond, _||_}
 use mathlib.Core.List.{List}
@@ -8,6 +8,10 @@ use Rattle.rules.specs.Tree.{kindAt, isEnd}
 use Rattle.rules.specs.Scheduling.{holds, pushes}
 use Rattle.policy.specs.declared.Running.{Running}
 use Rattle.policy.specs.declared.Running.the-variants.{Opens, Ends}
+
+-- The most phases of a run: one for the start, and one for each steal.
+abbrev pub mostPhases : ℕ
+mostPhases = 2048
 
 -- What running a step holds and pushes. An end pushes nothing, and so does a step beyond the tree.
 unfoldable pub runningOf : ℕ → List ℕ → ℕ → Running

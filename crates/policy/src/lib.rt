@@ -1,5 +1,5 @@
 // What a run is set up with, its policies and workers, and what running a step holds next and pushes under a policy (document 01,
-// "Scheduling"). `pushes_child` is the one place where the policies differ.
+// "Scheduling"). In a run the policies differ in `pushes_child` alone; what a trace's numbers count is in `trace::number`.
 ghost use mathlib.Core.Path.{_≡_};
 ghost use Prim.Native.Nat.{_<_};
 ghost use lib.ListN.{length};

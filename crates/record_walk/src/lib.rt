@@ -16,6 +16,7 @@ use run_spec::Event;
 use run_spec::NO_STEP;
 use run_spec::Outcome;
 use tree::MOST_STEPS;
+use tree::Step;
 use tree_tables::wide;
 
 // What the walk over the events comes to.
@@ -92,11 +93,11 @@ pub fn walk(
         steals = moved.steals;
         match outcome {
             Outcome::Ran { phase, step } => {
-                output::log_run(log, logs, phase, step);
+                trace::put_entry(log, logs, phase, step);
                 logs += 1;
             }
             Outcome::Stole(number) => {
-                let step = wide(held[event.first as usize]);
+                let step = Step(wide(held[event.first as usize]));
                 output::trace_steal(ends, sums, trace, &mut loads, before, event, step, number);
             }
             Outcome::Refused(number) => {

@@ -6,7 +6,7 @@ ghost use mathlib.Core.Bool.{not};
 ghost use Prim.Native.Nat.{_≤_, _<_};
 ghost use lib.ListN.{length};
 ghost use Rattle.replay_invariant.specs.Terms.{free, labelOf};
-ghost use Rattle.replay_spec.specs.Begins.{mostPhases};
+ghost use Rattle.policy.specs.Contract.{mostPhases};
 ghost use Rattle.replay_spec.specs.Labels.{Upward, Claimed, Taking, dropped};
 use replay_spec::FREE;
 use tree::Phase;

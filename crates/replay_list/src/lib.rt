@@ -8,7 +8,7 @@ ghost use Rattle.rules.specs.Tree.{kinds, treeVerdict};
 ghost use Rattle.rules.specs.Traces.{entryBytes};
 ghost use Rattle.rules.specs.Calls.{written};
 ghost use Rattle.tree_tables.specs.Terms.{Ends};
-ghost use Rattle.replay_spec.specs.Begins.{mostPhases};
+ghost use Rattle.policy.specs.Contract.{mostPhases};
 ghost use Rattle.replay_spec.specs.Lists.{listed, Listable};
 use phase::write_phase;
 use policy::MOST_STEALS;

@@ -44,13 +44,7 @@ pub fn write_phase(
     loop {
         let at = count;
         count += 1;
-        buffers::put_record(
-            list,
-            at,
-            (phase.0 % 256) as u8,
-            (phase.0 / 256 % 256) as u8,
-            held.0,
-        );
+        trace::put_entry(list, at, phase, held);
         if kind(tree, held) == END {
             if depth == 0 {
                 return count;

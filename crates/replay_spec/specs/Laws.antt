@@ -1,5 +1,4 @@
 -- What need not be believed: everything here is proved from the rules.
---     Entries    a trace record by its bytes
 --     Workers    refusals 8, 13 and 14 by the workers' latest phases are the rules'
 --     Naming     the step that a number names, turn by turn and case by case
 --     Claims     the climb that labels, turn by turn; taking a step, case by case
@@ -11,7 +10,6 @@
 --     Stacks     the loop that writes one phase, turn by turn
 --     RunLists   all phases' records are the rules' run list
 --     Lists      the loop over the phases, turn by turn
-pub mod Entries
 pub mod Workers
 pub mod Naming
 pub mod Claims

@@ -1,5 +1,5 @@
 -- One trace record and one phase in the tables of replay.
---     Entries   what a trace record says, and the refusals that its workers decide
+--     Workers   the refusals that the workers of a trace record decide
 --     Naming    the step that a trace number names
 --     Labels    which phase has a step
 --     Reading   what reading a steal comes to
@@ -7,7 +7,7 @@
 --     Orders    what is written of one phase
 --     Lists     what is written of all phases
 --     Laws      each of these case by case, in the terms of the code, and that they are the rules (proved)
-pub mod Entries
+pub mod Workers
 pub mod Naming
 pub mod Labels
 pub mod Reading

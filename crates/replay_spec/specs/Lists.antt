@@ -7,7 +7,7 @@ use Rattle.rules.specs.Bytes.{count}
 use Rattle.rules.specs.Scheduling.{Phase, phaseAt, Entry}
 use Rattle.replay_invariant.specs.Invariant.{Split}
 use Rattle.replay_invariant.specs.Terms.{Labels}
-use Rattle.replay_spec.specs.Begins.{mostPhases}
+use Rattle.policy.specs.Contract.{mostPhases}
 use Rattle.replay_spec.specs.Orders.{phaseOrder, inPhase}
 
 -- The records of the first m phases.

@@ -1,6 +1,8 @@
 // One trace record and one phase in the tables of replay (document 01, "Trace, log, run list"): what reading a steal, beginning a
 // phase and running a phase alone come to, as definitions and laws in `specs`, and the types that they speak of. The functions
 // are in the crates above.
+use tree::Ordinal;
+use tree::Phase;
 use tree::Step;
 
 // The latest phase of a worker that has had none.
@@ -9,24 +11,18 @@ pub const NO_PHASE: u16 = 65535;
 // The label of a step that has none.
 pub const FREE: u16 = 65535;
 
-// What a trace record says.
-pub struct TraceRecord {
-    pub thief: u8,
-    pub victim: u8,
-    pub number: u16,
-}
-
 // The step that a trace number names, or none.
 pub enum Named {
     At(Step),
     Nothing,
 }
 
-// A phase that begins: its worker `thief` steals `step` from phase `from`, as a trace record's number names it.
+// A phase that begins: its worker `thief` steals `step` from phase `from`. The step's ordinal is that of a work-first trace; from
+// a help-first one it is 0, and not asked for.
 pub struct Begun {
-    pub phase: usize,
-    pub from: u16,
+    pub phase: Phase,
+    pub from: Phase,
     pub thief: usize,
-    pub step: usize,
-    pub number: u16,
+    pub step: Step,
+    pub ordinal: Ordinal,
 }

@@ -1,22 +1,25 @@
-// One steal of a trace (document 01, "Trace, log, run list"), in three modules: `entry` has a trace record's bytes and its workers,
-// `number` the step that its number names, `phase` what beginning a phase stores. `read_steal` reads a number against the victim's
+// One steal of a trace (document 01, "Trace, log, run list"), in three modules: `workers` judges a trace record's workers, `number`
+// finds the step that its number names, `phase` has what beginning a phase stores. `read_steal` reads a number against the victim's
 // phase: it names a step, if all from that step to the end of its task is still in the phase.
-pub mod entry;
 pub mod number;
 pub mod phase;
+pub mod workers;
 
 ghost use mathlib.Core.Path.{_≡_};
 ghost use Prim.Native.Nat.{_<_};
 ghost use lib.ListN.{length, getD};
 ghost use Rattle.rules.specs.Tree.{kinds, treeVerdict};
 ghost use Rattle.tree_tables.specs.Terms.{Ends, Openers};
+ghost use Rattle.policy.specs.Contract.{mostPhases};
 ghost use Rattle.replay_invariant.specs.Terms.{free, labelOf};
-ghost use Rattle.replay_spec.specs.Begins.{mostPhases};
-ghost use Rattle.replay_spec.specs.Naming.{named};
+ghost use Rattle.replay_spec.specs.Naming.{stepNamed};
 ghost use Rattle.replay_spec.specs.Reading.{Reading};
 use policy::MOST_PHASES;
 use replay_spec::Named;
+use trace::number::TraceNumber;
+use tree::Ordinal;
 use tree::Phase;
+use tree::Step;
 use tree_tables::wide;
 
 // Reads a number against a phase: gives the step that it names, if that step can be stolen from the phase. The steps above it
@@ -26,11 +29,10 @@ pub fn read_steal(
     ends: &[u16],
     openers: &[u16],
     labels: &mut [u16],
-    policy: u8,
     bases: &[u16; MOST_PHASES],
     ordinals: &[u16; MOST_PHASES],
     phase: Phase,
-    number: u16,
+    number: TraceNumber,
 ) -> Named
     requires { let base = getD (now bases) (phase .0) 0 in
         ⌜ (treeVerdict (now tree) .number ≡ 0) × (phase .0 < mostPhases) × (base < length (kinds (now tree))) ⌝ }
@@ -41,13 +43,13 @@ pub fn read_steal(
     ensures { λ r.
         let base = getD (now (bases .entry)) (phase .0) 0 in
         let ordinal = getD (now (ordinals .entry)) (phase .0) 0 in
-        let step = named policy (kinds (now (tree .entry))) base ordinal number in
+        let step = stepNamed (kinds (now (tree .entry))) base ordinal number in
         ⌜ Reading (now (openers .entry)) (now (labels .entry)) step (phase .0) r (now (labels .exit)) ⌝ }
 {
     let at = phase.0;
-    let base = wide(bases[at]);
-    let ordinal = wide(ordinals[at]);
-    match number::decode_number(tree, ends, openers, policy, base, ordinal, wide(number)) {
+    let base = Step(wide(bases[at]));
+    let ordinal = Ordinal(wide(ordinals[at]));
+    match number::step_named(tree, ends, openers, base, ordinal, number) {
         Named::At(step) => {
             if !replay_labels::take(openers, labels, step, phase) {
                 return Named::Nothing;

@@ -1,5 +1,5 @@
-// The step that a trace number names (document 01, "Trace, log, run list"): work-first the frontier task's step of that ordinal,
-// help-first the step of that serial number, where it can have been pushed.
+// The step that a trace number names (document 01, "Trace, log, run list"): an ordinal the frontier task's step of that ordinal, a
+// serial number the step of that number, where it can have been pushed.
 ghost use mathlib.Core.Path.{_≡_};
 ghost use mathlib.Core.Bool.{_||_};
 ghost use lib.ListN.{length};
@@ -7,11 +7,12 @@ ghost use Rattle.rules.specs.Tree.{kinds};
 ghost use Rattle.rules.specs.Traces.{startsAsync, followsFinish};
 ghost use Rattle.tree_tables.specs.Terms.{Ends, Openers};
 ghost use Rattle.replay_invariant.specs.Terms.{hopped};
-ghost use Rattle.replay_spec.specs.Naming.{namedOf, named};
-use policy::WORK_FIRST;
+ghost use Rattle.replay_spec.specs.Naming.{namedOf, stepNamed};
 use replay_spec::Named;
+use trace::number::TraceNumber;
 use tree::ASYNC;
 use tree::END;
+use tree::Ordinal;
 use tree::Step;
 use tree::kind;
 use tree_scan::FinishChild;
@@ -57,32 +58,38 @@ fn async_or_after_finish(tree: &[u8], openers: &[u16], step: Step) -> bool
     }
 }
 
-// The step that a number names in a phase; `run_event::number` has the way from a step to its number. Work-first it is found
-// from `base`, a step of the frontier task, whose ordinal is given; help-first it is the number itself.
-pub fn decode_number(
+// The step that a trace number names in a phase. An ordinal is found from `base`, a step of the frontier task, whose ordinal is
+// given; a serial number is the step itself.
+pub fn step_named(
     tree: &[u8],
     ends: &[u16],
     openers: &[u16],
-    policy: u8,
-    base: usize,
-    ordinal: usize,
-    number: usize,
+    base: Step,
+    ordinal: Ordinal,
+    number: TraceNumber,
 ) -> Named
     requires { ⌜ Ends (kinds (now tree)) (now ends) (length (now ends)) ⌝ }
     requires { ⌜ Openers (kinds (now tree)) (now openers) (length (now openers)) ⌝ }
-    ensures { λ r. ⌜ r ≡ namedOf (named policy (kinds (now (tree .entry))) base ordinal number) ⌝ }
+    ensures { λ r. ⌜ r ≡ namedOf (stepNamed (kinds (now (tree .entry))) (base .0) (ordinal .0) number) ⌝ }
 {
-    if policy == WORK_FIRST {
-        if number <= ordinal {
-            return Named::Nothing;
+    match number {
+        TraceNumber::ByOrdinal(wanted) => {
+            let to = wanted.0;
+            let from = ordinal.0;
+            if to <= from {
+                return Named::Nothing;
+            }
+            hop(tree, ends, base, to - from)
         }
-        return hop(tree, ends, Step(base), number - ordinal);
+        TraceNumber::BySerial(step) => {
+            let s = step.0;
+            if tree::steps(tree) <= s {
+                return Named::Nothing;
+            }
+            if !async_or_after_finish(tree, openers, step) {
+                return Named::Nothing;
+            }
+            Named::At(step)
+        }
     }
-    if tree::steps(tree) <= number {
-        return Named::Nothing;
-    }
-    if !async_or_after_finish(tree, openers, Step(number)) {
-        return Named::Nothing;
-    }
-    Named::At(Step(number))
 }

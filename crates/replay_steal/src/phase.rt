@@ -4,7 +4,8 @@ ghost use mathlib.Core.Path.{_≡_};
 ghost use Prim.Native.Nat.{_<_};
 ghost use lib.ListN.{length, getD, set};
 ghost use Rattle.rules.specs.Scheduling.{mostWorkers};
-ghost use Rattle.replay_spec.specs.Begins.{mostPhases, basesBegun, ordinalsBegun};
+ghost use Rattle.policy.specs.Contract.{mostPhases};
+ghost use Rattle.replay_spec.specs.Begins.{basesBegun, ordinalsBegun};
 use policy::MOST_PHASES;
 use policy::WORKERS;
 use replay_spec::Begun;
@@ -41,27 +42,29 @@ pub fn begin(
     latest: &mut [u16; WORKERS],
     begun: Begun,
 )
-    requires { ⌜ (begun .phase < mostPhases) × (begun .from < mostPhases) × (begun .thief < mostWorkers) ⌝ }
-    requires { ⌜ (begun .step < 65536) × (begun .step < length (now openers)) × (getD (now openers) (begun .step) 0 < 65535) ⌝ }
-    requires { ⌜ (begun .step < length (now labels)) × (length (now firsts) ≡ mostPhases) × (length (now bases) ≡ mostPhases) ⌝ }
-    requires { ⌜ (length (now ordinals) ≡ mostPhases) × (length (now latest) ≡ mostWorkers) ⌝ }
-    ensures labels { λ r. ⌜ now (labels .exit) ≡ set (now (labels .entry)) (begun .step) (begun .phase) ⌝ }
-    ensures firsts { λ r. ⌜ now (firsts .exit) ≡ set (now (firsts .entry)) (begun .phase) (begun .step) ⌝ }
+    requires { ⌜ (begun .phase .0 < mostPhases) × (begun .from .0 < mostPhases) × (begun .thief < mostWorkers) ⌝ }
+    requires { ⌜ (begun .step .0 < 65536) × (begun .step .0 < length (now openers)) × (getD (now openers) (begun .step .0) 0 < 65535) ⌝ }
+    requires { ⌜ (begun .step .0 < length (now labels)) × (length (now firsts) ≡ mostPhases) × (length (now bases) ≡ mostPhases) ⌝ }
+    requires { ⌜ (length (now ordinals) ≡ mostPhases) × (length (now latest) ≡ mostWorkers) × (begun .ordinal .0 < 65536) ⌝ }
+    ensures labels { λ r. ⌜ now (labels .exit) ≡ set (now (labels .entry)) (begun .step .0) (begun .phase .0) ⌝ }
+    ensures firsts { λ r. ⌜ now (firsts .exit) ≡ set (now (firsts .entry)) (begun .phase .0) (begun .step .0) ⌝ }
     ensures bases { λ r.
-        let after = basesBegun (now (openers .entry)) (now (bases .entry)) (begun .from) (begun .phase) (begun .step) in
+        let after = basesBegun (now (openers .entry)) (now (bases .entry)) (begun .from .0) (begun .phase .0) (begun .step .0) in
         ⌜ now (bases .exit) ≡ after ⌝ }
-    ensures ordinals { λ r. ⌜ now (ordinals .exit) ≡ ordinalsBegun (now (ordinals .entry)) (begun .from) (begun .phase) (begun .number) ⌝ }
-    ensures latest { λ r. ⌜ now (latest .exit) ≡ set (now (latest .entry)) (begun .thief) (begun .phase) ⌝ }
+    ensures ordinals { λ r.
+        let after = ordinalsBegun (now (ordinals .entry)) (begun .from .0) (begun .phase .0) (begun .ordinal .0) in
+        ⌜ now (ordinals .exit) ≡ after ⌝ }
+    ensures latest { λ r. ⌜ now (latest .exit) ≡ set (now (latest .entry)) (begun .thief) (begun .phase .0) ⌝ }
 {
-    let phase = begun.phase;
-    let from = begun.from as usize;
+    let phase = begun.phase.0;
+    let from = begun.from.0;
     let thief = begun.thief;
-    let step = begun.step;
+    let step = begun.step.0;
     labels[step] = phase as u16;
     firsts[phase] = step as u16;
     bases[from] = openers[step] + 1;
     bases[phase] = step as u16;
     ordinals[from] = 0;
-    ordinals[phase] = begun.number;
+    ordinals[phase] = begun.ordinal.0 as u16;
     latest[thief] = phase as u16;
 }

@@ -8,7 +8,7 @@ use Rattle.rules.specs.Tree.{kinds, weights}
 use Rattle.rules.specs.Scheduling.{mostWorkers, Phase, phaseAt}
 use Rattle.rules.specs.Traces.{replayWalk, loads}
 use Rattle.replay_invariant.specs.Terms.{Labels}
-use Rattle.replay_spec.specs.Begins.{mostPhases}
+use Rattle.policy.specs.Contract.{mostPhases}
 use Rattle.replay_walk.specs.declared.Ended.{Ended}
 
 -- What the rules' walk over the records comes to.

@@ -11,7 +11,7 @@ ghost use Rattle.rules.specs.Scheduling.{mostWorkers};
 ghost use Rattle.rules.specs.Calls.{mostTraceRecords, startVerdict};
 ghost use Rattle.tree_tables.specs.Terms.{Ends, Openers, Sums};
 ghost use Rattle.replay_invariant.specs.Terms.{free};
-ghost use Rattle.replay_spec.specs.Begins.{mostPhases};
+ghost use Rattle.policy.specs.Contract.{mostPhases};
 ghost use Rattle.replay_walk.specs.Terms.{Retraced};
 use policy::MOST_PHASES;
 use policy::WORKERS;
@@ -73,25 +73,25 @@ pub fn walk(
     while k < trace.len() / buffers::RECORD {
         let at = k;
         k += 1;
-        let steal = replay_steal::entry::record_at(trace, at);
-        let refusal = replay_steal::entry::judge_workers(&latest, steal.thief, steal.victim);
+        let steal = trace::record_at(trace, at);
+        let refusal = replay_steal::workers::judge_workers(&latest, steal.thief, steal.victim);
         if refusal != 0 {
             return refused(refusal, at);
         }
         let thief = steal.thief as usize;
         let victim = steal.victim as usize;
         // The victim's latest phase. The record begins phase k.
-        let phase = latest[victim];
+        let phase = Phase(wide(latest[victim]));
+        let number = trace::number::decode_number(policy, steal.number);
         match replay_steal::read_steal(
             tree,
             ends,
             openers,
             labels,
-            policy,
             &bases,
             &ordinals,
-            Phase(wide(phase)),
-            steal.number,
+            phase,
+            number,
         ) {
             Named::At(step) => {
                 replay_steal::phase::begin(
@@ -102,14 +102,14 @@ pub fn walk(
                     &mut ordinals,
                     &mut latest,
                     Begun {
-                        phase: k,
+                        phase: Phase(k),
                         from: phase,
                         thief,
-                        step: step.0,
-                        number: steal.number,
+                        step,
+                        ordinal: trace::number::ordinal_in(number),
                     },
                 );
-                loads::move_part(ends, sums, &mut loads, thief, victim, step.0);
+                loads::move_part(ends, sums, &mut loads, thief, victim, step);
             }
             Named::Nothing => {
                 return refused(15, at);

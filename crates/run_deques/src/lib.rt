@@ -21,12 +21,13 @@ pub const RUN: u8 = 16;
 pub const NOT_RUN: u8 = 17;
 
 // The highest step marked with the worker among those from `low` to before `end`, by a scan.
-fn scan(place: &[u8; MOST_STEPS], worker: u8, low: usize, end: usize) -> Pusher
-    requires { ⌜ end ≤ mostSteps ⌝ }
-    ensures { λ r. ⌜ r ≡ pusherOf (newestMark (now (place .entry)) worker low end) ⌝ }
+fn scan(place: &[u8; MOST_STEPS], worker: u8, low: Step, end: Step) -> Pusher
+    requires { ⌜ end .0 ≤ mostSteps ⌝ }
+    ensures { λ r. ⌜ r ≡ pusherOf (newestMark (now (place .entry)) worker (low .0) (end .0)) ⌝ }
 {
-    let mut j = end;
-    while low < j {
+    let from = low.0;
+    let mut j = end.0;
+    while from < j {
         j -= 1;
         if place[j] == worker {
             return Pusher::At(Step(j));
@@ -37,14 +38,15 @@ fn scan(place: &[u8; MOST_STEPS], worker: u8, low: usize, end: usize) -> Pusher
 
 // The highest step marked with the worker among those from `low` to before `end`, from opener to opener: no step between is
 // marked with a worker that holds step `end`.
-fn climb(openers: &[u16], place: &[u8; MOST_STEPS], worker: u8, low: usize, end: usize) -> Pusher
-    requires { ⌜ (end < mostSteps) × (end < length (now openers)) × Climbs (now openers) (now place) worker low end ⌝ }
-    ensures { λ r. ⌜ r ≡ pusherOf (newestMark (now (place .entry)) worker low end) ⌝ }
+fn climb(openers: &[u16], place: &[u8; MOST_STEPS], worker: u8, low: Step, end: Step) -> Pusher
+    requires { ⌜ (end .0 < mostSteps) × (end .0 < length (now openers)) × Climbs (now openers) (now place) worker (low .0) (end .0) ⌝ }
+    ensures { λ r. ⌜ r ≡ pusherOf (newestMark (now (place .entry)) worker (low .0) (end .0)) ⌝ }
 {
-    let mut j = end;
-    while low < j {
+    let from = low.0;
+    let mut j = end.0;
+    while from < j {
         j = wide(openers[j]);
-        if j < low {
+        if j < from {
             return Pusher::Nothing;
         }
         if place[j] == worker {
@@ -56,28 +58,23 @@ fn climb(openers: &[u16], place: &[u8; MOST_STEPS], worker: u8, low: usize, end:
 
 // The highest step marked with the worker among those from `low` to before `end`: by the openers where their table has step
 // `end`, else by a scan.
-pub fn newest(
-    openers: &[u16],
-    place: &[u8; MOST_STEPS],
-    worker: u8,
-    low: usize,
-    end: usize,
-) -> Pusher
-    requires { ⌜ (end < mostSteps) × (end < length (now openers) → Climbs (now openers) (now place) worker low end) ⌝ }
-    ensures { λ r. ⌜ r ≡ pusherOf (newestMark (now (place .entry)) worker low end) ⌝ }
+pub fn newest(openers: &[u16], place: &[u8; MOST_STEPS], worker: u8, low: Step, end: Step) -> Pusher
+    requires { ⌜ (end .0 < mostSteps) × (end .0 < length (now openers) → Climbs (now openers) (now place) worker (low .0) (end .0)) ⌝ }
+    ensures { λ r. ⌜ r ≡ pusherOf (newestMark (now (place .entry)) worker (low .0) (end .0)) ⌝ }
 {
-    if end < openers.len() {
+    let i = end.0;
+    if i < openers.len() {
         return climb(openers, place, worker, low, end);
     }
     scan(place, worker, low, end)
 }
 
 // The lowest step marked with the worker among those from `low` to before `end`, by a scan.
-pub fn oldest(place: &[u8; MOST_STEPS], worker: u8, low: usize, end: usize) -> Pusher
+pub fn oldest(place: &[u8; MOST_STEPS], worker: u8, low: Step, end: usize) -> Pusher
     requires { ⌜ end ≤ mostSteps ⌝ }
-    ensures { λ r. ⌜ r ≡ pusherOf (oldestMark (now (place .entry)) worker low end) ⌝ }
+    ensures { λ r. ⌜ r ≡ pusherOf (oldestMark (now (place .entry)) worker (low .0) end) ⌝ }
 {
-    let mut j = low;
+    let mut j = low.0;
     while j < end {
         if place[j] == worker {
             return Pusher::At(Step(j));
@@ -101,15 +98,16 @@ pub fn pop(
     openers: &[u16],
     place: &mut [u8; MOST_STEPS],
     worker: u8,
-    low: usize,
+    low: Step,
     step: Step,
 ) -> Pusher
-    requires { ⌜ (step .0 < mostSteps) × (step .0 < length (now openers) → Climbs (now openers) (now place) worker low (step .0)) ⌝ }
-    ensures gives { λ r. ⌜ r ≡ pusherOf (newestMark (now (place .entry)) worker low (step .0)) ⌝ }
-    ensures marks { λ r. ⌜ now (place .exit) ≡ popped (now (place .entry)) worker low (step .0) ⌝ }
+    requires { let i = step .0 in
+        ⌜ (i < mostSteps) × (i < length (now openers) → Climbs (now openers) (now place) worker (low .0) i) ⌝ }
+    ensures gives { λ r. ⌜ r ≡ pusherOf (newestMark (now (place .entry)) worker (low .0) (step .0)) ⌝ }
+    ensures marks { λ r. ⌜ now (place .exit) ≡ popped (now (place .entry)) worker (low .0) (step .0) ⌝ }
 {
     let i = step.0;
-    match newest(openers, place, worker, low, i) {
+    match newest(openers, place, worker, low, step) {
         Pusher::At(q) => {
             let p = q.0;
             place[i] = RUN;
@@ -125,10 +123,10 @@ pub fn pop(
 
 // A thief takes the oldest step of the victim's deque, among the steps pushed by those from `low` to before `end`. Gives that
 // step's pusher.
-pub fn take(place: &mut [u8; MOST_STEPS], victim: u8, low: usize, end: usize) -> Pusher
+pub fn take(place: &mut [u8; MOST_STEPS], victim: u8, low: Step, end: usize) -> Pusher
     requires { ⌜ end ≤ mostSteps ⌝ }
-    ensures gives { λ r. ⌜ r ≡ pusherOf (oldestMark (now (place .entry)) victim low end) ⌝ }
-    ensures marks { λ r. ⌜ now (place .exit) ≡ robbed (now (place .entry)) victim low end ⌝ }
+    ensures gives { λ r. ⌜ r ≡ pusherOf (oldestMark (now (place .entry)) victim (low .0) end) ⌝ }
+    ensures marks { λ r. ⌜ now (place .exit) ≡ robbed (now (place .entry)) victim (low .0) end ⌝ }
 {
     match oldest(place, victim, low, end) {
         Pusher::At(q) => {

@@ -1,8 +1,8 @@
 // A run, a steal and an event on the fields of a run's state, lent as arrays (document 01, "Scheduling"): whether it is
 // refused, and else what it stores. Single events lend the arrays of a state by value, recording its own. Module `run` judges
-// and makes a run, `steal` a steal, `number` makes the number of its trace record. Any fields and any bytes are safe: a held
+// and makes a run, `steal` a steal, `ordinal` counts the ordinal of its step. Any fields and any bytes are safe: a held
 // step beyond the tree is none, and a tree with more records than a tree may have is refused with 2.
-pub mod number;
+pub mod ordinal;
 pub mod run;
 pub mod steal;
 
@@ -21,6 +21,7 @@ use run_spec::Event;
 use run_spec::Outcome;
 use run_spec::Taken;
 use tree::MOST_STEPS;
+use tree::Ordinal;
 use tree::Phase;
 use tree::Step;
 use tree_tables::wide;
@@ -55,12 +56,12 @@ pub fn run_on(
         return Outcome::Refused(refusal);
     }
     let w = worker as usize;
-    let i = wide(held[w]);
-    let from = wide(low[w]);
-    held[w] = run::advance(tree, ends, openers, place, policy, worker, from, Step(i));
+    let step = Step(wide(held[w]));
+    let from = Step(wide(low[w]));
+    held[w] = run::advance(tree, ends, openers, place, policy, worker, from, step);
     Outcome::Ran {
         phase: Phase(wide(phase[w])),
-        step: Step(i),
+        step,
     }
 }
 
@@ -101,13 +102,27 @@ pub fn steal_on(
         return refused(refusal, steals);
     }
     let v = victim as usize;
-    let from = wide(low[v]);
-    match steal::take_step(tree, ends, place, policy, victim, from, base[v]) {
+    let from = Step(wide(low[v]));
+    let ordinal = Ordinal(wide(base[v]));
+    match steal::take_step(tree, ends, place, policy, victim, from, ordinal) {
         Taken::Of(stolen) => {
             let begun = steals % MOST_PHASES as u16 + 1;
-            steal::settle(held, phase, low, base, thief, victim, stolen, begun);
+            steal::settle(
+                held,
+                phase,
+                low,
+                base,
+                thief,
+                victim,
+                stolen,
+                Phase(wide(begun)),
+            );
             Moved {
-                outcome: Outcome::Stole(number::trace_number(policy, stolen.ordinal, stolen.step)),
+                outcome: Outcome::Stole(trace::number::trace_number(
+                    policy,
+                    stolen.ordinal,
+                    stolen.step,
+                )),
                 steals: begun,
             }
         }

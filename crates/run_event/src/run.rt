@@ -23,13 +23,14 @@ use tree_tables::wide;
 
 // Whether all steps from `first` to before `end` have run. It counts those that have not, and looks at all of them: a loop
 // without a way out takes many bytes at a time.
-fn all_run(place: &[u8; MOST_STEPS], first: usize, end: usize) -> bool
-    requires { ⌜ end ≤ mostSteps ⌝ }
-    ensures { λ r. ⌜ r ≡ allRun (now (place .entry)) first end ⌝ }
+fn all_run(place: &[u8; MOST_STEPS], first: Step, end: Step) -> bool
+    requires { ⌜ end .0 ≤ mostSteps ⌝ }
+    ensures { λ r. ⌜ r ≡ allRun (now (place .entry)) (first .0) (end .0) ⌝ }
 {
-    let mut j = first;
+    let to = end.0;
+    let mut j = first.0;
     let mut unrun: u16 = 0;
-    while j < end {
+    while j < to {
         let k = j;
         j += 1;
         if place[k] == NOT_RUN {
@@ -45,19 +46,21 @@ fn waits(tree: &[u8], openers: &[u16], place: &[u8; MOST_STEPS], step: Step) -> 
     ensures { λ r. ⌜ r ≡ waitsFor (kinds (now (tree .entry))) (now (place .entry)) (step .0) ⌝ }
 {
     match finish_by(tree, openers, step) {
-        FinishChild::From(first) => !all_run(place, first.0, step.0),
+        FinishChild::From(first) => !all_run(place, first, step),
         FinishChild::Nothing => false,
     }
 }
 
 // Whether a held step may wait: where a table of openers is lent, only one at its worker's `low`.
-fn may_wait(openers: &[u16], step: usize, low: usize) -> bool
-    ensures { λ r. ⌜ r ≡ leb (length (now (openers .entry))) step || eqb step low ⌝ }
+fn may_wait(openers: &[u16], step: Step, low: Step) -> bool
+    ensures { λ r. ⌜ r ≡ leb (length (now (openers .entry))) (step .0) || eqb (step .0) (low .0) ⌝ }
 {
-    if openers.len() <= step {
+    let i = step.0;
+    let from = low.0;
+    if openers.len() <= i {
         return true;
     }
-    step == low
+    i == from
 }
 
 // The refusal of a worker's run: 8, 9 or 10, or 2 for a tree that is too long; 0 for none.
@@ -85,7 +88,7 @@ pub fn judge_run(
     if n <= i {
         return 9;
     }
-    if !may_wait(openers, i, wide(low[w])) {
+    if !may_wait(openers, Step(i), Step(wide(low[w]))) {
         return 0;
     }
     if waits(tree, openers, place, Step(i)) {
@@ -102,14 +105,14 @@ pub fn advance(
     place: &mut [u8; MOST_STEPS],
     policy: u8,
     worker: u8,
-    low: usize,
+    low: Step,
     step: Step,
 ) -> u16
     requires { let ks = kinds (now tree) in
         ⌜ (step .0 < length ks) × (length ks ≤ mostSteps) × Ends ks (now ends) (length (now ends))
-        × (step .0 < length (now openers) → Climbs (now openers) (now place) worker low (step .0)) ⌝ }
-    ensures gives { λ r. ⌜ r ≡ heldNext policy (kinds (now (tree .entry))) (now (place .entry)) worker low (step .0) ⌝ }
-    ensures leaves { λ r. ⌜ now (place .exit) ≡ placeNext (kinds (now (tree .entry))) (now (place .entry)) worker low (step .0) ⌝ }
+        × (step .0 < length (now openers) → Climbs (now openers) (now place) worker (low .0) (step .0)) ⌝ }
+    ensures gives { λ r. ⌜ r ≡ heldNext policy (kinds (now (tree .entry))) (now (place .entry)) worker (low .0) (step .0) ⌝ }
+    ensures leaves { λ r. ⌜ now (place .exit) ≡ placeNext (kinds (now (tree .entry))) (now (place .entry)) worker (low .0) (step .0) ⌝ }
 {
     if tree::kind(tree, step) != END {
         let held = policy::held_after(tree, ends, policy, step);

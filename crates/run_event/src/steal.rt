@@ -15,6 +15,9 @@ use run_spec::Pusher;
 use run_spec::Stolen;
 use run_spec::Taken;
 use tree::MOST_STEPS;
+use tree::Ordinal;
+use tree::Phase;
+use tree::Step;
 use tree_tables::wide;
 
 // The refusal of a steal, but for an empty deque: 8 or 11, or 2 for a tree that is too long; 0 for none.
@@ -45,21 +48,21 @@ pub fn take_step(
     place: &mut [u8; MOST_STEPS],
     policy: u8,
     victim: u8,
-    low: usize,
-    base: u16,
+    low: Step,
+    base: Ordinal,
 ) -> Taken
     requires { ⌜ (length (kinds (now tree)) ≤ mostSteps) × Ends (kinds (now tree)) (now ends) (length (now ends)) ⌝ }
     ensures gives { λ r.
         let ks = kinds (now (tree .entry)) in
-        ⌜ r ≡ takenOf policy ks base low (oldestMark (now (place .entry)) victim low (length ks)) ⌝ }
-    ensures leaves { λ r. ⌜ now (place .exit) ≡ robbed (now (place .entry)) victim low (length (kinds (now (tree .entry)))) ⌝ }
+        ⌜ r ≡ takenOf policy ks (base .0) (low .0) (oldestMark (now (place .entry)) victim (low .0) (length ks)) ⌝ }
+    ensures leaves { λ r. ⌜ now (place .exit) ≡ robbed (now (place .entry)) victim (low .0) (length (kinds (now (tree .entry)))) ⌝ }
     ensures small { λ r. ⌜ Small r ⌝ }
 {
     let n = tree::steps(tree);
     match run_deques::take(place, victim, low, n) {
         Pusher::At(pusher) => {
             let step = policy::pushed_by(tree, ends, policy, pusher);
-            let ordinal = super::number::ordinal_from(tree, policy, base, low, pusher.0);
+            let ordinal = super::ordinal::ordinal_from(tree, policy, base, low, pusher);
             Taken::Of(Stolen {
                 pusher,
                 step,
@@ -80,11 +83,11 @@ pub fn settle(
     thief: u8,
     victim: u8,
     stolen: Stolen,
-    begun: u16,
+    begun: Phase,
 )
-    requires { ⌜ (thief < mostWorkers) × (victim < mostWorkers) × Small (Of stolen) ⌝ }
+    requires { ⌜ (thief < mostWorkers) × (victim < mostWorkers) × Small (Of stolen) × (begun .0 < 65536) ⌝ }
     ensures held { λ r. ⌜ now (held .exit) ≡ set (now (held .entry)) thief (stolen .step .0) ⌝ }
-    ensures phase { λ r. ⌜ now (phase .exit) ≡ set (now (phase .entry)) thief begun ⌝ }
+    ensures phase { λ r. ⌜ now (phase .exit) ≡ set (now (phase .entry)) thief (begun .0) ⌝ }
     ensures low { λ r.
         let passed = set (now (low .entry)) victim (stolen .pusher .0 + 1) in
         ⌜ now (low .exit) ≡ set passed thief (stolen .step .0) ⌝ }
@@ -94,7 +97,7 @@ pub fn settle(
     let v = victim as usize;
     let step = stolen.step.0 as u16;
     held[t] = step;
-    phase[t] = begun;
+    phase[t] = begun.0 as u16;
     low[v] = (stolen.pusher.0 + 1) as u16;
     low[t] = step;
     base[v] = 0;

@@ -15,7 +15,7 @@ use Rattle.run_spec.specs.Deques.{unrunMark, marked}
 use Rattle.run_spec.specs.Running.{noStep}
 use Rattle.run_spec.specs.declared.Outcome.{Outcome}
 use Rattle.run_spec.specs.declared.Outcome.the-variants.{Ran, Stole, Refused}
-use Rattle.run_spec.specs.Numbers.{numberBy}
+use Rattle.trace.specs.Contract.{numberBy}
 use Rattle.run_spec.specs.Moves.{Fields}
 use Rattle.run_state.specs.declared.RunState.{RunState}
 use Rattle.run_state.specs.Contract.{eventAnswer}

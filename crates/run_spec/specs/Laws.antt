@@ -3,7 +3,7 @@
 --     Waiting    whether all steps of a finish child have run, turn by turn; waiting, case by case
 --     Running    refusals of a run, and what a run leaves, case by case
 --     Children   the count of the children that a stretch of steps opens directly, turn by turn
---     Numbers    trace numbers and ordinals, case by case
+--     Ordinals   the ordinal of a stolen step, case by case
 --     Stealing   refusals of a steal, and what it takes, case by case
 --     Moves      a run, a steal and an event from what their parts answer
 --     Idle       the set of idle workers as a loop builds it, its count of ones and its trailing zeros
@@ -11,7 +11,7 @@ pub mod Marks
 pub mod Waiting
 pub mod Running
 pub mod Children
-pub mod Numbers
+pub mod Ordinals
 pub mod Stealing
 pub mod Moves
 pub mod Idle

@@ -2,7 +2,7 @@
 -- `run_state` name them: they have definitions alone, and no theorem.
 --     Deques     the marks of the steps: what a scan finds, what a pop and a steal leave
 --     Running    whether a worker may run its step, what it holds next, and the places then
---     Numbers    the number of a trace record
+--     Ordinals   the ordinal of a stolen step
 --     Stealing   whether a thief may steal, and what it takes
 --     Moves      a run, a steal and an event whole
 --     Idle       the idle workers
@@ -10,7 +10,7 @@
 --     Laws       each of these case by case, in the terms of the code (proved)
 pub mod Deques
 pub mod Running
-pub mod Numbers
+pub mod Ordinals
 pub mod Stealing
 pub mod Moves
 pub mod Idle

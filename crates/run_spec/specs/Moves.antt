@@ -9,11 +9,13 @@ use lib.ListN.{length, getD, set, replicate}
 use lib.Dec.{eqb}
 use Rattle.rules.specs.Tree.{kinds, mostSteps}
 use Rattle.rules.specs.Scheduling.{mostWorkers, pushes}
+use Rattle.policy.specs.Contract.{mostPhases}
 use Rattle.run_spec.specs.declared.Outcome.{Outcome}
 use Rattle.run_spec.specs.declared.Outcome.the-variants.{Ran, Stole, Refused}
 use Rattle.run_spec.specs.Deques.{unrunMark, oldestMark, robbed}
 use Rattle.run_spec.specs.Running.{noStep, runNumber, heldNext, placeNext}
-use Rattle.run_spec.specs.Numbers.{numberBy, ordinalFrom}
+use Rattle.trace.specs.Contract.{numberBy}
+use Rattle.run_spec.specs.Ordinals.{ordinalFrom}
 use Rattle.run_spec.specs.Stealing.{stealNumber}
 
 -- The fields of a run's state, which a struct has or a call is lent: for each step its place, for each worker the step that it
@@ -70,9 +72,9 @@ runMove f tree w =
 
 -- ---- a steal
 
--- The number of the phase that begins at the next steal. A run has at most 2,048 phases.
+-- The number of the phase that begins at the next steal. On a state that no run leads to it is a number of a phase too.
 unfoldable pub nextPhase : Fields → ℕ
-nextPhase f = f .steals % 2048 + 1
+nextPhase f = f .steals % mostPhases + 1
 
 -- The ordinal of the step that is stolen from v, which step q pushed.
 unfoldable pub takenOrdinal : Fields → List ℕ → ℕ → ℕ → ℕ

@@ -7,7 +7,7 @@ use lib.ListN.{length, getD}
 use lib.Dec.{leb, ltb}
 use Rattle.rules.specs.Tree.{mostSteps}
 use Rattle.rules.specs.Scheduling.{mostWorkers, pushes}
-use Rattle.run_spec.specs.Numbers.{ordinalFrom}
+use Rattle.run_spec.specs.Ordinals.{ordinalFrom}
 use Rattle.run_spec.specs.declared.Taken.{Taken}
 use Rattle.run_spec.specs.declared.Taken.the-variants.{Of, Nothing}
 

@@ -1,6 +1,7 @@
 // What one event of a run does to the fields of its state (document 01, "Scheduling"): its answer and what it leaves, as
 // definitions and laws in `specs`, and the types that they speak of. It has no function: those of `run_deques`, `run_event` and
 // `run_state` are proved to compute these definitions, and `run_refinement` proves that the definitions are the rules.
+use trace::number::TraceNumber;
 use tree::Ordinal;
 use tree::Phase;
 use tree::Step;
@@ -18,12 +19,6 @@ pub struct Event {
 pub enum Pusher {
     At(Step),
     Nothing,
-}
-
-// The number of a trace record: under work-first an ordinal, under help-first a serial number.
-pub enum TraceNumber {
-    ByOrdinal(Ordinal),
-    BySerial(Step),
 }
 
 // A stolen step with the step that pushed it and, work-first, its ordinal.

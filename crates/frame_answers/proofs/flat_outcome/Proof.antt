@@ -1,5 +1,5 @@
 -- `frame_answers::flat_outcome` meets its contract: each of the three outcomes fills the fields that belong to it, and the others
--- with 0; a steal's number has the value that `run_event::number::encode_number` promises. Assumes nothing.
+-- with 0; a steal's number has the value that `trace::number::encode_number` promises. Assumes nothing.
 use mathlib.Core.Path.{ap, sym, _∙_}
 use Prim.Native.Nat.{ℕ}
 use Rattle.frame_answers.specs.declared.FrameOutcome.{FrameOutcome}

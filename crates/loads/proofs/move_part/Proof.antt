@@ -11,7 +11,7 @@ use Rattle.loads.proofs.move_part.Tie as tie
 
 -- The difference of the two sums is that weight.
 weighs : (c : tie.After-wide) → let a = c .before .before .before .before .args in
-    getD (a .sums .now) (c .wide .result) 0 - getD (a .sums .now) (a .step) 0 ≡ weightBetween (a .ends .now) (a .sums .now) (a .step)
+    getD (a .sums .now) (c .wide .result) 0 - getD (a .sums .now) (a .step .0) 0 ≡ weightBetween (a .ends .now) (a .sums .now) (a .step .0)
 unfolding weightBetween
 weighs c = rw (c .wide .ensures) refl
 

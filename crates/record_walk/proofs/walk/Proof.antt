@@ -141,8 +141,8 @@ wide-requires c κs = search needs
 enum-known-outcome : tie.Need-enum-known-outcome Inv-loop μ-loop
 enum-known-outcome c = search needs
 
-log-run-requires : tie.Need-log-run-requires Inv-loop μ-loop
-log-run-requires c κs =
+put-entry-requires : tie.Need-put-entry-requires Inv-loop μ-loop
+put-entry-requires c κs =
     let o = c .before .before in
     ran-fits (turn (ran o)) (o .outcome .given .1) .0
 
@@ -158,7 +158,7 @@ loop-again : tie.Need-loop-again Inv-loop μ-loop
 loop-again c =
     let o = c .before .before .before .before .before in
     let t = turn (ran o) in
-    (omega (arith, t .more), ran-turn t (o .outcome .given .1) _ (c .before .before .log-run .ensures))
+    (omega (arith, t .more), ran-turn t (o .outcome .given .1) _ (c .before .before .put-entry .ensures))
 
 enum-known-outcome-2 : tie.Need-enum-known-outcome-2 Inv-loop μ-loop
 enum-known-outcome-2 c = search needs
@@ -253,7 +253,7 @@ walk-spec =
     event-on-requires
     wide-requires
     enum-known-outcome
-    log-run-requires
+    put-entry-requires
     add-logs
     loop-less
     loop-again

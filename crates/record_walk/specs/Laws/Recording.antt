@@ -29,10 +29,10 @@ use Rattle.run_invariant.specs.Laws.Moves.{sum-one, ran as ranBy, run-is, begin
 use Rattle.run_invariant.specs.Laws.Moves.{victim-rich, first-within, second-within, run-held, event-runs, event-steals}
 use Rattle.run_invariant.specs.Laws.Always.{start-invariant, event-keeps}
 use Rattle.run_invariant.specs.Laws.Consequences.{covered-once, runs-most, steals-most}
-use Rattle.run_spec.specs.declared.TraceNumber.{TraceNumber}
+use Rattle.trace.specs.declared.number.TraceNumber.{TraceNumber}
 use Rattle.run_spec.specs.declared.Outcome.{Outcome}
 use Rattle.run_spec.specs.declared.Outcome.the-variants.{Ran, Stole, Refused}
-use Rattle.run_spec.specs.Numbers.{numberValue}
+use Rattle.trace.specs.Contract.{numberValue}
 use Rattle.run_spec.specs.Moves.{Fields, fresh, eventMove}
 use Rattle.run_refinement.specs.Tie.{Shows, heldStep, told}
 use Rattle.run_refinement.specs.Laws.Follows.{number-traced}

@@ -9,10 +9,10 @@ use Rattle.rules.specs.Tree.{mostSteps, kinds, weights}
 use Rattle.rules.specs.Scheduling.{mostWorkers, Run}
 use Rattle.rules.specs.Calls.{mostTraceRecords, startVerdict}
 use Rattle.tree_tables.specs.Terms.{Ends, Sums, weightBefore}
-use Rattle.run_spec.specs.declared.TraceNumber.{TraceNumber}
+use Rattle.trace.specs.declared.number.TraceNumber.{TraceNumber}
 use Rattle.run_spec.specs.declared.Outcome.{Outcome}
 use Rattle.run_spec.specs.declared.Outcome.the-variants.{Ran, Stole, Refused}
-use Rattle.run_spec.specs.Numbers.{numberValue}
+use Rattle.trace.specs.Contract.{numberValue}
 use Rattle.run_spec.specs.Moves.{Fields, Move, fieldsOf, moveOf, fresh, eventMove}
 use Rattle.buffers.specs.Terms.{recordPut}
 use Rattle.tree.specs.declared.Phase.{Phase}

@@ -6,7 +6,7 @@ use native.Mathlib.Omega.{arith}
 use lib.ListN.{length}
 use borrow.Author.Needs.{needs}
 use Rattle.buffers.specs.Laws.Fronts.{front-length}
-use Rattle.replay_spec.specs.Begins.{mostPhases}
+use Rattle.policy.specs.Contract.{mostPhases}
 use Rattle.replay_spec.specs.Laws.Lists.{Listing, Turn, listing-start, listing-done, list-fits, phase-writable, count-fits}
 use Rattle.replay_spec.specs.Laws.Lists.{phase-listed}
 use Rattle.replay_list.proofs.write_list.Statement.{statement}

@@ -125,14 +125,14 @@ module _ (phs : List Phase) (t k s m : ℕ) (begun : k < length phs) (count : m 
         by-phase i h (λ e. rw (e, base-new) (inside .3)) (λ e. rw (e, base-old) (omega (arith, inside)))
         (λ l n. rw (base-other i l n) (within i (omega arith)))
 
-    module _ (ordinals : List ℕ) (also : m < length ordinals) (p number : ℕ)
+    module _ (ordinals : List ℕ) (also : m < length ordinals) (p number own : ℕ) (counted : p ≡ workFirst → own ≡ number)
         (based : p ≡ workFirst → (i : ℕ) → i < length phs → Based ks sh (phaseAt phs i) (getD bases i 0) (getD ordinals i 0))
         (allowed : numberAllowed p ks (phaseAt phs k) number ≡ true) (named : s ≡ stolenStep p ks (phaseAt phs k) number)
         (taken : Taken p ks (phaseAt phs k) s) where
       abbrev newOrdinals : List ℕ
-      newOrdinals = ordinalsBegun ordinals k m number
+      newOrdinals = ordinalsBegun ordinals k m own
 
-      ordinal-new : getD newOrdinals m 0 ≡ number
+      ordinal-new : getD newOrdinals m 0 ≡ own
       unfolding ordinalsBegun
       ordinal-new = set-new ordinals k m _ _ (omega arith) also
 
@@ -147,8 +147,8 @@ module _ (phs : List Phase) (t k s m : ℕ) (begun : k < length phs) (count : m 
       new-based : p ≡ workFirst → Based ks sh (phaseAt (begin phs t k s) m) (getD newBases m 0) (getD newOrdinals m 0)
       new-based w =
           let is = ordinal-is ks sh p w (phaseAt phs k) _ _ number (based w k begun) allowed in
-          let own : ordinal ks s ≡ number = rw named is in
-          based-at ks sh new-is base-new (ordinal-new ∙ sym own) (based-fresh ks sh t s (part-inside ks sh q s of .3))
+          let same : ordinal ks s ≡ own = rw (named, counted w) is in
+          based-at ks sh new-is base-new (ordinal-new ∙ sym same) (based-fresh ks sh t s (part-inside ks sh q s of .3))
 
       old-based : p ≡ workFirst → Based ks sh (phaseAt (begin phs t k s) k) (getD newBases k 0) (getD newOrdinals k 0)
       old-based w =

@@ -16,7 +16,7 @@ use Rattle.tree.specs.Laws.Counts.{count-snoc}
 use Rattle.tree_scan.specs.Laws.Frames.{Frame, accepted-frame}
 use Rattle.buffers.specs.Laws.Records.{flat-one, length-entries, entries-append}
 use Rattle.buffers.specs.Laws.Fronts.{partOf, withPart, Front, front-none, front-within, front-room, front-next}
-use Rattle.replay_spec.specs.Begins.{mostPhases}
+use Rattle.policy.specs.Contract.{mostPhases}
 use Rattle.replay_spec.specs.Orders.{phaseOrder, inPhase, Writable}
 use Rattle.replay_spec.specs.Laws.Orders.{length-in-phase, order-labelled}
 use Rattle.replay_spec.specs.Lists.{listed, Listable}

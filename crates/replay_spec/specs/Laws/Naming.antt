@@ -13,6 +13,10 @@ use Rattle.rules.specs.Tree.{kindAt, isAsync, isEnd, cont, finishBefore}
 use Rattle.rules.specs.Scheduling.{workFirst}
 use Rattle.rules.specs.Traces.{startsAsync, followsFinish}
 use Rattle.tree.specs.declared.Step.{Step}
+use Rattle.tree.specs.declared.Ordinal.{Ordinal}
+use Rattle.trace.specs.declared.number.TraceNumber.{TraceNumber}
+use Rattle.trace.specs.declared.number.TraceNumber.the-variants.{ByOrdinal, BySerial}
+use Rattle.trace.specs.Contract.{numberBy}
 use Rattle.tree_scan.specs.declared.FinishChild.the-variants.{From, Nothing as NoChild}
 use Rattle.tree_scan.specs.Contract.{childOf}
 use Rattle.tree_scan.specs.Laws.Shape.{Shape}
@@ -22,7 +26,7 @@ use Rattle.run_invariant.specs.Laws.Weights.{cont-inside}
 use Rattle.replay_invariant.specs.Terms.{hopped}
 use Rattle.replay_spec.specs.declared.Named.{Named}
 use Rattle.replay_spec.specs.declared.Named.the-variants.{At, Nothing}
-use Rattle.replay_spec.specs.Naming.{namedOf, named}
+use Rattle.replay_spec.specs.Naming.{namedOf, stepNamed, named}
 
 -- ---- the walk over children
 
@@ -87,29 +91,28 @@ module _ (ks : List ℕ) (s : ℕ) where
 
 -- ---- the step that a number names
 
-module _ (p : ℕ) (ks : List ℕ) (base at number : ℕ) where
-  pub name-own : p ≡ 1 → number ≤ at → Nothing ≡ namedOf (named p ks base at number)
-  unfolding namedOf named
-  name-own w l = rw (eq-eqb p 1 w, le-leb number at l)
+module _ (ks : List ℕ) (base at : ℕ) where
+  pub name-own : (o : Ordinal) → o .0 ≤ at → Nothing ≡ namedOf (stepNamed ks base at (ByOrdinal o))
+  unfolding namedOf stepNamed
+  name-own o l = rw (le-leb (o .0) at l)
 
-  pub name-hopped : p ≡ 1 → at < number → (r : Named) → r ≡ namedOf (hopped ks (number - at) base)
-      → r ≡ namedOf (named p ks base at number)
-  unfolding named
-  name-hopped w l r e = rw (eq-eqb p 1 w, lt-leb number at l) e
+  pub name-hopped : (o : Ordinal) → at < o .0 → (r : Named) → r ≡ namedOf (hopped ks (o .0 - at) base)
+      → r ≡ namedOf (stepNamed ks base at (ByOrdinal o))
+  unfolding stepNamed
+  name-hopped o l r e = rw (lt-leb (o .0) at l) e
 
-  pub name-past : (p ≡ 1 → ⊥) → length ks ≤ number → Nothing ≡ namedOf (named p ks base at number)
-  unfolding namedOf named
-  name-past w l = rw (ne-eqb p 1 w, le-ltb number (length ks) l)
+  pub name-past : (s : Step) → length ks ≤ s .0 → Nothing ≡ namedOf (stepNamed ks base at (BySerial s))
+  unfolding namedOf stepNamed
+  name-past s l = rw (le-ltb (s .0) (length ks) l)
 
-  pub name-other : (p ≡ 1 → ⊥) → (b : Bool) → b ≡ startsAsync ks number || followsFinish ks number → not b ≡ true
-      → Nothing ≡ namedOf (named p ks base at number)
-  unfolding namedOf named
-  name-other w b e n = rw (ne-eqb p 1 w, ← e, not-true b n, and-false (ltb number (length ks)))
+  module _ (s : Step) (b : Bool) (pushable : b ≡ startsAsync ks (s .0) || followsFinish ks (s .0)) where
+    pub name-other : not b ≡ true → Nothing ≡ namedOf (stepNamed ks base at (BySerial s))
+    unfolding namedOf stepNamed
+    name-other n = rw (← pushable, not-true b n, and-false (ltb (s .0) (length ks)))
 
-  pub name-itself : (p ≡ 1 → ⊥) → number < length ks → (b : Bool) → b ≡ startsAsync ks number || followsFinish ks number
-      → not b ≡ false → At (record { 0 = number }) ≡ namedOf (named p ks base at number)
-  unfolding namedOf named
-  name-itself w l b e n = rw (ne-eqb p 1 w, lt-ltb number (length ks) l, ← e, not-false b n)
+    pub name-itself : s .0 < length ks → not b ≡ false → At s ≡ namedOf (stepNamed ks base at (BySerial s))
+    unfolding namedOf stepNamed
+    name-itself l n = rw (lt-ltb (s .0) (length ks) l, ← pushable, not-false b n)
 
 -- ---- where it stands
 
@@ -139,20 +142,30 @@ module _ (ks : List ℕ) (sh : Shape (length ks) (endAt ks) (sizeAt ks)) where
       omega arith
   hopped-within (suc m) x s h e = hopped-on m x s h (λ y. hopped-within m y s) (isEnd (kindAt ks x)) refl e
 
-  -- A step that is named is a step of the tree, whatever the policy; help-first the base may be any.
-  pub named-within : (p base at number s : ℕ) → (p ≡ workFirst → base < length ks) → named p ks base at number ≡ some s
-      → s < length ks
-  unfolding named
-  named-within p base at number s h e = by (eqb p workFirst) refl e
-    where
-      by : (b : Bool) → eqb p workFirst ≡ b
-          → cond b (cond (leb number at) none (hopped ks (number - at) base))
-          (cond (ltb number (length ks) && (startsAsync ks number || followsFinish ks number)) (some number) none)
-          ≡ some s → s < length ks
-      by true w e =
-          hopped-within (number - at) base s (h (eqb-true p workFirst w))
-          (not-none (leb number at) (hopped ks (number - at) base) s e)
-      by false w e =
-          let pushable = startsAsync ks number || followsFinish ks number in
-          let f = only-some (ltb number (length ks) && pushable) number s e in
-          omega (arith, f .1, ltb-true number (length ks) (and-both (ltb number (length ks)) pushable (f .0) .0))
+  -- A step that is named is a step of the tree; a serial number asks nothing of the base.
+  module _ (base at s : ℕ) where
+    ordinal-within : (o : Ordinal) → base < length ks → stepNamed ks base at (ByOrdinal o) ≡ some s → s < length ks
+    unfolding stepNamed
+    ordinal-within o h e = hopped-within (o .0 - at) base s h (not-none (leb (o .0) at) (hopped ks (o .0 - at) base) s e)
+
+    serial-within : (x : Step) → stepNamed ks base at (BySerial x) ≡ some s → s < length ks
+    unfolding stepNamed
+    serial-within x e =
+        let below = ltb (x .0) (length ks) in
+        let pushable = startsAsync ks (x .0) || followsFinish ks (x .0) in
+        let f = only-some (below && pushable) (x .0) s e in
+        omega (arith, f .1, ltb-true (x .0) (length ks) (and-both below pushable (f .0) .0))
+
+    pub step-within : (number : TraceNumber) → base < length ks → stepNamed ks base at number ≡ some s → s < length ks
+    step-within (ByOrdinal o) h e = ordinal-within o h e
+    step-within (BySerial x) h e = serial-within x e
+
+    pub named-within : (p number : ℕ) → (p ≡ workFirst → base < length ks) → named p ks base at number ≡ some s → s < length ks
+    unfolding named numberBy
+    named-within p number h e = by (eqb p workFirst) refl e
+      where
+        by : (b : Bool) → eqb p workFirst ≡ b
+            → stepNamed ks base at (cond b (ByOrdinal (record { 0 = number })) (BySerial (record { 0 = number }))) ≡ some s
+            → s < length ks
+        by true w e = ordinal-within (record { 0 = number }) (h (eqb-true p workFirst w)) e
+        by false w e = serial-within (record { 0 = number }) e

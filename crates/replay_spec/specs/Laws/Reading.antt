@@ -27,7 +27,8 @@ use Rattle.replay_invariant.specs.Laws.Reads.{Based, based-allowed, allowed-tak
 use Rattle.replay_invariant.specs.Laws.Labels.{label-covers, taken-free, taken-label}
 use Rattle.replay_spec.specs.declared.Named.{Named}
 use Rattle.replay_spec.specs.declared.Named.the-variants.{At, Nothing}
-use Rattle.replay_spec.specs.Naming.{named}
+use Rattle.trace.specs.Contract.{numberBy}
+use Rattle.replay_spec.specs.Naming.{stepNamed, named}
 use Rattle.replay_spec.specs.Laws.Naming.{only-some, named-within}
 use Rattle.replay_spec.specs.Labels.{Claimed}
 use Rattle.replay_spec.specs.Reading.{Reading}
@@ -43,7 +44,7 @@ module _ (ks : List ℕ) (sh : Shape (length ks) (endAt ks) (sizeAt ks)) (ph : P
   first-named : base < length ks → ordinal ks base ≡ at → at < number
       → named workFirst ks base at number
       ≡ cond (leb number (childCount ks (task ks base))) (some (taskStep ks (task ks base) number)) none
-  unfolding named
+  unfolding named stepNamed numberBy
   first-named h o l =
       let on : ordinal ks base + (number - at) ≡ number = omega arith in
       rw (lt-leb number at l) (rw on at (hopped-is ks sh (number - at) base h))
@@ -55,7 +56,7 @@ module _ (ks : List ℕ) (sh : Shape (length ks) (endAt ks) (sizeAt ks)) (ph : P
       first-named (b .0) (b .2) (rule .0) ∙ rw (le-leb number (childCount ks (task ks base)) (rule .1), b .1) refl
 
   first-some : Based ks sh ph base at → (s : ℕ) → named workFirst ks base at number ≡ some s → ordinalAllowed ks ph number ≡ true
-  unfolding named
+  unfolding named stepNamed numberBy
   first-some b s e =
       elim (decLe number at) [
         | yes l ↦ absurd (Option·none-ne-some s (rw (le-leb number at l) at e))
@@ -69,7 +70,7 @@ module _ (ks : List ℕ) (sh : Shape (length ks) (endAt ks) (sizeAt ks)) (ph : P
 
   -- Help-first: the number itself, where it can have been pushed.
   serial-allowed : serialAllowed ks ph number ≡ true → named helpFirst ks base at number ≡ some number
-  unfolding named serialAllowed
+  unfolding named stepNamed numberBy serialAllowed
   serial-allowed a =
       let pushed = pushable ks number in
       let other = not (eqb number (ph .first)) in
@@ -96,7 +97,7 @@ module _ (ks : List ℕ) (sh : Shape (length ks) (endAt ks) (sizeAt ks)) (ph : P
     -- What is named is accepted, where it is not the phase's first step and the phase covers all of its part.
     named-allowed : (p ≡ workFirst) ⊎ (p ≡ helpFirst) → (s : ℕ) → named p ks base at number ≡ some s → (s ≡ ph .first → ⊥)
         → ((j : ℕ) → s ≤ j → j < taskEnd ks s → covers ks ph j ≡ true) → numberAllowed p ks ph number ≡ true
-    unfolding numberAllowed named
+    unfolding numberAllowed named stepNamed numberBy
     named-allowed (inl w) s e n c = rw w (first-some (based w) s (rw w at e))
     named-allowed (inr w) s e n c =
         let is = only-some (pushable ks number) number s (rw w at e) in
@@ -119,7 +120,7 @@ module _ (p : ℕ) (either : (p ≡ workFirst) ⊎ (p ≡ helpFirst)) (ks : List
     parts = opener-parts ks openers table
 
     inside : (s : ℕ) → named p ks base at number ≡ some s → s < length ks
-    inside s e = named-within ks sh p base at number s (λ w. based w .0) e
+    inside s e = named-within ks sh base at s p number (λ w. based w .0) e
 
     -- Where the named step is not labelled and the label above it is k, the rules accept the number.
     claimed-allowed : (s : ℕ) → named p ks base at number ≡ some s → labelOf labels s ≡ free

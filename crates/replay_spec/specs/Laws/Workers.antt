@@ -1,4 +1,4 @@
--- What `replay_steal::entry::judge_workers` answers by the table of the workers' latest phases, case by case, and that it is
+-- What `replay_steal::workers::judge_workers` answers by the table of the workers' latest phases, case by case, and that it is
 -- what the rules say of a record before they look at its number.
 use Prim.Native.Nat.{ℕ, _≤_, _<_}
 use mathlib.Core.Path.{_≡_, refl, sym}
@@ -16,7 +16,7 @@ use Rattle.rules.specs.Traces.{latestPhase, numberAllowed, recordNumber, judgeR
 use Rattle.tree.specs.Laws.Verdicts.{or-none}
 use Rattle.replay_invariant.specs.Terms.{free}
 use Rattle.replay_invariant.specs.Laws.Always.{latest-own, latest-begin}
-use Rattle.replay_spec.specs.Entries.{judgedWorkers}
+use Rattle.replay_spec.specs.Workers.{judgedWorkers}
 
 -- A worker's latest phase, by the table.
 abbrev pub LatestShown : Option ℕ → ℕ → Type 0

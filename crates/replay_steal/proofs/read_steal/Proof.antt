@@ -10,32 +10,31 @@ use Rattle.rules.specs.Tree.{kinds}
 use Rattle.tree.specs.declared.Step.{Step}
 use Rattle.tree_scan.specs.Laws.Frames.{accepted-frame}
 use Rattle.replay_spec.specs.declared.Named.the-variants.{At}
-use Rattle.replay_spec.specs.Naming.{namedOf, named}
-use Rattle.replay_spec.specs.Laws.Naming.{named-within}
+use Rattle.replay_spec.specs.Naming.{namedOf, stepNamed}
+use Rattle.replay_spec.specs.Laws.Naming.{step-within}
 use Rattle.replay_spec.specs.Laws.Taking.{table-upward, named-some, read-unnamed, read-elsewhere, read-there}
 use Rattle.replay_steal.proofs.read_steal.Statement.{statement}
 use Rattle.replay_steal.proofs.read_steal.Tie as tie
 
 -- ---- the step that the number names
 
-abbrev entry : tie.After-decode-number → tie.Start
-entry c = c .before .before .before .before .before .before .before .before .before .before
+abbrev entry : tie.After-step-named → tie.Start
+entry c = c .before .before .before .before .before .before .before .before .before
 
-abbrev asked : tie.After-decode-number → Option ℕ
+abbrev asked : tie.After-step-named → Option ℕ
 asked c =
     let a = entry c .args in
-    named (a .policy) (kinds (a .tree .now)) (getD (a .bases .now) (a .phase .0) 0) (getD (a .ordinals .now) (a .phase .0) 0) (a .number)
+    stepNamed (kinds (a .tree .now)) (getD (a .bases .now) (a .phase .0) 0) (getD (a .ordinals .now) (a .phase .0) 0) (a .number)
 
-answer : (c : tie.After-decode-number) → c .decode-number .result ≡ namedOf (asked c)
+answer : (c : tie.After-step-named) → c .step-named .result ≡ namedOf (asked c)
 answer c =
-    let number = c .before .wide3 .ensures in
-    let ordinal = c .before .before .wide2 .ensures in
-    let base = c .before .before .before .before .wide .ensures in
-    rw (number, ordinal, base) at (c .decode-number .ensures)
+    let ordinal = c .before .wide2 .ensures in
+    let base = c .before .before .before .wide .ensures in
+    rw (ordinal, base) at (c .step-named .ensures)
 
 -- ---- where it names one
 
-abbrev naming : tie.After-known-told → tie.After-decode-number
+abbrev naming : tie.After-known-told → tie.After-step-named
 naming c = c .before .before .before
 
 abbrev step : tie.After-known-told → Step
@@ -50,7 +49,7 @@ within c =
     let start = entry (naming c) in
     let a = start .args in
     let frame = accepted-frame (a .tree .now) (start .pre .0 .0) in
-    named-within (kinds (a .tree .now)) (frame .shape) (a .policy) _ _ (a .number) (step c .0) (λ w. start .pre .0 .2)
+    step-within (kinds (a .tree .now)) (frame .shape) _ _ (step c .0) (a .number) (start .pre .0 .2)
     (named-some (asked (naming c)) (step c) (found c))
 
 -- The labels have been asked.
@@ -77,11 +76,8 @@ element-copy-out-wide-2 c = search needs
 wide-requires-2 : tie.Need-wide-requires-2
 wide-requires-2 c κs = search needs
 
-wide-requires-3 : tie.Need-wide-requires-3
-wide-requires-3 c κs = search needs
-
-decode-number-requires : tie.Need-decode-number-requires
-decode-number-requires c κs = search needs
+step-named-requires : tie.Need-step-named-requires
+step-named-requires c κs = search needs
 
 enum-known-step : tie.Need-enum-known-step
 enum-known-step c = search needs
@@ -128,7 +124,7 @@ returns-3 : tie.Need-returns-3
 returns-3 c =
     let at = c .before .before in
     let a = entry at .args in
-    read-unnamed (a .openers .now) (a .labels .now) (asked at) (a .phase .0) (at .decode-number .result) (answer at)
+    read-unnamed (a .openers .now) (a .labels .now) (asked at) (a .phase .0) (at .step-named .result) (answer at)
     (c .enum-told .given .1) (a .labels .now)
 
 pub read-steal-spec : {M : Type 1} → statement M
@@ -141,8 +137,7 @@ read-steal-spec =
     mul-wide-2
     element-copy-out-wide-2
     wide-requires-2
-    wide-requires-3
-    decode-number-requires
+    step-named-requires
     enum-known-step
     take-requires
     same-length

@@ -7,17 +7,16 @@ use native.Mathlib.Omega.{arith}
 use lib.ListN.{length, getD}
 use borrow.Author.Needs.{needs}
 use Rattle.rules.specs.Tree.{mostSteps, kinds}
-use Rattle.rules.specs.Scheduling.{mostWorkers}
+use Rattle.rules.specs.Scheduling.{workFirst, mostWorkers}
 use Rattle.tree_scan.specs.Laws.Starts.{start-tree-accepts}
 use Rattle.replay_invariant.specs.Terms.{free, labelOf}
-use Rattle.replay_spec.specs.Begins.{mostPhases}
-use Rattle.replay_spec.specs.Naming.{named}
-use Rattle.replay_spec.specs.Reading.{Reading}
+use Rattle.policy.specs.Contract.{mostPhases}
 use Rattle.loads.specs.Terms.{Movable}
-use Rattle.replay_spec.specs.Entries.{judgedWorkers, Entry}
+use Rattle.trace.specs.Laws.Numbers.{ordinal-kept}
 use Rattle.replay_walk.specs.Laws.Retracing.{Retracing, Tables, tables-filled, label-room, retrace-start, retrace-end}
 use Rattle.replay_walk.specs.Laws.Retracing.{retrace-judged}
-use Rattle.replay_walk.specs.Laws.Turns.{two-workers, read-ready, retrace-broken, begin-ready, part-movable, retrace-begun}
+use Rattle.replay_walk.specs.Laws.Turns.{Judged, NumberRead, read-as, two-workers, read-ready, retrace-broken, begin-ready}
+use Rattle.replay_walk.specs.Laws.Turns.{part-movable, retrace-begun}
 use Rattle.replay_walk.proofs.walk.Statement.{statement}
 use Rattle.replay_walk.proofs.walk.Tie as tie
 
@@ -49,89 +48,123 @@ tables c =
 lent-labels : (c : tie.At-loop Inv-loop μ-loop) → length (c .loop .labels) ≡ length (entry c .args .labels .now)
 lent-labels c = c .loop .inv .labelRoom ∙ sym (label-room _ _ (entry c .pre .0 .0) _ (entry c .pre .1 .1 .1 .1 .0) .0)
 
--- ---- a turn
+-- ---- the places of a turn
 
 -- The record is read.
 abbrev top : tie.After-record-at Inv-loop μ-loop → tie.At-loop Inv-loop μ-loop
 top c = c .before .before
 
-abbrev thief : tie.After-record-at Inv-loop μ-loop → ℕ
-thief c = c .record-at .result .thief
-
-abbrev victim : tie.After-record-at Inv-loop μ-loop → ℕ
-victim c = c .record-at .result .victim
-
-this : (c : tie.After-record-at Inv-loop μ-loop)
-    → Entry (entry (top c) .args .trace .now) (top c .loop .k) (thief c) (victim c) (c .record-at .result .number)
-this c = c .record-at .ensures
-
 -- Its workers are not refused.
 abbrev bytes : tie.Else1 Inv-loop μ-loop → tie.After-record-at Inv-loop μ-loop
 bytes c = c .before .before .before
 
-abbrev from : tie.Else1 Inv-loop μ-loop → ℕ
-from c = getD (top (bytes c) .loop .latest) (victim (bytes c)) 0
+abbrev start : tie.Else1 Inv-loop μ-loop → tie.At-loop Inv-loop μ-loop
+start c = top (bytes c)
 
-fine : (c : tie.Else1 Inv-loop μ-loop) → judgedWorkers (top (bytes c) .loop .latest) (thief (bytes c)) (victim (bytes c)) ≡ 0
-fine c =
-    sym (c .before .judge-workers .ensures) ∙ c .if1 .left
+-- The victim's latest phase is looked up, and what the number is under the policy.
+abbrev fine : tie.After-decode-number Inv-loop μ-loop → tie.Else1 Inv-loop μ-loop
+fine c = c .before .before .before .before
 
-workers : (c : tie.Else1 Inv-loop μ-loop)
-    → (thief (bytes c) < mostWorkers) × (victim (bytes c) < mostWorkers) × (thief (bytes c) ≡ victim (bytes c) → ⊥) × (from c ≡ free → ⊥)
-workers c = two-workers (top (bytes c) .loop .inv) (this (bytes c)) (fine c)
+-- The number is read against that phase.
+abbrev decoded : tie.After-labels2 Inv-loop μ-loop → tie.After-decode-number Inv-loop μ-loop
+decoded c = c .before .before .before .before .before
 
-ready : (c : tie.Else1 Inv-loop μ-loop)
-    → (top (bytes c) .loop .k + 1 < mostPhases) × (from c < top (bytes c) .loop .k + 1)
-    × (getD (top (bytes c) .loop .bases) (from c) 0 < length (kinds (entry (top (bytes c)) .args .tree .now)))
-    × (labelOf (top (bytes c) .loop .labels) 0 ≡ free → ⊥)
-ready c = read-ready (top (bytes c) .loop .inv) (this (bytes c)) (fine c)
-
--- Its number has been read.
 abbrev turn : tie.After-labels2 Inv-loop μ-loop → tie.Else1 Inv-loop μ-loop
-turn c = c .before .before .before .before .before .before .before .before
-
-abbrev start : tie.After-labels2 Inv-loop μ-loop → tie.At-loop Inv-loop μ-loop
-start c = top (bytes (turn c))
-
-abbrev after : tie.After-labels2 Inv-loop μ-loop → List ℕ
-after c = c .before .read-steal .last .1 .1 .1 .0
-
-reading : (c : tie.After-labels2 Inv-loop μ-loop)
-    → let a = entry (start c) .args in
-    let at = from (turn c) in
-    Reading (a .openers .now) (start c .loop .labels)
-    (named (a .policy) (kinds (a .tree .now)) (getD (start c .loop .bases) at 0) (getD (start c .loop .ordinals) at 0)
-    (bytes (turn c) .record-at .result .number))
-    at (c .before .read-steal .result) (after c)
-reading c = rw (c .before .before .wide .ensures) at (c .before .read-steal .ensures)
-
-kept : (c : tie.After-labels2 Inv-loop μ-loop) → length (after c) ≡ length (start c .loop .labels)
-kept c = c .labels2 .given
+turn c = fine (decoded c)
 
 -- It names a step that can be stolen.
 abbrev told : tie.After-known-told Inv-loop μ-loop → tie.After-labels2 Inv-loop μ-loop
 told c = c .before .before .before .before
 
+-- The step's ordinal is known, and the phase has begun with it; the weight has moved.
+abbrev naming : tie.After-ordinal-in Inv-loop μ-loop → tie.After-known-told Inv-loop μ-loop
+naming c = c .before .before .before .before .before .before
+
+abbrev begins : tie.After-loads2 Inv-loop μ-loop → tie.After-begin Inv-loop μ-loop
+begins c = c .before .before .before
+
+-- ---- what is so there
+
+abbrev thief : tie.Else1 Inv-loop μ-loop → ℕ
+thief c = bytes c .record-at .result .thief
+
+abbrev victim : tie.Else1 Inv-loop μ-loop → ℕ
+victim c = bytes c .record-at .result .victim
+
+abbrev number : tie.Else1 Inv-loop μ-loop → ℕ
+number c = bytes c .record-at .result .number .0
+
+abbrev from : tie.Else1 Inv-loop μ-loop → ℕ
+from c = getD (start c .loop .latest) (victim c) 0
+
+judged : (c : tie.Else1 Inv-loop μ-loop)
+    → let a = entry (start c) .args in
+    let l = start c .loop in
+    Judged (a .policy) (a .tree .now) (a .trace .now) (l .k) (l .labels) (l .firsts) (l .bases) (l .ordinals) (l .latest) (l .loads)
+    (thief c) (victim c) (number c)
+judged c =
+    record {
+      so = start c .loop .inv;
+      entry = bytes c .record-at .ensures;
+      fine = sym (c .before .judge-workers .ensures) ∙ c .if1 .left;
+    }
+
+workers : (c : tie.Else1 Inv-loop μ-loop)
+    → (thief c < mostWorkers) × (victim c < mostWorkers) × (thief c ≡ victim c → ⊥) × (from c ≡ free → ⊥)
+workers c = two-workers (judged c)
+
+ready : (c : tie.Else1 Inv-loop μ-loop)
+    → (start c .loop .k + 1 < mostPhases) × (from c < start c .loop .k + 1)
+    × (getD (start c .loop .bases) (from c) 0 < length (kinds (entry (start c) .args .tree .now)))
+    × (labelOf (start c .loop .labels) 0 ≡ free → ⊥)
+ready c = read-ready (judged c)
+
+latest : (c : tie.After-decode-number Inv-loop μ-loop) → c .before .wide .result ≡ from (fine c)
+latest c = c .before .wide .ensures
+
+abbrev after : tie.After-labels2 Inv-loop μ-loop → List ℕ
+after c = c .before .read-steal .last .1 .1 .1 .0
+
+read : (c : tie.After-labels2 Inv-loop μ-loop)
+    → let a = entry (start (turn c)) .args in
+    let l = start (turn c) .loop in
+    NumberRead (a .policy) (a .tree .now) (a .ends .now) (a .openers .now) (a .sums .now) (l .labels) (l .bases) (l .ordinals)
+    (from (turn c)) (number (turn c)) (c .before .read-steal .result) (after c)
+read c =
+    let a = entry (start (turn c)) .args in
+    let l = start (turn c) .loop in
+    record {
+      tables = tables (start (turn c));
+      reading = read-as (a .policy) (kinds (a .tree .now)) (a .openers .now) (l .labels) (l .bases) (l .ordinals) (after c)
+          (c .before .read-steal .result) (number (turn c)) (latest (decoded c)) (decoded c .decode-number .ensures)
+          (c .before .read-steal .ensures);
+      kept = c .labels2 .given;
+    }
+
 abbrev step : tie.After-known-told Inv-loop μ-loop → ℕ
 step c = c .before .step .given .0 .0 .0
 
 given : (c : tie.After-known-told Inv-loop μ-loop)
-    → let a = entry (start (told c)) .args in
+    → let a = entry (start (turn (told c))) .args in
     (step c < length (kinds (a .tree .now))) × (getD (a .openers .now) (step c) 0 < step c)
     × (length (kinds (a .tree .now)) ≤ mostSteps)
-given c =
-    let l = told c in
-    begin-ready (start l .loop .inv) (this (bytes (turn l))) (fine (turn l)) (tables (start l)) _ _ (reading l) (kept l)
-    (c .before .step .given .1)
+given c = begin-ready (judged (turn (told c))) (read (told c)) (c .before .step .given .1)
 
 movable : (c : tie.After-known-told Inv-loop μ-loop)
-    → let l = told c in
-    let a = entry (start l) .args in
-    Movable (a .ends .now) (a .sums .now) (start l .loop .loads) (thief (bytes (turn l))) (victim (bytes (turn l))) (step c)
-movable c =
-    let l = told c in
-    part-movable (start l .loop .inv) (this (bytes (turn l))) (fine (turn l)) (tables (start l)) _ _ (reading l) (kept l)
-    (c .before .step .given .1)
+    → let t = turn (told c) in
+    let a = entry (start t) .args in
+    Movable (a .ends .now) (a .sums .now) (start t .loop .loads) (thief t) (victim t) (step c)
+movable c = part-movable (judged (turn (told c))) (read (told c)) (c .before .step .given .1)
+
+-- The ordinal that is kept has two bytes, and work-first it is the number.
+own-ordinal : (c : tie.After-ordinal-in Inv-loop μ-loop)
+    → let t = turn (told (naming c)) in
+    (c .ordinal-in .result .0 < 65536) × (entry (start t) .args .policy ≡ workFirst → c .ordinal-in .result .0 ≡ number t)
+own-ordinal c =
+    let l = told (naming c) in
+    let t = turn l in
+    ordinal-kept (entry (start t) .args .policy) (number t) (judged t .entry .small) (decoded l .decode-number .ensures)
+    (c .ordinal-in .ensures)
 
 -- ---- the needs
 
@@ -178,7 +211,8 @@ same-length c = lent-labels (top (c .before .before .before .before))
 returns : tie.Need-returns Inv-loop μ-loop
 returns c =
     let b = c .before .before .before .before in
-    retrace-judged (top b .loop .inv) (this b) _ (c .before .before .judge-workers .ensures) (c .before .if1 .taken) _ (c .refused .ensures)
+    retrace-judged (top b .loop .inv) (b .record-at .ensures) _ (c .before .before .judge-workers .ensures) (c .before .if1 .taken)
+    _ (c .refused .ensures)
 
 cast-thief : tie.Need-cast-thief Inv-loop μ-loop
 cast-thief c = omega (arith, workers (c .before))
@@ -186,24 +220,28 @@ cast-thief c = omega (arith, workers (c .before))
 cast-victim : tie.Need-cast-victim Inv-loop μ-loop
 cast-victim c = omega (arith, workers (c .before .before))
 
-mul-phase : tie.Need-mul-phase Inv-loop μ-loop
-mul-phase c = omega (arith, workers (c .before .before))
+mul-wide : tie.Need-mul-wide Inv-loop μ-loop
+mul-wide c = omega (arith, workers (c .before .before))
 
-array-read-phase : tie.Need-array-read-phase Inv-loop μ-loop
-array-read-phase c = omega (arith, workers (c .before .before))
+array-read-wide : tie.Need-array-read-wide Inv-loop μ-loop
+array-read-wide c = omega (arith, workers (c .before .before))
 
 wide-requires : tie.Need-wide-requires Inv-loop μ-loop
 wide-requires c κs = search needs
 
+decode-number-requires : tie.Need-decode-number-requires Inv-loop μ-loop
+decode-number-requires c κs = search needs
+
 read-steal-requires : tie.Need-read-steal-requires Inv-loop μ-loop
 read-steal-requires c κs =
-    let t = c .before .before .before .before .before .before in
-    let room = top (bytes t) .loop .inv in
-    let s = entry (top (bytes t)) in (
+    let at = c .before .before .before in
+    let t = fine at in
+    let room = start t .loop .inv in
+    let s = entry (start t) in (
       (
         start-tree-accepts (s .args .policy) (s .args .tree .now) (s .pre .0 .0),
-        omega (arith, ready t .0, ready t .1, c .wide .ensures),
-        rw (c .wide .ensures) (ready t .2),
+        omega (arith, latest at, ready t .0, ready t .1),
+        rw (latest at) (ready t .2),
       ),
       (s .pre .1 .0 .1, (s .pre .1 .1 .0, ((room .labelRoom, ready t .3), (room .baseRoom, room .ordinalRoom)))),
     )
@@ -211,39 +249,44 @@ read-steal-requires c κs =
 enum-known-step : tie.Need-enum-known-step Inv-loop μ-loop
 enum-known-step c = search needs
 
+ordinal-in-requires : tie.Need-ordinal-in-requires Inv-loop μ-loop
+ordinal-in-requires c κs = search needs
+
 begin-requires : tie.Need-begin-requires Inv-loop μ-loop
 begin-requires c κs =
-    let at = c .before .before .before .before .before in
+    let at = naming c in
     let l = told at in
-    let room = start l .loop .inv in
-    let two = workers (turn l) in
-    let begun = ready (turn l) in (
-      (begun .0, omega (arith, begun .0, begun .1), two .0),
+    let t = turn l in
+    let room = start t .loop .inv in
+    let begun = ready t in (
+      (begun .0, omega (arith, latest (decoded l), begun .0, begun .1), workers t .0),
       (
-        (omega (arith, given at), omega (arith, given at, entry (start l) .pre .1 .1 .0 .0), omega (arith, given at)),
-        ((omega (arith, given at, kept l, room .labelRoom), room .firstRoom, room .baseRoom), (room .ordinalRoom, room .latestRoom)),
+        (omega (arith, given at), omega (arith, given at, entry (start t) .pre .1 .1 .0 .0), omega (arith, given at)),
+        (
+          (omega (arith, given at, read l .kept, room .labelRoom), room .firstRoom, room .baseRoom),
+          (room .ordinalRoom, room .latestRoom, own-ordinal c .0),
+        ),
       ),
     )
 
 move-part-requires : tie.Need-move-part-requires Inv-loop μ-loop
 move-part-requires c κs =
-    let at = c .before .before .before .before .before .before .before .before .before in
+    let at = naming (begins c .before) in
     let two = workers (turn (told at)) in
     ((two .0, two .1, two .2), movable at)
 
 loop-less : tie.Need-loop-less Inv-loop μ-loop
 loop-less c =
-    let l = told (c .before .before .before .before .before .before .before .before .before .before) in
-    omega (arith, this (bytes (turn l)) .more)
+    omega (arith, judged (turn (told (naming (begins (c .before) .before)))) .entry .more)
 
 loop-again : tie.Need-loop-again Inv-loop μ-loop
 loop-again c =
-    let at = c .before .before .before .before .before .before .before .before .before .before in
+    let begun = begins (c .before) in
+    let at = naming (begun .before) in
     let l = told at in
-    let begun = c .before .before .before .before .begin .ensures in
-    retrace-begun (start l .loop .inv) (this (bytes (turn l))) (fine (turn l)) (tables (start l)) _ _ (reading l) (kept l)
-    (at .before .step .given .1) _ _ _ _ _ _ (begun .0) (begun .1 .0) (begun .1 .1 .0)
-    (begun .1 .1 .1 .0) (begun .1 .1 .1 .1) (c .move-part .ensures)
+    let stored = begun .begin .ensures in
+    retrace-begun (judged (turn l)) (read l) (at .before .step .given .1) (latest (decoded l)) (own-ordinal (begun .before) .1)
+    _ _ _ _ _ _ (stored .0) (stored .1 .0) (stored .1 .1 .0) (stored .1 .1 .1 .0) (stored .1 .1 .1 .1) (c .move-part .ensures)
 
 enum-told : tie.Need-enum-told Inv-loop μ-loop
 enum-told c = search needs
@@ -254,16 +297,15 @@ refused-requires-2 c κs = search needs
 same-length-2 : tie.Need-same-length-2 Inv-loop μ-loop
 same-length-2 c =
     let l = c .before .before .before .before in
-    kept l ∙ lent-labels (start l)
+    read l .kept ∙ lent-labels (start (turn l))
 
 returns-2 : tie.Need-returns-2 Inv-loop μ-loop
 returns-2 c =
     let l = c .before .before .before .before in
-    retrace-broken (start l .loop .inv) (this (bytes (turn l))) (fine (turn l)) (tables (start l)) _ _ (reading l) (kept l)
-    (c .before .enum-told .given .1) _ (c .refused2 .ensures)
+    retrace-broken (judged (turn l)) (read l) (c .before .enum-told .given .1) _ (c .refused2 .ensures)
 
-add-t22 : tie.Need-add-t22 Inv-loop μ-loop
-add-t22 c =
+add-t23 : tie.Need-add-t23 Inv-loop μ-loop
+add-t23 c =
     let so = c .before .loop .inv in
     omega (arith, so .reached, so .short)
 
@@ -292,11 +334,13 @@ walk-spec =
     returns
     cast-thief
     cast-victim
-    mul-phase
-    array-read-phase
+    mul-wide
+    array-read-wide
     wide-requires
+    decode-number-requires
     read-steal-requires
     enum-known-step
+    ordinal-in-requires
     begin-requires
     move-part-requires
     loop-less
@@ -305,6 +349,6 @@ walk-spec =
     refused-requires-2
     same-length-2
     returns-2
-    add-t22
+    add-t23
     same-length-3
     returns-3)

@@ -27,8 +27,9 @@ use Rattle.replay_invariant.specs.Laws.Reads.{Based, based-fresh}
 use Rattle.replay_invariant.specs.Laws.Labels.{first-labels}
 use Rattle.replay_invariant.specs.Laws.Always.{first-split}
 use Rattle.loads.specs.Laws.Loads.{start-loads}
-use Rattle.replay_spec.specs.Entries.{judgedWorkers, Entry}
-use Rattle.replay_spec.specs.Begins.{mostPhases}
+use Rattle.trace.specs.Terms.{RecordAt}
+use Rattle.replay_spec.specs.Workers.{judgedWorkers}
+use Rattle.policy.specs.Contract.{mostPhases}
 use Rattle.replay_spec.specs.Laws.Workers.{Latest, judged-stop}
 use Rattle.replay_walk.specs.declared.Ended.{Ended}
 use Rattle.replay_walk.specs.Terms.{Retraced}
@@ -201,7 +202,7 @@ module _ {p : ℕ} {tree trace : List ℕ} {k : ℕ} {labels firsts bases ordina
 
 module _ {p : ℕ} {tree trace : List ℕ} {k : ℕ} {labels firsts bases ordinals latest ls : List ℕ}
     (so : Retracing p tree trace k labels firsts bases ordinals latest ls) {thief victim number : ℕ}
-    (entry : Entry trace k thief victim number) where
+    (entry : RecordAt trace k thief victim number) where
   -- It is refused: `after` are the labels that are left then.
   pub retrace-stopped : (x : ℕ) → judgeTraceRecord mostWorkers p (kinds tree) (so .phs) (getD (records 4 trace) k []) ≡ x
       → (x ≡ 0 → ⊥) → (r : Ended) → r ≡ record { number = x; position = k; phases = 0; loads = replicate mostWorkers 0 } → (after : List ℕ)

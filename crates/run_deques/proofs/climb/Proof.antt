@@ -10,10 +10,10 @@ use Rattle.run_deques.proofs.climb.Statement.{statement}
 use Rattle.run_deques.proofs.climb.Tie as tie
 
 abbrev Inv-loop : tie.InvT-loop
-Inv-loop openers place worker low end j₀ j = (j ≤ end) × (newestMark place worker low j ≡ newestMark place worker low end)
+Inv-loop openers place worker low end j = (j ≤ end) × (newestMark place worker low j ≡ newestMark place worker low end)
 
 abbrev μ-loop : tie.MeasureT-loop
-μ-loop openers place worker low end j₀ j = j
+μ-loop openers place worker low end j = j
 
 loop-holds : tie.Need-loop-holds Inv-loop μ-loop
 loop-holds c = (omega arith, refl)
@@ -34,7 +34,7 @@ less c =
     let s = at .before .before .before .before .before in
     let a = s .args in
     let loop = at .before .before .before .loop in
-    climb-less (a .openers .now) (a .place .now) (a .worker) (a .low) (a .end) (s .pre .2) (loop .j) (omega arith) (loop .inv .0)
+    climb-less (a .openers .now) (a .place .now) (a .worker) (a .low .0) (a .end .0) (s .pre .2) (loop .j) (omega arith) (loop .inv .0)
     (s .pre .1) (loop .inv .1) (at .wide .result) (at .wide .ensures)
 
 returns : tie.Need-returns Inv-loop μ-loop
@@ -43,7 +43,7 @@ returns c =
     let s = at .before .before .before .before .before in
     let a = s .args in
     let loop = at .before .before .before .loop in
-    climb-below (a .openers .now) (a .place .now) (a .worker) (a .low) (a .end) (s .pre .2) (loop .j) (omega arith) (loop .inv .0)
+    climb-below (a .openers .now) (a .place .now) (a .worker) (a .low .0) (a .end .0) (s .pre .2) (loop .j) (omega arith) (loop .inv .0)
     (s .pre .1) (loop .inv .1) (at .wide .result) (at .wide .ensures) (c .if1 .taken)
 
 element-copy-out-if2 : tie.Need-element-copy-out-if2 Inv-loop μ-loop
@@ -56,7 +56,7 @@ returns-2 c =
     let s = at .before .before .before .before .before in
     let a = s .args in
     let loop = at .before .before .before .loop in
-    climb-hit (a .openers .now) (a .place .now) (a .worker) (a .low) (a .end) (s .pre .2) (loop .j) (omega arith) (loop .inv .0)
+    climb-hit (a .openers .now) (a .place .now) (a .worker) (a .low .0) (a .end .0) (s .pre .2) (loop .j) (omega arith) (loop .inv .0)
     (s .pre .1) (loop .inv .1) (at .wide .result) (at .wide .ensures) (omega arith) (c .if2 .taken)
 
 loop-less : tie.Need-loop-less Inv-loop μ-loop
@@ -69,7 +69,7 @@ loop-again c =
     let a = s .args in
     let loop = at .before .before .before .loop in
     let missed =
-    climb-miss (a .openers .now) (a .place .now) (a .worker) (a .low) (a .end) (s .pre .2) (loop .j) (omega arith) (loop .inv .0)
+    climb-miss (a .openers .now) (a .place .now) (a .worker) (a .low .0) (a .end .0) (s .pre .2) (loop .j) (omega arith) (loop .inv .0)
     (s .pre .1) (loop .inv .1) (at .wide .result) (at .wide .ensures) (omega arith) (c .if2 .left) in
     (omega (arith, less at, loop .inv .0), missed)
 
@@ -77,7 +77,7 @@ returns-3 : tie.Need-returns-3 Inv-loop μ-loop
 returns-3 c =
     let a = c .before .before .before .args in
     let loop = c .before .loop in
-    newest-end (a .place .now) (a .worker) (a .low) (a .end) (loop .j) (omega arith) (loop .inv .1)
+    newest-end (a .place .now) (a .worker) (a .low .0) (a .end .0) (loop .j) (omega arith) (loop .inv .1)
 
 pub climb-spec : {M : Type 1} → statement M
 climb-spec =

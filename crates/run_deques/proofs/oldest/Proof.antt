@@ -9,10 +9,10 @@ use Rattle.run_deques.proofs.oldest.Statement.{statement}
 use Rattle.run_deques.proofs.oldest.Tie as tie
 
 abbrev Inv-loop : tie.InvT-loop
-Inv-loop place worker low end j₀ j = oldestMark place worker j end ≡ oldestMark place worker low end
+Inv-loop place worker end low j = oldestMark place worker j end ≡ oldestMark place worker low end
 
 abbrev μ-loop : tie.MeasureT-loop
-μ-loop place worker low end j₀ j = end - j
+μ-loop place worker end low j = end - j
 
 loop-holds : tie.Need-loop-holds Inv-loop μ-loop
 loop-holds c = refl
@@ -24,7 +24,7 @@ returns : tie.Need-returns Inv-loop μ-loop
 returns c =
     let a = c .before .before .before .before .args in
     let loop = c .before .before .before .loop in
-    oldest-hit (a .place .now) (a .worker) (a .low) (a .end) (loop .j) (omega arith) (loop .inv) (c .if1 .taken)
+    oldest-hit (a .place .now) (a .worker) (a .low .0) (a .end) (loop .j) (omega arith) (loop .inv) (c .if1 .taken)
 
 add-j : tie.Need-add-j Inv-loop μ-loop
 add-j c = omega arith
@@ -36,13 +36,13 @@ loop-again : tie.Need-loop-again Inv-loop μ-loop
 loop-again c =
     let a = c .before .before .before .before .args in
     let loop = c .before .before .before .loop in
-    oldest-miss (a .place .now) (a .worker) (a .low) (a .end) (loop .j) (omega arith) (loop .inv) (c .if1 .left)
+    oldest-miss (a .place .now) (a .worker) (a .low .0) (a .end) (loop .j) (omega arith) (loop .inv) (c .if1 .left)
 
 returns-2 : tie.Need-returns-2 Inv-loop μ-loop
 returns-2 c =
     let a = c .before .before .args in
     let loop = c .before .loop in
-    oldest-end (a .place .now) (a .worker) (a .low) (a .end) (loop .j) (omega arith) (loop .inv)
+    oldest-end (a .place .now) (a .worker) (a .low .0) (a .end) (loop .j) (omega arith) (loop .inv)
 
 pub oldest-spec : {M : Type 1} → statement M
 oldest-spec =

@@ -24,7 +24,7 @@ start c = c .before .before .before
 abbrev mark : tie.After-newest → Option ℕ
 mark c =
     let a = start c .args in
-    newestMark (a .place .now) (a .worker) (a .low) (a .step .0)
+    newestMark (a .place .now) (a .worker) (a .low .0) (a .step .0)
 
 abbrev looked : tie.After-q → tie.After-newest
 looked c = c .before .before
@@ -41,7 +41,7 @@ element-write-place-2 : tie.Need-element-write-place-2
 element-write-place-2 c =
     let at = c .before in
     let a = start (looked at) .args in
-    omega (arith, newest-before (a .place .now) (a .worker) (a .step .0) (a .low) (at .q .given .0 .0 .0) (found at))
+    omega (arith, newest-before (a .place .now) (a .worker) (a .step .0) (a .low .0) (at .q .given .0 .0 .0) (found at))
 
 enum-told : tie.Need-enum-told
 enum-told c = search needs
@@ -54,7 +54,7 @@ returns c =
     let at = c .before in
     let a = start (looked at) .args in (
       sym (at .q .given .1) ∙ looked at .newest .ensures,
-      popped-at (a .place .now) (a .worker) (a .low) (a .step .0) (at .q .given .0 .0 .0) (found at),
+      popped-at (a .place .now) (a .worker) (a .low .0) (a .step .0) (at .q .given .0 .0 .0) (found at),
     )
 
 returns-2 : tie.Need-returns-2
@@ -62,7 +62,7 @@ returns-2 c =
     let at = c .before .before in
     let a = start at .args in
     let none-found = pusher-nothing (mark at) (sym (at .newest .ensures) ∙ c .enum-told .given .1) in
-    (sym (c .enum-told .given .1) ∙ at .newest .ensures, popped-nothing (a .place .now) (a .worker) (a .low) (a .step .0) none-found)
+    (sym (c .enum-told .given .1) ∙ at .newest .ensures, popped-nothing (a .place .now) (a .worker) (a .low .0) (a .step .0) none-found)
 
 pub pop-spec : {M : Type 1} → statement M
 pop-spec =

@@ -24,7 +24,7 @@ start c = c .before .before
 abbrev mark : tie.After-oldest → Option ℕ
 mark c =
     let a = start c .args in
-    oldestMark (a .place .now) (a .victim) (a .low) (a .end)
+    oldestMark (a .place .now) (a .victim) (a .low .0) (a .end)
 
 abbrev looked : tie.After-q → tie.After-oldest
 looked c = c .before .before
@@ -38,7 +38,7 @@ element-write-place : tie.Need-element-write-place
 element-write-place c =
     let at = c .before in
     let a = start (looked at) .args in
-    omega (arith, oldest-before (a .place .now) (a .victim) (a .low) (a .end) (at .q .given .0 .0 .0) (found at))
+    omega (arith, oldest-before (a .place .now) (a .victim) (a .low .0) (a .end) (at .q .given .0 .0 .0) (found at))
 
 enum-told : tie.Need-enum-told
 enum-told c = search needs
@@ -48,7 +48,7 @@ returns c =
     let at = c .before in
     let a = start (looked at) .args in (
       sym (at .q .given .1) ∙ looked at .oldest .ensures,
-      robbed-at (a .place .now) (a .victim) (a .low) (a .end) (at .q .given .0 .0 .0) (found at),
+      robbed-at (a .place .now) (a .victim) (a .low .0) (a .end) (at .q .given .0 .0 .0) (found at),
     )
 
 returns-2 : tie.Need-returns-2
@@ -56,7 +56,7 @@ returns-2 c =
     let at = c .before .before in
     let a = start at .args in
     let none-found = pusher-nothing (mark at) (sym (at .oldest .ensures) ∙ c .enum-told .given .1) in
-    (sym (c .enum-told .given .1) ∙ at .oldest .ensures, robbed-nothing (a .place .now) (a .victim) (a .low) (a .end) none-found)
+    (sym (c .enum-told .given .1) ∙ at .oldest .ensures, robbed-nothing (a .place .now) (a .victim) (a .low .0) (a .end) none-found)
 
 pub take-spec : {M : Type 1} → statement M
 take-spec =

@@ -4,7 +4,8 @@
 use Prim.Native.Nat.{ℕ, _≤_, _<_}
 use mathlib.Core.Path.{refl, sym, ap, _∙_}
 use mathlib.Core.List.{List}
-use lib.ListN.{length, getD}
+use native.Mathlib.Omega.{arith}
+use lib.ListN.{length}
 use Rattle.rules.specs.Tree.{kinds}
 use Rattle.run_spec.specs.declared.Taken.the-variants.{Of}
 use Rattle.run_spec.specs.Terms.{Small}
@@ -63,20 +64,30 @@ element-copy-out-wide c = allowed c .1
 wide-requires : tie.Need-wide-requires
 wide-requires c κs = search needs
 
-mul-take-step : tie.Need-mul-take-step
-mul-take-step c = search needs
+mul-wide-2 : tie.Need-mul-wide-2
+mul-wide-2 c = search needs
 
-element-copy-out-take-step : tie.Need-element-copy-out-take-step
-element-copy-out-take-step c = allowed (c .before .before .before) .1
+element-copy-out-wide-2 : tie.Need-element-copy-out-wide-2
+element-copy-out-wide-2 c = allowed (c .before .before) .1
+
+wide-requires-2 : tie.Need-wide-requires-2
+wide-requires-2 c κs = search needs
+
+-- The victim's `low` and `base` have been read.
+abbrev judged : tie.After-wide2 → tie.Else1
+judged c = c .before .before .before .before
 
 take-step-requires : tie.Need-take-step-requires
 take-step-requires c κs =
-    let e = c .before .before .before .before in
+    let e = judged (c .before) in
     (allowed e .2, start e .pre)
 
 -- The deque has been looked at.
+abbrev reads : tie.After-take-step → tie.After-wide2
+reads c = c .before .before
+
 abbrev looked : tie.After-take-step → tie.Else1
-looked c = c .before .before .before .before .before
+looked c = judged (reads c)
 
 enum-known-stolen : tie.Need-enum-known-stolen
 enum-known-stolen c = c .match .keys1
@@ -94,11 +105,14 @@ rem-begun c = search needs
 add-begun : tie.Need-add-begun
 add-begun c = search needs
 
+wide-requires-3 : tie.Need-wide-requires-3
+wide-requires-3 c κs = search needs
+
 settle-requires : tie.Need-settle-requires
 settle-requires c κs =
-    let at = c .before .before .before .before .before in
+    let at = c .before .before .before .before .before .before in
     let few = allowed (looked (at .before .before)) in
-    (few .0, few .1, small at)
+    (few .0, few .1, small at, omega (arith, c .wide3 .ensures))
 
 trace-number-requires : tie.Need-trace-number-requires
 trace-number-requires c κs = search needs
@@ -111,20 +125,22 @@ refused-requires-2 c κs = search needs
 
 returns-2 : tie.Need-returns-2
 returns-2 c =
-    let found = c .before .before .before .before .before .before .before in
+    let found = c .before .before .before .before .before .before .before .before in
     let taken = found .before .before in
     let e = looked taken in
     let at = start e in
     let a = at .args in
-    let from = taken .before .before .before .wide in
+    let from = reads taken .before .before .wide in
+    let base = reads taken .wide2 in
     let took = taken .take-step in
     let x = found .stolen .given .0 .0 in
     let number = c .trace-number in
-    let settled = c .before .settle in
+    let settled = c .before .settle .ensures in
+    let begun = rw (c .before .before .wide3 .ensures) at (settled .1 .0) in
     steal-takes (lent at) (a .tree .now) (a .thief) (a .victim) _ (e .before .judge-steal .ensures) (e .if1 .left)
-    (from .result) (from .ensures) (getD (a .base .now) (a .victim) 0) refl (took .last .1 .1 .0) (took .ensures .1 .0)
+    (from .result) (from .ensures) (base .result) (base .ensures) (took .last .1 .1 .0) (took .ensures .1 .0)
     (took .result) (took .ensures .0) x (found .stolen .given .1) (number .result) (number .ensures) _ refl
-    _ _ _ _ (settled .ensures .0) (settled .ensures .1 .0) (settled .ensures .1 .1 .0) (settled .ensures .1 .1 .1)
+    _ _ _ _ (settled .0) begun (settled .1 .1 .0) (settled .1 .1 .1)
 
 returns-3 : tie.Need-returns-3
 returns-3 c =
@@ -132,11 +148,12 @@ returns-3 c =
     let e = looked taken in
     let at = start e in
     let a = at .args in
-    let from = taken .before .before .before .wide in
+    let from = reads taken .before .before .wide in
+    let base = reads taken .wide2 in
     let took = taken .take-step in
     ap (kept at (took .last .1 .1 .0)) (c .refused2 .ensures)
     ∙ steal-empty (lent at) (a .tree .now) (a .thief) (a .victim) _ (e .before .judge-steal .ensures) (e .if1 .left)
-    (from .result) (from .ensures) (getD (a .base .now) (a .victim) 0) refl (took .last .1 .1 .0) (took .ensures .1 .0)
+    (from .result) (from .ensures) (base .result) (base .ensures) (took .last .1 .1 .0) (took .ensures .1 .0)
     (took .result) (took .ensures .0) (c .before .enum-told .given .1)
 
 pub steal-on-spec : {M : Type 1} → statement M
@@ -149,13 +166,15 @@ steal-on-spec =
     mul-wide
     element-copy-out-wide
     wide-requires
-    mul-take-step
-    element-copy-out-take-step
+    mul-wide-2
+    element-copy-out-wide-2
+    wide-requires-2
     take-step-requires
     enum-known-stolen
     cast-begun
     rem-begun
     add-begun
+    wide-requires-3
     settle-requires
     trace-number-requires
     enum-told

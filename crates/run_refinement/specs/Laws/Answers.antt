@@ -14,8 +14,8 @@ use Rattle.rules.specs.Scheduling.{workFirst, mostWorkers, pushes, Run, workerA
 use Rattle.rules.specs.Scheduling.{oldest, steal}
 use Rattle.run_spec.specs.Deques.{oldestMark}
 use Rattle.run_spec.specs.Running.{runNumber}
-use Rattle.run_spec.specs.declared.TraceNumber.{TraceNumber}
-use Rattle.run_spec.specs.Numbers.{numberBy}
+use Rattle.trace.specs.declared.number.TraceNumber.{TraceNumber}
+use Rattle.trace.specs.Contract.{numberBy}
 use Rattle.run_spec.specs.Stealing.{stealNumber}
 use Rattle.run_spec.specs.declared.Outcome.{Outcome}
 use Rattle.run_spec.specs.declared.Outcome.the-variants.{Ran, Stole, Refused}

@@ -18,7 +18,7 @@ use Rattle.tree_scan.specs.Laws.Frames.{Frame}
 use Rattle.run_invariant.specs.Invariant.{Invariant}
 use Rattle.run_spec.specs.declared.Outcome.the-variants.{Ran, Stole, Refused}
 use Rattle.run_spec.specs.Running.{runNumber}
-use Rattle.run_spec.specs.Numbers.{numberBy}
+use Rattle.trace.specs.Contract.{numberBy}
 use Rattle.run_spec.specs.Stealing.{stealNumber}
 use Rattle.run_spec.specs.Moves.{Fields, fresh, refused, runMove, stealMove, eventMove}
 use Rattle.run_spec.specs.Idle.{isIdle, idleBits, idleNumber, idleFirst}

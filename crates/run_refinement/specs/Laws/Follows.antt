@@ -16,8 +16,8 @@ use Rattle.tree_scan.specs.Laws.Frames.{Frame, accepted-frame}
 use Rattle.run_invariant.specs.Invariant.{Invariant}
 use Rattle.run_invariant.specs.Laws.Always.{start-invariant, event-keeps, always}
 use Rattle.run_spec.specs.declared.Outcome.{Outcome}
-use Rattle.run_spec.specs.declared.TraceNumber.the-variants.{ByOrdinal, BySerial}
-use Rattle.run_spec.specs.Numbers.{numberBy, numberValue}
+use Rattle.trace.specs.declared.number.TraceNumber.the-variants.{ByOrdinal, BySerial}
+use Rattle.trace.specs.Contract.{numberBy, numberValue}
 use Rattle.run_spec.specs.Moves.{fresh}
 use Rattle.run_state.specs.declared.RunState.{RunState}
 use Rattle.run_state.specs.Contract.{fields, stateOf, startAnswer, eventAnswer, idleAnswer}

@@ -21,7 +21,7 @@ use Rattle.run_invariant.specs.Laws.Counts.{has-head, any-one}
 use Rattle.run_invariant.specs.Laws.Phase.{first-holds, first-pushes, oldest-last, after-ended, after-kept}
 use Rattle.run_invariant.specs.Laws.Weights.{end-within, nested-end, holds-inside, pushes-inside}
 use Rattle.run_spec.specs.Deques.{find, marked, newestMark, oldestMark, popped, robbed}
-use Rattle.run_spec.specs.Numbers.{childrenBetween, ordinalFrom}
+use Rattle.run_spec.specs.Ordinals.{childrenBetween, ordinalFrom}
 use Rattle.run_refinement.specs.Tie.{Line, Hops, Linked, HandShown}
 use Rattle.run_refinement.specs.Laws.Scans.{newest-found, newest-nothing, oldest-found, oldest-nothing}
 use Rattle.run_refinement.specs.Laws.Hops.{hops-more, hops-ordinal, hops-children}

@@ -14,7 +14,7 @@ use Rattle.tree_scan.specs.Laws.Shape.{after, Shape, child-inside, after-end, t
 use Rattle.tree_scan.specs.Laws.Frames.{endAt, sizeAt, cont-after}
 use Rattle.tree_scan.specs.Laws.Places.{ordinal-cont}
 use Rattle.run_invariant.specs.Laws.Weights.{cont-inside}
-use Rattle.run_spec.specs.Numbers.{childrenIn, childrenBetween}
+use Rattle.run_spec.specs.Ordinals.{childrenIn, childrenBetween}
 use Rattle.run_refinement.specs.Tie.{Hops}
 
 -- ---- scans

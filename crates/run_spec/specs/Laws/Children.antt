@@ -11,7 +11,7 @@ use lib.Seq.{drop-cons}
 use lib.Dec.{eqb}
 use borrow.Author.Tests.{ne-eqb}
 use Rattle.rules.specs.Tree.{isEnd, kindAt}
-use Rattle.run_spec.specs.Numbers.{childrenIn, childrenBetween}
+use Rattle.run_spec.specs.Ordinals.{childrenIn, childrenBetween}
 
 -- The kinds from step j to before step `to`.
 unfoldable pub window : List ℕ → ℕ → ℕ → List ℕ

@@ -8,14 +8,15 @@ use native.Mathlib.Omega.{arith}
 use lib.ListN.{length, getD, set}
 use borrow.Author.Tests.{eq-eqb, ne-eqb}
 use Rattle.rules.specs.Tree.{kinds}
-use Rattle.run_spec.specs.declared.TraceNumber.{TraceNumber}
+use Rattle.policy.specs.Contract.{mostPhases}
+use Rattle.trace.specs.declared.number.TraceNumber.{TraceNumber}
 use Rattle.run_spec.specs.declared.Stolen.{Stolen}
 use Rattle.run_spec.specs.declared.Taken.{Taken}
 use Rattle.run_spec.specs.declared.Taken.the-variants.{Of, Nothing}
 use Rattle.run_spec.specs.declared.Outcome.the-variants.{Ran, Stole, Refused}
 use Rattle.run_spec.specs.Deques.{oldestMark, robbed}
 use Rattle.run_spec.specs.Running.{runNumber, heldNext, placeNext}
-use Rattle.run_spec.specs.Numbers.{numberBy}
+use Rattle.trace.specs.Contract.{numberBy}
 use Rattle.run_spec.specs.Stealing.{stealNumber, takenOf}
 use Rattle.run_spec.specs.Moves.{Fields, fieldsOf, moveOf, refused, takenOrdinal, ranFields, runMove, nextPhase}
 use Rattle.run_spec.specs.Moves.{robbedFields, stealMove, eventMove}
@@ -78,7 +79,7 @@ module _ (f : Fields) (tree : List ℕ) (t v number : ℕ) (judged : number ≡ 
 
     pub steal-takes : (x : Stolen) → r ≡ Of x
         → (told : TraceNumber) → told ≡ numberBy (f .policy) (x .ordinal .0) (x .step .0)
-        → (begun : ℕ) → begun ≡ f .steals % 2048 + 1
+        → (begun : ℕ) → begun ≡ f .steals % mostPhases + 1
         → (held phase lows bases : List ℕ) → held ≡ set (f .held) t (x .step .0) → phase ≡ set (f .phase) t begun
         → lows ≡ set (set (f .low) v (x .pusher .0 + 1)) t (x .step .0) → bases ≡ set (set (f .base) v 0) t (x .ordinal .0)
         → moveOf (Stole told) (fieldsOf place held phase lows bases begun (f .policy)) ≡ stealMove f tree t v

@@ -11,7 +11,7 @@ use lib.ListN.{length, getD}
 use lib.Dec.{leb, ltb}
 use borrow.Author.Tests.{lt-ltb, le-ltb, le-leb, lt-leb}
 use Rattle.rules.specs.Scheduling.{pushes}
-use Rattle.run_spec.specs.Numbers.{ordinalFrom}
+use Rattle.run_spec.specs.Ordinals.{ordinalFrom}
 use Rattle.run_spec.specs.declared.Stolen.{Stolen}
 use Rattle.run_spec.specs.declared.Taken.{Taken}
 use Rattle.run_spec.specs.declared.Taken.the-variants.{Of, Nothing}

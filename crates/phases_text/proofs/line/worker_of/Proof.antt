@@ -22,10 +22,10 @@ shared-slice-read-result : tie.Need-shared-slice-read-result
 shared-slice-read-result c = search needs
 
 cast-result : tie.Need-cast-result
-cast-result c = omega (arith, c .shared-slice-known .given (4 * (c .before .before .args .phase - 1)))
+cast-result c = omega (arith, c .shared-slice-known .given (4 * (c .before .before .args .phase .0 - 1)))
 
 returns-2 : tie.Need-returns-2
-returns-2 c = worker-later (c .before .before .args .trace .now) (c .before .before .args .phase) (omega arith)
+returns-2 c = worker-later (c .before .before .args .trace .now) (c .before .before .args .phase .0) (omega arith)
 
 pub worker-of-spec : {M : Type 1} → statement M
 worker-of-spec =

@@ -7,8 +7,8 @@ use Rattle.record_walk.proofs.output.trace_steal.Tie as tie
 encode-number-requires : tie.Need-encode-number-requires
 encode-number-requires c κs = search needs
 
-put-record-requires : tie.Need-put-record-requires
-put-record-requires c κs = search needs
+put-steal-requires : tie.Need-put-steal-requires
+put-steal-requires c κs = search needs
 
 cast-move-part : tie.Need-cast-move-part
 cast-move-part c = search needs
@@ -25,14 +25,14 @@ same-length c = search needs
 returns : tie.Need-returns
 returns c =
     let put = c .before .before .before .before in
-    (rw (← put .before .before .encode-number .ensures) (put .put-record .ensures), c .move-part .ensures)
+    (rw (← put .before .before .encode-number .ensures) (put .put-steal .ensures), c .move-part .ensures)
 
 pub trace-steal-spec : {M : Type 1} → statement M
 trace-steal-spec =
     tie.close
     (tie.spec
     encode-number-requires
-    put-record-requires
+    put-steal-requires
     cast-move-part
     cast-move-part-2
     move-part-requires

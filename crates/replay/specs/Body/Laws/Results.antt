@@ -16,7 +16,7 @@ use Rattle.tree_scan.specs.Laws.Frames.{Frame}
 use Rattle.tree_tables.specs.Laws.Fronts.{start-frame}
 use Rattle.replay_invariant.specs.Invariant.{Split}
 use Rattle.replay_invariant.specs.Laws.Always.{always-split}
-use Rattle.replay_spec.specs.Begins.{mostPhases}
+use Rattle.policy.specs.Contract.{mostPhases}
 use Rattle.replay_spec.specs.Lists.{listed, Listable}
 use Rattle.replay_spec.specs.Laws.RunLists.{listed-is}
 use Rattle.replay_walk.specs.declared.Ended.{Ended}

@@ -27,11 +27,11 @@ abbrev entry : tie.At-loop Inv-loop μ-loop → tie.Start Inv-loop μ-loop
 entry c = c .before .before .before .before .before .before
 
 -- The held step's record is put, and its kind is read.
-abbrev put : tie.After-kind Inv-loop μ-loop → tie.After-put-record Inv-loop μ-loop
+abbrev put : tie.After-kind Inv-loop μ-loop → tie.After-put-entry Inv-loop μ-loop
 put c = c .before .before .before
 
 abbrev top : tie.After-kind Inv-loop μ-loop → tie.At-loop Inv-loop μ-loop
-top c = put c .before .before .before .before
+top c = put c .before .before
 
 -- The step is an end, and the newest of the stack is read.
 abbrev more : tie.After-wide Inv-loop μ-loop → tie.Else2 Inv-loop μ-loop
@@ -42,7 +42,7 @@ abbrev read : tie.After-held-after Inv-loop μ-loop → tie.After-kind Inv-loop 
 read c = c .before .before .before
 
 -- What it pushes stays.
-abbrev known : tie.After-struct-known3 Inv-loop μ-loop → tie.After-held-after Inv-loop μ-loop
+abbrev known : tie.After-struct-known Inv-loop μ-loop → tie.After-held-after Inv-loop μ-loop
 known c = c .before .before .before
 
 -- ---- the facts
@@ -57,14 +57,14 @@ turn : (c : tie.After-kind Inv-loop μ-loop)
     → let a = entry (top c) .args in
     let l = top c .loop in
     Turn (a .policy) (a .tree .now) (a .labels .now) (a .phase .0) (a .first .0) (a .list .now) (l .stack) (l .list) (l .held .0)
-    (l .depth) (l .count) (put c .put-record .last .0)
-turn c = record { so = top c .loop .inv; put = put c .put-record .ensures }
+    (l .depth) (l .count) (put c .put-entry .last .0)
+turn c = record { so = top c .loop .inv; put = put c .put-entry .ensures }
 
 opening : (c : tie.After-held-after Inv-loop μ-loop)
     → let a = entry (top (read c)) .args in
     let l = top (read c) .loop in
     Opening (a .policy) (a .tree .now) (a .labels .now) (a .phase .0) (a .first .0) (a .list .now) (l .stack) (l .list) (l .held .0)
-    (l .depth) (l .count) (put (read c) .put-record .last .0) (c .held-after .result .0) (c .before .pushed-by .result .0)
+    (l .depth) (l .count) (put (read c) .put-entry .last .0) (c .held-after .result .0) (c .before .pushed-by .result .0)
 opening c =
     record {
       turn = turn (read c);
@@ -73,13 +73,13 @@ opening c =
       pushing = c .before .pushed-by .ensures;
     }
 
-kept : (c : tie.After-struct-known3 Inv-loop μ-loop)
+kept : (c : tie.After-struct-known Inv-loop μ-loop)
     → not (dropped (entry (top (read (known c))) .args .labels .now) (known c .before .pushed-by .result .0)
     (entry (top (read (known c))) .args .phase .0)) ≡ true
 kept c = sym (c .before .before .stays .ensures) ∙ c .before .if3 .taken
 
 -- So the stack has room for it.
-room : (c : tie.After-struct-known3 Inv-loop μ-loop) → top (read (known c)) .loop .depth < mostTraceRecords
+room : (c : tie.After-struct-known Inv-loop μ-loop) → top (read (known c)) .loop .depth < mostTraceRecords
 room c = push-fits (opening (known c)) (kept c)
 
 -- ---- the needs
@@ -92,14 +92,8 @@ loop-holds c =
 add-count : tie.Need-add-count Inv-loop μ-loop
 add-count c = omega (arith, fits c)
 
-cast-put-record : tie.Need-cast-put-record Inv-loop μ-loop
-cast-put-record c = search needs
-
-cast-put-record-2 : tie.Need-cast-put-record-2 Inv-loop μ-loop
-cast-put-record-2 c = search needs
-
-put-record-requires : tie.Need-put-record-requires Inv-loop μ-loop
-put-record-requires c κs = omega (arith, fits (c .before .before .before))
+put-entry-requires : tie.Need-put-entry-requires Inv-loop μ-loop
+put-entry-requires c κs = omega (arith, fits (c .before))
 
 kind-requires : tie.Need-kind-requires Inv-loop μ-loop
 kind-requires c κs = search needs
@@ -180,9 +174,7 @@ write-phase-spec =
     μ-loop
     loop-holds
     add-count
-    cast-put-record
-    cast-put-record-2
-    put-record-requires
+    put-entry-requires
     kind-requires
     same-length
     same-length-2

@@ -6,9 +6,6 @@ use Rattle.replay_spec.specs.Begins.{basesBegun, ordinalsBegun}
 use Rattle.replay_steal.proofs.phase.begin.Statement.{statement}
 use Rattle.replay_steal.proofs.phase.begin.Tie as tie
 
-cast-from : tie.Need-cast-from
-cast-from c = search needs
-
 cast-labels : tie.Need-cast-labels
 cast-labels c = search needs
 
@@ -57,6 +54,9 @@ mul-ordinals c = search needs
 element-write-ordinals : tie.Need-element-write-ordinals
 element-write-ordinals c = search needs
 
+cast-ordinals : tie.Need-cast-ordinals
+cast-ordinals c = search needs
+
 mul-ordinals-2 : tie.Need-mul-ordinals-2
 mul-ordinals-2 c = search needs
 
@@ -83,7 +83,6 @@ pub begin-spec : {M : Type 1} → statement M
 begin-spec =
     tie.close
     (tie.spec
-    cast-from
     cast-labels
     mul-labels
     slice-write-labels
@@ -100,6 +99,7 @@ begin-spec =
     element-write-bases-2
     mul-ordinals
     element-write-ordinals
+    cast-ordinals
     mul-ordinals-2
     element-write-ordinals-2
     cast-latest

@@ -33,7 +33,7 @@ asked c = start (popping (c .before .before) .before)
 abbrev newest : tie.Start → Option ℕ
 newest c =
     let a = c .args in
-    newestMark (a .place .now) (a .worker) (a .low) (a .step .0)
+    newestMark (a .place .now) (a .worker) (a .low .0) (a .step .0)
 
 found : (c : tie.After-q) → newest (asked c) ≡ some (c .q .given .0 .0 .0)
 found c =
@@ -43,7 +43,7 @@ found c =
 before : (c : tie.After-q) → c .q .given .0 .0 .0 < length (kinds (asked c .args .tree .now))
 before c =
     let a = asked c .args in
-    omega (arith, asked c .pre .0, newest-before (a .place .now) (a .worker) (a .step .0) (a .low) (c .q .given .0 .0 .0) (found c))
+    omega (arith, asked c .pre .0, newest-before (a .place .now) (a .worker) (a .step .0) (a .low .0) (c .q .given .0 .0 .0) (found c))
 
 -- ---- the needs
 
@@ -70,9 +70,9 @@ returns c =
     let a = start (opening .before) .args in
     let ks = kinds (a .tree .now) in
     let opens : kindAt ks (a .step .0) ≡ 3 → ⊥ = λ e. opening .if1 .taken (opening .before .kind .ensures ∙ e) in (
-      next-opens (a .policy) ks (a .place .now) (a .worker) (a .low) (a .step .0) opens
+      next-opens (a .policy) ks (a .place .now) (a .worker) (a .low .0) (a .step .0) opens
           (held .held-after .result .0) (held .held-after .ensures),
-      c .before .push .ensures ∙ place-opens (a .policy) ks (a .place .now) (a .worker) (a .low) (a .step .0) opens,
+      c .before .push .ensures ∙ place-opens (a .policy) ks (a .place .now) (a .worker) (a .low .0) (a .step .0) opens,
     )
 
 pop-requires : tie.Need-pop-requires
@@ -102,9 +102,9 @@ returns-2 c =
     let popped = q .before .before .pop in
     let pushed = c .before .pushed-by in
     let end = ends (popping (q .before .before)) in (
-      next-pops (a .policy) ks (a .place .now) (a .worker) (a .low) (a .step .0) end (q .q .given .0 .0 .0) (found q)
+      next-pops (a .policy) ks (a .place .now) (a .worker) (a .low .0) (a .step .0) end (q .q .given .0 .0 .0) (found q)
           (pushed .result .0) (pushed .ensures),
-      place-ends (a .policy) ks (a .place .now) (a .worker) (a .low) (a .step .0) end (popped .last .1 .0) (popped .ensures .1),
+      place-ends (a .policy) ks (a .place .now) (a .worker) (a .low .0) (a .step .0) end (popped .last .1 .0) (popped .ensures .1),
     )
 
 returns-3 : tie.Need-returns-3
@@ -114,8 +114,8 @@ returns-3 c =
     let ks = kinds (a .tree .now) in
     let popped = c .before .before .pop in
     let none-found = found-nothing (newest (start (e .before))) (popped .result) (popped .ensures .0) (c .enum-told .given .1) in (
-      next-ends (a .policy) ks (a .place .now) (a .worker) (a .low) (a .step .0) (ends e) none-found,
-      place-ends (a .policy) ks (a .place .now) (a .worker) (a .low) (a .step .0) (ends e) (popped .last .1 .0) (popped .ensures .1),
+      next-ends (a .policy) ks (a .place .now) (a .worker) (a .low .0) (a .step .0) (ends e) none-found,
+      place-ends (a .policy) ks (a .place .now) (a .worker) (a .low .0) (a .step .0) (ends e) (popped .last .1 .0) (popped .ensures .1),
     )
 
 pub advance-spec : {M : Type 1} → statement M

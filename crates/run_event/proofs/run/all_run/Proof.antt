@@ -7,13 +7,13 @@ use Rattle.run_event.proofs.run.all_run.Statement.{statement}
 use Rattle.run_event.proofs.run.all_run.Tie as tie
 
 abbrev Inv-loop : tie.InvT-loop
-Inv-loop place first end j₀ unrun₀ j unrun = Counted place first end j unrun
+Inv-loop place end first unrun₀ j unrun = Counted place first end j unrun
 
 abbrev μ-loop : tie.MeasureT-loop
-μ-loop place first end j₀ unrun₀ j unrun = end - j
+μ-loop place end first unrun₀ j unrun = end - j
 
 loop-holds : tie.Need-loop-holds Inv-loop μ-loop
-loop-holds c = counted-start (c .args .place .now) (c .args .first) (c .args .end)
+loop-holds c = counted-start (c .args .place .now) (c .args .first .0) (c .args .end .0)
 
 add-j : tie.Need-add-j Inv-loop μ-loop
 add-j c = omega arith
@@ -31,7 +31,7 @@ loop-again : tie.Need-loop-again Inv-loop μ-loop
 loop-again c =
     let a = c .before .before .before .before .args in
     let loop = c .before .before .before .loop in
-    counted-unrun (a .place .now) (a .first) (a .end) (loop .j) (loop .unrun) (omega arith) (loop .inv) (c .if1 .taken)
+    counted-unrun (a .place .now) (a .first .0) (a .end .0) (loop .j) (loop .unrun) (omega arith) (loop .inv) (c .if1 .taken)
 
 loop-less-2 : tie.Need-loop-less-2 Inv-loop μ-loop
 loop-less-2 c = omega arith
@@ -40,13 +40,13 @@ loop-again-2 : tie.Need-loop-again-2 Inv-loop μ-loop
 loop-again-2 c =
     let a = c .before .before .before .before .args in
     let loop = c .before .before .before .loop in
-    counted-run (a .place .now) (a .first) (a .end) (loop .j) (loop .unrun) (omega arith) (loop .inv) (c .if1 .left)
+    counted-run (a .place .now) (a .first .0) (a .end .0) (loop .j) (loop .unrun) (omega arith) (loop .inv) (c .if1 .left)
 
 returns : tie.Need-returns Inv-loop μ-loop
 returns c =
     let a = c .before .before .args in
     let loop = c .before .loop in
-    counted-done (a .place .now) (a .first) (a .end) (loop .j) (loop .unrun) (omega arith) (loop .inv)
+    counted-done (a .place .now) (a .first .0) (a .end .0) (loop .j) (loop .unrun) (omega arith) (loop .inv)
 
 pub all-run-spec : {M : Type 1} → statement M
 all-run-spec =

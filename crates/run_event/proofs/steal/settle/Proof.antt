@@ -14,6 +14,9 @@ mul-held c = search needs
 element-write-held : tie.Need-element-write-held
 element-write-held c = search needs
 
+cast-phase : tie.Need-cast-phase
+cast-phase c = search needs
+
 mul-phase : tie.Need-mul-phase
 mul-phase c = search needs
 
@@ -63,6 +66,7 @@ settle-spec =
     cast-step
     mul-held
     element-write-held
+    cast-phase
     mul-phase
     element-write-phase
     add-low

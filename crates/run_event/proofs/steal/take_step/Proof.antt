@@ -32,13 +32,13 @@ start c = c .before .before .before .before .before
 abbrev oldest : tie.After-take → Option ℕ
 oldest c =
     let a = start c .args in
-    oldestMark (a .place .now) (a .victim) (a .low) (length (kinds (a .tree .now)))
+    oldestMark (a .place .now) (a .victim) (a .low .0) (length (kinds (a .tree .now)))
 
 gives : (c : tie.After-take) → pusherOf (oldest c) ≡ c .take .result
 gives c = rw (← (c .before .before .steps .ensures)) (sym (c .take .ensures .0))
 
 leaves : (c : tie.After-take) → let a = start c .args in
-    c .take .last .0 ≡ robbed (a .place .now) (a .victim) (a .low) (length (kinds (a .tree .now)))
+    c .take .last .0 ≡ robbed (a .place .now) (a .victim) (a .low .0) (length (kinds (a .tree .now)))
 leaves c = rw (← (c .before .before .steps .ensures)) (c .take .ensures .1)
 
 -- ---- a pusher is found, and stands in the tree
@@ -52,7 +52,7 @@ found c = pusher-at (oldest (took c)) (c .pusher .given .0 .0) (gives (took c) �
 within : (c : tie.After-pusher) → c .pusher .given .0 .0 .0 < length (kinds (start (took c) .args .tree .now))
 within c =
     let a = start (took c) .args in
-    oldest-before (a .place .now) (a .victim) (a .low) (length (kinds (a .tree .now))) (c .pusher .given .0 .0 .0) (found c)
+    oldest-before (a .place .now) (a .victim) (a .low .0) (length (kinds (a .tree .now))) (c .pusher .given .0 .0 .0) (found c)
 
 -- ---- the needs
 
@@ -77,7 +77,7 @@ returns c =
     let step = c .before .pushed-by in
     let ordinal = c .ordinal-from in
     let small = within at in (
-      takes-step (a .policy) ks (a .base) (a .low) (oldest (took at))
+      takes-step (a .policy) ks (a .base .0) (a .low .0) (oldest (took at))
           (record { pusher = q; step = step .result; ordinal = ordinal .result }) (found at) (step .ensures) (ordinal .ensures .0),
       (
         leaves (took at),
@@ -94,7 +94,7 @@ returns-2 c =
     let at = c .before .before in
     let a = start at .args in
     let none-found = pusher-nothing (oldest at) (gives at ∙ c .enum-told .given .1) in
-    (takes-nothing (a .policy) (kinds (a .tree .now)) (a .base) (a .low) (oldest at) none-found, (leaves at, omega arith))
+    (takes-nothing (a .policy) (kinds (a .tree .now)) (a .base .0) (a .low .0) (oldest at) none-found, (leaves at, omega arith))
 
 pub take-step-spec : {M : Type 1} → statement M
 take-step-spec =

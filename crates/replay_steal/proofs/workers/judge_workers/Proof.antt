@@ -1,4 +1,4 @@
--- `replay_steal::entry::judge_workers` meets its contract: the workers are asked in the order in which the rules judge a record,
+-- `replay_steal::workers::judge_workers` meets its contract: the workers are asked in the order in which the rules judge a record,
 -- and the table has the free number exactly for a worker without a phase. Assumes nothing.
 use mathlib.Core.Path.{_≡_, sym, _∙_}
 use mathlib.Core.Bool.{false}
@@ -8,8 +8,8 @@ use borrow.Author.Needs.{needs}
 use borrow.Author.Tests.{leb-false}
 use Rattle.rules.specs.Scheduling.{mostWorkers}
 use Rattle.replay_spec.specs.Laws.Workers.{thief-refused, victim-refused, same-refused, unseen-refused, none-refused}
-use Rattle.replay_steal.proofs.entry.judge_workers.Statement.{statement}
-use Rattle.replay_steal.proofs.entry.judge_workers.Tie as tie
+use Rattle.replay_steal.proofs.workers.judge_workers.Statement.{statement}
+use Rattle.replay_steal.proofs.workers.judge_workers.Tie as tie
 
 -- ---- the two workers, once both are asked for
 

@@ -1,8 +1,8 @@
--- `run_event::number::trace_number` meets its contract: a trace names a stolen step by its ordinal under work-first, and by its
+-- `trace::number::trace_number` meets its contract: a trace names a stolen step by its ordinal under work-first, and by its
 -- serial number under every other policy. Assumes nothing.
-use Rattle.run_spec.specs.Laws.Numbers.{number-ordinal, number-serial}
-use Rattle.run_event.proofs.number.trace_number.Statement.{statement}
-use Rattle.run_event.proofs.number.trace_number.Tie as tie
+use Rattle.trace.specs.Laws.Numbers.{number-ordinal, number-serial}
+use Rattle.trace.proofs.number.trace_number.Statement.{statement}
+use Rattle.trace.proofs.number.trace_number.Tie as tie
 
 returns : tie.Need-returns
 returns c =

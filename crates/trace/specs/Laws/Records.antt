@@ -1,4 +1,4 @@
--- A trace record by its bytes, as `replay_steal::entry::record_at` reads them.
+-- A trace record by its bytes, as `record_at` reads them.
 use Prim.Native.Nat.{ℕ, _+_, _*_, _/_, _<_}
 use mathlib.Core.Path.{_≡_}
 use mathlib.Core.List.{List, []}
@@ -8,13 +8,13 @@ use lib.Seq.{drop-cons}
 use Rattle.rules.specs.Bytes.{littleEndian, records}
 use Rattle.rules.specs.Traces.{recordNumber}
 use Rattle.tree.specs.Laws.Records.{length-record, field-at}
-use Rattle.replay_spec.specs.Entries.{Entry}
+use Rattle.trace.specs.Terms.{RecordAt}
 
-pub entry-bytes : (trace : List ℕ) (k number : ℕ) → k < length trace / 4
-    → number ≡ getD trace (4 * k + 2) 0 + 256 * getD trace (4 * k + 3) 0
-    → Entry trace k (getD trace (4 * k) 0) (getD trace (4 * k + 1) 0) number
+pub record-bytes : (trace : List ℕ) (k number : ℕ) → k < length trace / 4
+    → number < 65536 → number ≡ getD trace (4 * k + 2) 0 + 256 * getD trace (4 * k + 3) 0
+    → RecordAt trace k (getD trace (4 * k) 0) (getD trace (4 * k + 1) 0) number
 unfolding recordNumber littleEndian
-entry-bytes trace k number more is =
+record-bytes trace k number more small is =
     let r = getD (records 4 trace) k [] in
     let here : 4 * k + 0 ≡ 4 * k = omega arith in
     let size = length-record 4 trace k more (omega arith) in
@@ -26,4 +26,5 @@ entry-bytes trace k number more is =
       second = field-at 4 trace k 1 more (omega arith);
       rest = rw (drop-cons r 2 0 (omega arith), drop-cons r 3 0 (omega arith), drop-of-length-le r {i = 4} (omega arith))
           (omega (arith, low, high));
+      small = small;
     }
