@@ -109,6 +109,21 @@ fn the_commands_of_the_readme() {
     assert!(text(&read("docs/FORMAT.md")).contains("\n## Refusals\n"));
 }
 
+/// Where the program's input cannot be read or its output not be written, one line says so and the status is 1.
+#[test]
+fn a_failure_of_input_or_output() {
+    let input = "examples/phases/tree-s-work-first.bin";
+    for (command, line) in [
+        ("bin/phases < .".to_owned(), "phases: standard input could not be read\n"),
+        (format!("bin/phases < {input} > /dev/full"), "phases: standard output could not be written\n"),
+        (format!("bin/phases < {input} >&-"), "bin/phases: standard output could not be written\n"),
+    ] {
+        let output = Command::new("bash").arg("-c").arg(&command).current_dir(root()).stdin(Stdio::null()).output();
+        let output = output.expect("bash starts");
+        assert_eq!((output.status.code(), text(&output.stderr), text(&output.stdout)), (Some(1), line.into(), "".into()), "{command}");
+    }
+}
+
 // ---- bin/join ----
 
 fn join(arguments: &[&OsStr]) -> Output {
