@@ -373,12 +373,14 @@ recordings =
     -- worker 5 runs its step too: finished
     ∷ recordTaken (bytes 8 0x0000_0500_0000_0505) (replicate 12 7) (replicate 4 9) 3 true (bytes 12 0x0000_0000_0000_0100_0100_0200)
     (bytes 4 0x0500_0100)
-    -- 1 before 6, 6 before 7, 7 for either buffer, 7 before 9
+    -- 1 before 6, 6 before 7, 7 for either buffer, however long the other, 7 before 9
     ∷ recordRefusal 3 (bytes 1 0x00) [] [] 1 0
     ∷ recordRefusal 0 [] (replicate 12 7) (replicate 4 9) 1 0
     ∷ recordRefusal helpFirst (bytes 1 0x00) (replicate 11 7) (replicate 4 9) 6 0
     ∷ recordRefusal helpFirst (bytes 2 0x0101) (replicate 11 7) (replicate 4 9) 7 0
     ∷ recordRefusal helpFirst (bytes 2 0x0101) (replicate 12 7) (replicate 3 9) 7 0
+    ∷ recordRefusal helpFirst (bytes 2 0x0101) (replicate 11 7) (replicate 5 9) 7 0
+    ∷ recordRefusal helpFirst (bytes 2 0x0101) (replicate 13 7) (replicate 3 9) 7 0
     -- a refusal after an accepted event leaves the buffers as they were
     ∷ recordRefusal helpFirst (bytes 4 0x0000_0101) (replicate 12 7) (replicate 4 9) 9 1
     ∷ []
