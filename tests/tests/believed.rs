@@ -224,3 +224,14 @@ fn contracts_name_no_law() {
         }
     }
 }
+
+/// An entry takes any bytes: it asks nothing of its caller.
+#[test]
+fn entries_require_nothing() {
+    for (source, names) in entries() {
+        let whole = text(&source, "//");
+        for name in names {
+            assert!(!contract(&whole, &name).contains("requires {"), "{name} of {source} has a requires");
+        }
+    }
+}
