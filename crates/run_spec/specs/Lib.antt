@@ -1,5 +1,5 @@
--- What one event does to the fields of a run's state. The first six pages are to be believed, since the contracts of
--- `run_state` name them: they have definitions alone, and no theorem.
+-- What one event does to the fields of a run's state. The first six pages are to be believed, since what the contracts of
+-- `run_state` name is made of them: they have definitions alone, and no theorem.
 --     Deques     the marks of the steps: what a scan finds, what a pop and a steal leave
 --     Running    whether a worker may run its step, what it holds next, and the places then
 --     Ordinals   the ordinal of a stolen step
