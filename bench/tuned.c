@@ -132,13 +132,16 @@ static inline struct refusal read_records(const uint8_t *tree, size_t length, un
     return (struct refusal){0, 0};
 }
 
-// The same with refusal 1. The table of those that hold or push a step is filled under help-first only.
-static struct refusal read_tree(const uint8_t *tree, size_t length, unsigned policy, uint32_t *moves, uint16_t *opener)
+// The same with refusals 1 and 16. The table of those that hold or push a step is filled under help-first only.
+static struct refusal read_tree(const uint8_t *tree, size_t length, unsigned policy, unsigned workers, uint32_t *moves,
+                                uint16_t *opener)
 {
+    if (policy != WORK_FIRST && policy != HELP_FIRST)
+        return (struct refusal){1, 0};
+    if (workers - 1 >= WORKERS)
+        return (struct refusal){16, 0};
     if (policy == WORK_FIRST)
         return read_records(tree, length, WORK_FIRST, moves, NULL);
-    if (policy != HELP_FIRST)
-        return (struct refusal){1, 0};
     if (opener)
         return read_records(tree, length, HELP_FIRST, moves, opener);
     return read_records(tree, length, HELP_FIRST, moves, NULL);
@@ -199,7 +202,7 @@ struct run {
     struct worker workers[WORKERS];
     struct stolen stolen[WORKERS];
     size_t steals;
-    uint8_t policy;
+    uint8_t policy, count;
     // An idle worker's newest step is one before its room.
     struct pushed deques[1 + WORKERS * WIDE_ROOM];
 };
@@ -213,7 +216,7 @@ static inline void begin_phase(struct run *run, size_t w, unsigned policy)
     worker->oldest = room + 1;
 }
 
-static inline void begin_run(struct run *run, unsigned policy)
+static inline void begin_run(struct run *run, unsigned policy, unsigned workers)
 {
     for (size_t w = 0; w < WORKERS; w++) {
         run->workers[w] = (struct worker){.held = NONE};
@@ -223,6 +226,7 @@ static inline void begin_run(struct run *run, unsigned policy)
     run->stolen[0] = (struct stolen){0};
     run->steals = 0;
     run->policy = policy;
+    run->count = workers;
 }
 
 // Whether some worker holds a step between a stolen finish continuation and its pusher.
@@ -299,14 +303,14 @@ struct outputs {
     size_t logs;
 };
 
-static inline struct refusal walk(struct run *restrict run, const uint8_t *tree, unsigned policy, const uint8_t *events,
-                                  size_t count, struct outputs *restrict outputs)
+static inline struct refusal walk(struct run *restrict run, const uint8_t *tree, unsigned policy, size_t workers,
+                                  const uint8_t *events, size_t count, struct outputs *restrict outputs)
 {
     uint32_t *log = outputs->log;
-    begin_run(run, policy);
+    begin_run(run, policy, workers);
     for (size_t at = 0; at < count; at++) {
         size_t first = events[2 * at], second = events[2 * at + 1];
-        if ((first | second) >= WORKERS)
+        if (first >= workers || second >= workers)
             return (struct refusal){8, at};
         if (first == second) {
             struct worker *worker = &run->workers[first];
@@ -328,33 +332,33 @@ static inline struct refusal walk(struct run *restrict run, const uint8_t *tree,
 }
 
 // A function for each policy. Inlined into the call, in which the run is a local variable, they are slower.
-__attribute__((noinline)) static struct refusal walk_work_first(struct run *run, const uint8_t *tree, const uint8_t *events,
-                                                                size_t count, struct outputs *outputs)
+__attribute__((noinline)) static struct refusal walk_work_first(struct run *run, const uint8_t *tree, size_t workers,
+                                                                const uint8_t *events, size_t count, struct outputs *outputs)
 {
-    return walk(run, tree, WORK_FIRST, events, count, outputs);
+    return walk(run, tree, WORK_FIRST, workers, events, count, outputs);
 }
 
-__attribute__((noinline)) static struct refusal walk_help_first(struct run *run, const uint8_t *tree, const uint8_t *events,
-                                                                size_t count, struct outputs *outputs)
+__attribute__((noinline)) static struct refusal walk_help_first(struct run *run, const uint8_t *tree, size_t workers,
+                                                                const uint8_t *events, size_t count, struct outputs *outputs)
 {
-    return walk(run, tree, HELP_FIRST, events, count, outputs);
+    return walk(run, tree, HELP_FIRST, workers, events, count, outputs);
 }
 
-struct recorded tuned_record(const uint8_t *tree, size_t tree_length, uint8_t policy, const uint8_t *events,
+struct recorded tuned_record(const uint8_t *tree, size_t tree_length, uint8_t policy, uint8_t workers, const uint8_t *events,
                              size_t events_length, uint8_t *log, size_t log_length, uint8_t *trace, size_t trace_length)
 {
     struct run run;
     struct outputs outputs;
     struct recorded answer = {0};
     size_t n = tree_length / TREE_RECORD;
-    struct refusal refusal = read_tree(tree, tree_length, policy, run.moves, NULL);
+    struct refusal refusal = read_tree(tree, tree_length, policy, workers, run.moves, NULL);
     if (refusal.number == 0 && (events_length % 2 != 0 || events_length > 2 * MOST_EVENTS))
         refusal.number = 6;
     if (refusal.number == 0 && (log_length < 4 * n || trace_length < 2 * (n - 1)))
         refusal.number = 7;
     if (refusal.number == 0)
-        refusal = policy == WORK_FIRST ? walk_work_first(&run, tree, events, events_length / 2, &outputs)
-                                       : walk_help_first(&run, tree, events, events_length / 2, &outputs);
+        refusal = policy == WORK_FIRST ? walk_work_first(&run, tree, workers, events, events_length / 2, &outputs)
+                                       : walk_help_first(&run, tree, workers, events, events_length / 2, &outputs);
     answer.number = refusal.number;
     answer.position = refusal.position;
     if (refusal.number != 0)
@@ -385,25 +389,25 @@ size_t tuned_state_bytes(void)
     return sizeof(struct run);
 }
 
-struct refusal tuned_start(struct run *run, const uint8_t *tree, size_t tree_length, uint8_t policy)
+struct refusal tuned_start(struct run *run, const uint8_t *tree, size_t tree_length, uint8_t policy, uint8_t workers)
 {
-    struct refusal refusal = read_tree(tree, tree_length, policy, run->moves, NULL);
+    struct refusal refusal = read_tree(tree, tree_length, policy, workers, run->moves, NULL);
     if (refusal.number == 0)
-        begin_run(run, policy);
+        begin_run(run, policy, workers);
     return refusal;
 }
 
 // The same run from its start again, on the table that it has.
 void tuned_restart(struct run *run)
 {
-    begin_run(run, run->policy);
+    begin_run(run, run->policy, run->count);
 }
 
 // The tree is the one of the start.
 struct outcome tuned_event(struct run *run, const uint8_t *tree, uint8_t first, uint8_t second)
 {
     struct outcome outcome = {0};
-    if (first >= WORKERS || second >= WORKERS) {
+    if (first >= run->count || second >= run->count) {
         outcome.number = 8;
     } else if (first == second) {
         struct worker *worker = &run->workers[first];
@@ -487,7 +491,7 @@ static inline size_t by_serial(struct replay *replay, const uint8_t *tree, size_
     return step;
 }
 
-static inline struct refusal read_trace(struct replay *replay, const uint8_t *tree, size_t n, unsigned policy,
+static inline struct refusal read_trace(struct replay *replay, const uint8_t *tree, size_t n, unsigned policy, size_t workers,
                                         const uint8_t *trace, size_t count)
 {
     memset(replay->latest, 255, sizeof replay->latest);
@@ -505,7 +509,7 @@ static inline struct refusal read_trace(struct replay *replay, const uint8_t *tr
     }
     for (size_t at = 0; at < count; at++) {
         size_t thief = trace[4 * at], victim = trace[4 * at + 1];
-        if ((thief | victim) >= WORKERS)
+        if (thief >= workers || victim >= workers)
             return (struct refusal){8, at};
         if (thief == victim)
             return (struct refusal){13, at};
@@ -574,20 +578,20 @@ static void list_runs(struct replay *replay, const uint8_t *tree, uint8_t *restr
     }
 }
 
-struct replayed tuned_replay(const uint8_t *tree, size_t tree_length, uint8_t policy, const uint8_t *trace,
+struct replayed tuned_replay(const uint8_t *tree, size_t tree_length, uint8_t policy, uint8_t workers, const uint8_t *trace,
                              size_t trace_length, uint8_t *list, size_t list_length)
 {
     struct replay replay;
     struct replayed answer = {0};
     size_t n = tree_length / TREE_RECORD;
-    struct refusal refusal = read_tree(tree, tree_length, policy, replay.moves, replay.opener);
+    struct refusal refusal = read_tree(tree, tree_length, policy, workers, replay.moves, replay.opener);
     if (refusal.number == 0 && (trace_length % 4 != 0 || trace_length > 4 * MOST_STEALS))
         refusal.number = 6;
     if (refusal.number == 0 && list_length < 4 * n)
         refusal.number = 7;
     if (refusal.number == 0)
-        refusal = policy == WORK_FIRST ? read_trace(&replay, tree, n, WORK_FIRST, trace, trace_length / 4)
-                                       : read_trace(&replay, tree, n, HELP_FIRST, trace, trace_length / 4);
+        refusal = policy == WORK_FIRST ? read_trace(&replay, tree, n, WORK_FIRST, workers, trace, trace_length / 4)
+                                       : read_trace(&replay, tree, n, HELP_FIRST, workers, trace, trace_length / 4);
     answer.number = refusal.number;
     answer.position = refusal.position;
     if (refusal.number != 0)

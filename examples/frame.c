@@ -1,5 +1,5 @@
-/* The library from C: runs tree S of docs/FORMAT.md event by event, records the same events, and replays their trace.
- * README.md says how to build it; examples/frame.txt is what it prints. */
+/* The library from C: runs tree S of docs/FORMAT.md event by event, records the same events, replays their trace, and begins a run
+ * of fewer workers. README.md says how to build it; examples/frame.txt is what it prints. */
 #include <inttypes.h>
 #include <stdio.h>
 
@@ -51,6 +51,7 @@ static const char *refusal_name(size_t number)
         NAME(FRAME_REFUSED_SAME_WORKER);
         NAME(FRAME_REFUSED_NO_PHASE);
         NAME(FRAME_REFUSED_NUMBER);
+        NAME(FRAME_REFUSED_COUNT);
         default: return "FRAME_ACCEPTED";
     }
 }
@@ -73,7 +74,7 @@ int main(void)
         put_step(tree + 8 * step, kinds[step], 1);
 
     /* Live: one call for each event, on a state that the host keeps. */
-    FrameStart start = frame_start(tree, sizeof tree, FRAME_WORK_FIRST);
+    FrameStart start = frame_start(tree, sizeof tree, FRAME_WORK_FIRST, FRAME_WORKERS);
     if (refused("the start", start.number, start.position))
         return 1;
     FrameState state = start.state;
@@ -91,8 +92,8 @@ int main(void)
     }
 
     /* The same events in one call, which writes log and trace. */
-    FrameRecord recorded = frame_record(tree, sizeof tree, FRAME_WORK_FIRST, events, sizeof events, log, sizeof log,
-                                        trace, sizeof trace);
+    FrameRecord recorded = frame_record(tree, sizeof tree, FRAME_WORK_FIRST, FRAME_WORKERS, events, sizeof events, log,
+                                        sizeof log, trace, sizeof trace);
     if (refused("recording", recorded.number, recorded.position))
         return 1;
     printf("\n%zu steps in the log, %s\n", recorded.logs, recorded.finished ? "finished" : "not finished");
@@ -104,7 +105,8 @@ int main(void)
     printf("worker %zu is the heaviest\n", recorded.heaviest);
 
     /* The trace back into phases: phase 0 is worker 0's, a later one the thief's of the trace record before it. */
-    FrameReplay replayed = frame_replay(tree, sizeof tree, FRAME_WORK_FIRST, trace, 4 * recorded.steals, list, sizeof list);
+    FrameReplay replayed = frame_replay(tree, sizeof tree, FRAME_WORK_FIRST, FRAME_WORKERS, trace, 4 * recorded.steals, list,
+                                        sizeof list);
     if (refused("replay", replayed.number, replayed.position))
         return 1;
     printf("\nphase worker step\n");
@@ -115,7 +117,16 @@ int main(void)
 
     /* A trace whose second record is damaged. The list keeps its bytes. */
     trace[4 + 2] = 1;
-    replayed = frame_replay(tree, sizeof tree, FRAME_WORK_FIRST, trace, 4 * recorded.steals, list, sizeof list);
+    replayed = frame_replay(tree, sizeof tree, FRAME_WORK_FIRST, FRAME_WORKERS, trace, 4 * recorded.steals, list, sizeof list);
     printf("\n");
-    return !refused("replay", replayed.number, replayed.position);
+    if (!refused("replay", replayed.number, replayed.position))
+        return 1;
+
+    /* A run of four workers, 0 to 3: the state keeps their count, so an event of worker 4 is refused. */
+    start = frame_start(tree, sizeof tree, FRAME_WORK_FIRST, 4);
+    if (refused("the start", start.number, start.position))
+        return 1;
+    printf("\nof %d workers %zu are idle\n", start.state.workers, frame_idle(start.state).count);
+    FrameOutcome did = frame_event_in_place(&start.state, tree, sizeof tree, 4, 0);
+    return !refused("an event", did.number, did.position);
 }

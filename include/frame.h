@@ -7,7 +7,8 @@
  * - A pointer and the length after it, in bytes, are one buffer of the caller's. A pointer of length 0 may be NULL.
  * - A buffer that is not const overlaps no other buffer of the same call. A call writes to no other memory of the caller's.
  * - A refusal is a number, FRAME_REFUSED_.., and a position, which is that of a record where the refusal names one and else 0.
- *   All other results are 0 then, but for the state that frame_event hands back, and no byte of a buffer has changed.
+ *   All other results are 0 then, but for the state that frame_event hands back, and no byte of a buffer or of a lent state has
+ *   changed.
  * - A call allocates nothing and keeps nothing: there is no global state. Calls may run at the same time in several threads where
  *   none writes a buffer that another one uses; a tree is only read, so one may serve them all.
  * - A call uses less than FRAME_STACK_BYTES of stack. Record and replay come near to that, the others do not. */
@@ -22,10 +23,14 @@
 extern "C" {
 #endif
 
+/* Rises with each change of this header that a caller can see; docs/FORMAT.md lists them. 1 was the header without a version and
+ * without a worker count. */
+#define FRAME_VERSION 2
+
 /* Limits. */
 #define FRAME_MOST_STEPS 4095   /* of a tree, which has a record for each */
 #define FRAME_MOST_OPEN 64      /* tasks open together, the root counted */
-#define FRAME_WORKERS 16        /* 0 to 15 */
+#define FRAME_WORKERS 16        /* the most of a run; a run of w workers has 0 to w - 1 */
 #define FRAME_MOST_EVENTS 8192  /* of a recording */
 #define FRAME_MOST_STEALS 2047  /* records of a trace */
 #define FRAME_STACK_BYTES 98304 /* 96 KB */
@@ -51,8 +56,8 @@ enum {
     FRAME_HELP_FIRST = 2
 };
 
-/* The refusals. 3 to 5 and 8 to 15 have the position of a record, but 5 has n where the root is still open. In a debugger, a cast
- * to FrameRefusal shows a number's name. */
+/* The refusals. 3 to 5 and 8 to 15 have the position of a record, but 5 has n where the root is still open. 16 is judged directly
+ * after 1; docs/FORMAT.md has the whole order. In a debugger, a cast to FrameRefusal shows a number's name. */
 typedef enum FrameRefusal {
     FRAME_ACCEPTED = 0,
     FRAME_REFUSED_POLICY = 1,        /* the policy is neither 1 nor 2 */
@@ -62,14 +67,15 @@ typedef enum FrameRefusal {
     FRAME_REFUSED_ROOT = 5,          /* a record follows the root's end; or the root is still open at the end */
     FRAME_REFUSED_INPUT_LENGTH = 6,  /* the events or the trace are not whole records or too many */
     FRAME_REFUSED_OUTPUT_LENGTH = 7, /* a lent output is short: 4 n bytes for log or run list, 2 (n - 1) for a trace */
-    FRAME_REFUSED_WORKER = 8,        /* a record names worker 16 or higher */
+    FRAME_REFUSED_WORKER = 8,        /* a record names a worker at or above the run's count */
     FRAME_REFUSED_IDLE = 9,          /* a run event names an idle worker */
     FRAME_REFUSED_WAITS = 10,        /* a run event names a worker that waits */
     FRAME_REFUSED_THIEF = 11,        /* a steal's thief holds a step */
     FRAME_REFUSED_DEQUE = 12,        /* a steal's victim has an empty deque */
     FRAME_REFUSED_SAME_WORKER = 13,  /* in a trace, thief and victim are equal */
     FRAME_REFUSED_NO_PHASE = 14,     /* in a trace, the victim has had no phase */
-    FRAME_REFUSED_NUMBER = 15        /* in a trace, the number breaks the rule of "Trace" */
+    FRAME_REFUSED_NUMBER = 15,       /* in a trace, the number breaks the rule of "Trace" */
+    FRAME_REFUSED_COUNT = 16         /* the count of workers is outside 1 to 16 */
 } FrameRefusal;
 
 /* What an event did. */
@@ -85,17 +91,18 @@ enum {
     FRAME_NO_STEP = 65535
 };
 
-/* The state of a run. frame_start makes it and only events change it; the caller keeps it, and may copy and read it. Two of its
- * bytes are padding, so compare fields and not memory. */
+/* The state of a run. frame_start makes it and only events change it; the caller keeps it, and may copy and read it. Every byte is
+ * a field's and none is padding, so memcmp tells whether two states are equal. */
 typedef struct FrameState {
     uint8_t place[FRAME_MOST_STEPS]; /* for each step FRAME_PLACE_NOT_RUN, FRAME_PLACE_RUN, or the worker in whose deque
                                         the step is that it pushed */
+    uint8_t policy;
     uint16_t held[FRAME_WORKERS];    /* for each worker the step that it holds, or FRAME_NO_STEP */
     uint16_t phase[FRAME_WORKERS];   /* its latest phase */
     uint16_t low[FRAME_WORKERS];     /* a step below which no place is marked with it */
     uint16_t base[FRAME_WORKERS];    /* work-first, the ordinal of that step */
     uint16_t steals;                 /* how many there were */
-    uint8_t policy;
+    uint16_t workers;                /* the run's count, which no event changes */
 } FrameState;
 
 typedef struct FrameStart {
@@ -119,9 +126,9 @@ typedef struct FrameEvent {
 } FrameEvent;
 
 typedef struct FrameIdle {
-    size_t set;    /* worker w is bit w */
+    size_t set;    /* worker w is bit w; no bit from the run's count on */
     size_t count;
-    size_t lowest; /* FRAME_WORKERS for none */
+    size_t lowest; /* FRAME_WORKERS for none, whatever the run's count */
 } FrameIdle;
 
 typedef struct FrameRecord {
@@ -130,7 +137,8 @@ typedef struct FrameRecord {
     size_t logs;     /* count of log records */
     size_t steals;   /* count of trace records */
     size_t finished; /* 1 if every step has run, else 0 */
-    uint64_t loads[FRAME_WORKERS]; /* for each worker the weight of all steps that its phases cover at the end */
+    uint64_t loads[FRAME_WORKERS]; /* for each worker the weight of all steps that its phases cover at the end; 0 from the run's
+                                      count on */
     size_t heaviest; /* the worker with the greatest load, the lowest among equals */
 } FrameRecord;
 
@@ -142,8 +150,9 @@ typedef struct FrameReplay {
     size_t heaviest;
 } FrameReplay;
 
-/* Begins a run: worker 0 holds step 0, the others are idle. Refuses with 1 to 5; the state is all 0 then. */
-FrameStart frame_start(const uint8_t *tree, size_t tree_len, uint8_t policy);
+/* Begins a run of so many workers, 1 to FRAME_WORKERS: worker 0 holds step 0, the others are idle. The state keeps the count for
+ * its events. Refuses with 1, 16 and 2 to 5; the state is all 0 then. */
+FrameStart frame_start(const uint8_t *tree, size_t tree_len, uint8_t policy, uint8_t workers);
 
 /* One event: with first and second equal that worker runs the step that it holds, else first steals from second. The answer's
  * state is the next one; where the event is accepted, its held[first] is the step that first holds now. Refuses with 8 to 12; the
@@ -154,21 +163,21 @@ FrameEvent frame_event(FrameState state, const uint8_t *tree, size_t tree_len, u
 /* The same on a state where it stands: *state becomes the next state, and stays as it is after a refusal. It is not NULL. */
 FrameOutcome frame_event_in_place(FrameState *state, const uint8_t *tree, size_t tree_len, uint8_t first, uint8_t second);
 
-/* The workers that hold no step. It never refuses. A worker that waits is not idle. */
+/* The workers of the run that hold no step. It never refuses. A worker that waits is not idle. */
 FrameIdle frame_idle(FrameState state);
 
-/* Runs a whole list of events from a start of its own. The log gets a record for each run, the trace one for each steal; the bytes
- * beyond them keep what they held. log_len must be at least FRAME_LOG_BYTES(n) and trace_len 2 (n - 1), for which
- * FRAME_TRACE_BYTES(n) is enough, however few the events. Refuses with 1 to 12. */
-FrameRecord frame_record(const uint8_t *tree, size_t tree_len, uint8_t policy, const uint8_t *events, size_t events_len,
-                         uint8_t *log, size_t log_len, uint8_t *trace, size_t trace_len);
+/* Runs a whole list of events from a start of its own, of so many workers. The log gets a record for each run, the trace one for
+ * each steal; the bytes beyond them keep what they held. log_len must be at least FRAME_LOG_BYTES(n) and trace_len 2 (n - 1), for
+ * which FRAME_TRACE_BYTES(n) is enough, however few the events. Refuses with 1, 16 and 2 to 12. */
+FrameRecord frame_record(const uint8_t *tree, size_t tree_len, uint8_t policy, uint8_t workers, const uint8_t *events,
+                         size_t events_len, uint8_t *log, size_t log_len, uint8_t *trace, size_t trace_len);
 
-/* Reads a trace back into phases. The list gets a record for each of the n steps, phase 0 first, each phase in the order in which
- * it runs; the bytes beyond keep what they held. Phase 0 is worker 0's, phase k the thief's of trace record k - 1. trace_len is
- * 4 bytes for each record, not all that was lent to frame_record; list_len must be at least FRAME_LIST_BYTES(n). Refuses with 1 to
- * 8 and 13 to 15. */
-FrameReplay frame_replay(const uint8_t *tree, size_t tree_len, uint8_t policy, const uint8_t *trace, size_t trace_len,
-                         uint8_t *list, size_t list_len);
+/* Reads a trace of a run of so many workers back into phases. The list gets a record for each of the n steps, phase 0 first, each
+ * phase in the order in which it runs; the bytes beyond keep what they held. Phase 0 is worker 0's, phase k the thief's of trace
+ * record k - 1. trace_len is 4 bytes for each record, not all that was lent to frame_record; list_len must be at least
+ * FRAME_LIST_BYTES(n). Refuses with 1, 16, 2 to 8 and 13 to 15. */
+FrameReplay frame_replay(const uint8_t *tree, size_t tree_len, uint8_t policy, uint8_t workers, const uint8_t *trace,
+                         size_t trace_len, uint8_t *list, size_t list_len);
 
 /* Questions about a tree. frame_tree says whether it is one. The others refuse nothing and read the tree again at each call; where
  * frame_tree refuses it, or it has no such step, their answers mean nothing beyond what is said below. */
@@ -209,8 +218,11 @@ size_t frame_finish_before(const uint8_t *tree, size_t tree_len, size_t step);
 /* What running a step does under a policy. */
 FrameRunning frame_running(const uint8_t *tree, size_t tree_len, uint8_t policy, size_t step);
 
-/* Where this fails the structs are not those of the library: another machine, or packed by a pragma. */
-static_assert(sizeof(FrameState) == 4228 && sizeof(FrameEvent) == 4280 && sizeof(FrameRecord) == 176,
+/* Where these fail the structs are not those of the library: another machine, or packed by a pragma. */
+static_assert(offsetof(FrameState, policy) == 4095 && offsetof(FrameState, held) == 4096 && offsetof(FrameState, phase) == 4128
+              && offsetof(FrameState, low) == 4160 && offsetof(FrameState, base) == 4192 && offsetof(FrameState, steals) == 4224
+              && offsetof(FrameState, workers) == 4226 && sizeof(FrameState) == 4228, "FrameState is not the library's");
+static_assert(sizeof(FrameEvent) == 4280 && sizeof(FrameRecord) == 176,
               "frame.h is for x86-64 Linux and structs that are not packed");
 
 #ifdef __cplusplus

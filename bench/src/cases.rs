@@ -6,7 +6,10 @@ use frame_tests::tree::MAX_OPEN;
 use frame_tests::{Run, Tree};
 
 pub const POLICIES: [(&str, u8); 2] = [("work-first", 1), ("help-first", 2)];
+/// How many workers take part in a schedule.
 pub const WORKERS: [usize; 3] = [1, 4, 16];
+/// The count that every call is given: whoever takes part, the run has so many.
+pub const RUN_WORKERS: u8 = 16;
 pub const COUNTS: [usize; 4] = [63, 255, 1_023, 4_095];
 pub const LARGEST: usize = COUNTS[COUNTS.len() - 1];
 pub const SHAPES: [Shape; 4] = [("balanced", balanced), ("flat", flat), ("deep", deep), ("random", random)];

@@ -7,7 +7,7 @@
 use std::hint::black_box;
 use std::process::Command;
 
-use frame_bench::cases::{schedule, tree, Shape, COUNTS, LARGEST, POLICIES, SEEDS, SHAPES, WORKERS};
+use frame_bench::cases::{schedule, tree, Shape, COUNTS, LARGEST, POLICIES, RUN_WORKERS, SEEDS, SHAPES, WORKERS};
 use frame_bench::library::{self, FrameRecord, FrameReplay, RunState};
 use frame_bench::times::{divided, geometric_mean, least, medians, most, turn};
 use frame_bench::tuned;
@@ -127,7 +127,7 @@ struct RecordCase {
 
 impl RecordCase {
     fn new(tree: Vec<u8>, policy: u8, workers: usize, seed: u64) -> RecordCase {
-        let start = Run::start(policy, &tree).expect("the tree is accepted");
+        let start = Run::start(policy, RUN_WORKERS, &tree).expect("the tree is accepted");
         let n = start.tree.count();
         RecordCase { events: schedule(&start, workers, seed), tree, policy, log: vec![0; 4 * n], trace: vec![0; 2 * (n - 1)] }
     }
@@ -137,15 +137,15 @@ impl RecordCase {
     }
 
     fn tuned(&mut self) -> FrameRecord {
-        tuned::record(black_box(&self.tree), self.policy, &self.events, &mut self.log, &mut self.trace)
+        tuned::record(black_box(&self.tree), self.policy, RUN_WORKERS, &self.events, &mut self.log, &mut self.trace)
     }
 
     fn library(&mut self) -> FrameRecord {
-        library::record(black_box(&self.tree), self.policy, &self.events, &mut self.log, &mut self.trace)
+        library::record(black_box(&self.tree), self.policy, RUN_WORKERS, &self.events, &mut self.log, &mut self.trace)
     }
 
     fn simulator(&mut self) -> FrameRecord {
-        record(self.policy, black_box(&self.tree), &self.events, &mut self.log, &mut self.trace).into()
+        record(self.policy, RUN_WORKERS, black_box(&self.tree), &self.events, &mut self.log, &mut self.trace).into()
     }
 
     /// All three give the same answer and the same outputs, and all steps have run. Gives the count of steals.
@@ -198,8 +198,8 @@ impl ReplayCase {
 
     /// The trace of a run by so many workers.
     fn of_run(tree: Vec<u8>, policy: u8, workers: usize, seed: u64) -> ReplayCase {
-        let start = Run::start(policy, &tree).expect("the tree is accepted");
-        let (_, _, trace) = record_to_vecs(policy, &tree, &schedule(&start, workers, seed));
+        let start = Run::start(policy, RUN_WORKERS, &tree).expect("the tree is accepted");
+        let (_, _, trace) = record_to_vecs(policy, RUN_WORKERS, &tree, &schedule(&start, workers, seed));
         ReplayCase::new(tree, policy, trace)
     }
 
@@ -215,15 +215,15 @@ impl ReplayCase {
     }
 
     fn tuned(&mut self) -> FrameReplay {
-        tuned::replay(black_box(&self.tree), self.policy, &self.trace, &mut self.list)
+        tuned::replay(black_box(&self.tree), self.policy, RUN_WORKERS, &self.trace, &mut self.list)
     }
 
     fn library(&mut self) -> FrameReplay {
-        library::replay(black_box(&self.tree), self.policy, &self.trace, &mut self.list)
+        library::replay(black_box(&self.tree), self.policy, RUN_WORKERS, &self.trace, &mut self.list)
     }
 
     fn simulator(&mut self) -> FrameReplay {
-        replay(self.policy, black_box(&self.tree), &self.trace, &mut self.list).into()
+        replay(self.policy, RUN_WORKERS, black_box(&self.tree), &self.trace, &mut self.list).into()
     }
 
     /// All three give the same answer and the same list.
@@ -292,14 +292,14 @@ struct EventCase {
 
 impl EventCase {
     fn new(tree: Vec<u8>, policy: u8, workers: usize, seed: u64) -> EventCase {
-        let state = library::start(&tree, policy).state;
-        let run = Run::start(policy, &tree).expect("the tree is accepted");
+        let state = library::start(&tree, policy, RUN_WORKERS).state;
+        let run = Run::start(policy, RUN_WORKERS, &tree).expect("the tree is accepted");
         let events = schedule(&run, workers, seed).chunks(EVENT_BYTES).map(|event| [event[0], event[1]]).collect();
         EventCase { tree, policy, state, run, events }
     }
 
     fn tuned_start(&self) -> tuned::Run<'_> {
-        tuned::Run::start(&self.tree, self.policy).expect("the tree is accepted")
+        tuned::Run::start(&self.tree, self.policy, RUN_WORKERS).expect("the tree is accepted")
     }
 
     // The first three begin with a new state; the simulator's is made beforehand, because it takes long.

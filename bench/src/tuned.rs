@@ -17,6 +17,7 @@ mod c {
             tree: *const u8,
             tree_len: usize,
             policy: u8,
+            workers: u8,
             events: *const u8,
             events_len: usize,
             log: *mut u8,
@@ -28,24 +29,26 @@ mod c {
             tree: *const u8,
             tree_len: usize,
             policy: u8,
+            workers: u8,
             trace: *const u8,
             trace_len: usize,
             list: *mut u8,
             list_len: usize,
         ) -> FrameReplay;
         pub fn tuned_state_bytes() -> usize;
-        pub fn tuned_start(state: *mut u64, tree: *const u8, tree_len: usize, policy: u8) -> Refusal;
+        pub fn tuned_start(state: *mut u64, tree: *const u8, tree_len: usize, policy: u8, workers: u8) -> Refusal;
         pub fn tuned_restart(state: *mut u64);
         pub fn tuned_event(state: *mut u64, tree: *const u8, first: u8, second: u8) -> FrameOutcome;
     }
 }
 
-pub fn record(tree: &[u8], policy: u8, events: &[u8], log: &mut [u8], trace: &mut [u8]) -> FrameRecord {
+pub fn record(tree: &[u8], policy: u8, workers: u8, events: &[u8], log: &mut [u8], trace: &mut [u8]) -> FrameRecord {
     unsafe {
         c::tuned_record(
             tree.as_ptr(),
             tree.len(),
             policy,
+            workers,
             events.as_ptr(),
             events.len(),
             log.as_mut_ptr(),
@@ -56,8 +59,19 @@ pub fn record(tree: &[u8], policy: u8, events: &[u8], log: &mut [u8], trace: &mu
     }
 }
 
-pub fn replay(tree: &[u8], policy: u8, trace: &[u8], list: &mut [u8]) -> FrameReplay {
-    unsafe { c::tuned_replay(tree.as_ptr(), tree.len(), policy, trace.as_ptr(), trace.len(), list.as_mut_ptr(), list.len()) }
+pub fn replay(tree: &[u8], policy: u8, workers: u8, trace: &[u8], list: &mut [u8]) -> FrameReplay {
+    unsafe {
+        c::tuned_replay(
+            tree.as_ptr(),
+            tree.len(),
+            policy,
+            workers,
+            trace.as_ptr(),
+            trace.len(),
+            list.as_mut_ptr(),
+            list.len(),
+        )
+    }
 }
 
 /// A run by single events, with the tree that it began with.
@@ -68,9 +82,9 @@ pub struct Run<'a> {
 }
 
 impl<'a> Run<'a> {
-    pub fn start(tree: &'a [u8], policy: u8) -> Result<Run<'a>, Refusal> {
+    pub fn start(tree: &'a [u8], policy: u8, workers: u8) -> Result<Run<'a>, Refusal> {
         let mut state = vec![0; unsafe { c::tuned_state_bytes() }.div_ceil(8)].into_boxed_slice();
-        let refusal = unsafe { c::tuned_start(state.as_mut_ptr(), tree.as_ptr(), tree.len(), policy) };
+        let refusal = unsafe { c::tuned_start(state.as_mut_ptr(), tree.as_ptr(), tree.len(), policy, workers) };
         if refusal.number == 0 {
             Ok(Run { tree, state })
         } else {

@@ -2,7 +2,7 @@
 
 use frame_bench::library::{FrameRecord, FrameReplay};
 use frame_bench::tuned;
-use frame_tests::random::{self, any_event, events_to_record, robbed_in_turn, trace_to_replay, Rng};
+use frame_tests::random::{self, any_count, any_event, events_to_record, nearest_count, robbed_in_turn, trace_to_replay, Rng};
 use frame_tests::record::record;
 use frame_tests::replay::{replay, MAX_TRACE};
 use frame_tests::{Policy, Run, Tree};
@@ -41,11 +41,17 @@ fn buffer(rng: &mut Rng, bytes: usize) -> Vec<u8> {
     rng.bytes(bytes).into_iter().map(|byte| byte | 1).collect()
 }
 
-/// A list for a tree and a policy, or any bytes where one of them is refused.
-fn list(rng: &mut Rng, policy: u8, tree: &[u8], make: fn(&mut Rng, Policy, &Tree) -> Vec<u8>) -> Vec<u8> {
+/// A list for a policy, a count of workers and a tree, or any bytes where policy or tree is refused.
+fn list(
+    rng: &mut Rng,
+    policy: u8,
+    workers: u8,
+    tree: &[u8],
+    make: fn(&mut Rng, Policy, usize, &Tree) -> Vec<u8>,
+) -> Vec<u8> {
     match (Policy::parse(policy), Tree::parse(tree)) {
         (Ok(policy), Ok(tree)) => {
-            let mut list = make(rng, policy, &tree);
+            let mut list = make(rng, policy, nearest_count(workers), &tree);
             if rng.percent(3) {
                 let bytes = rng.pick(&[1, 2, 3, 8_190, 20_000]);
                 list.extend(rng.bytes(bytes));
@@ -58,39 +64,39 @@ fn list(rng: &mut Rng, policy: u8, tree: &[u8], make: fn(&mut Rng, Policy, &Tree
 
 #[test]
 fn recording() {
-    let mut refusals = [0; 16];
+    let mut refusals = [0; 17];
     for seed in 0..checks() {
         let rng = &mut Rng::new(seed);
-        let (policy, tree) = (policy(rng), tree(rng));
-        let events = list(rng, policy, &tree, events_to_record);
+        let (policy, workers, tree) = (policy(rng), any_count(rng), tree(rng));
+        let events = list(rng, policy, workers, &tree, events_to_record);
         let n = tree.len() / 8;
         let (log, trace) = (buffer(rng, 4 * n), buffer(rng, 2 * n.max(1) - 2));
         let (mut got, mut want) = ((log.clone(), trace.clone()), (log, trace));
-        let answer = tuned::record(&tree, policy, &events, &mut got.0, &mut got.1);
-        let expected: FrameRecord = record(policy, &tree, &events, &mut want.0, &mut want.1).into();
+        let answer = tuned::record(&tree, policy, workers, &events, &mut got.0, &mut got.1);
+        let expected: FrameRecord = record(policy, workers, &tree, &events, &mut want.0, &mut want.1).into();
         assert_eq!(answer, expected, "seed {seed}");
         assert!(got == want, "seed {seed}: log or trace");
         refusals[answer.number] += 1;
     }
-    assert!((0..=12).all(|number| refusals[number] > 0), "numbers seen: {refusals:?}");
+    assert!((0..=12).chain([16]).all(|number| refusals[number] > 0), "numbers seen: {refusals:?}");
 }
 
 #[test]
 fn replaying() {
-    let mut refusals = [0; 16];
+    let mut refusals = [0; 17];
     for seed in 0..checks() {
         let rng = &mut Rng::new(seed);
-        let (policy, tree) = (policy(rng), tree(rng));
-        let trace = list(rng, policy, &tree, trace_to_replay);
+        let (policy, workers, tree) = (policy(rng), any_count(rng), tree(rng));
+        let trace = list(rng, policy, workers, &tree, trace_to_replay);
         let list = buffer(rng, 4 * (tree.len() / 8));
         let (mut got, mut want) = (list.clone(), list);
-        let answer = tuned::replay(&tree, policy, &trace, &mut got);
-        let expected: FrameReplay = replay(policy, &tree, &trace, &mut want).into();
+        let answer = tuned::replay(&tree, policy, workers, &trace, &mut got);
+        let expected: FrameReplay = replay(policy, workers, &tree, &trace, &mut want).into();
         assert_eq!(answer, expected, "seed {seed}");
         assert!(got == want, "seed {seed}: the run list");
         refusals[answer.number] += 1;
     }
-    assert!([0, 1, 2, 3, 4, 5, 6, 7, 8, 13, 14, 15].iter().all(|&number| refusals[number] > 0), "numbers seen: {refusals:?}");
+    assert!([0, 1, 2, 3, 4, 5, 6, 7, 8, 13, 14, 15, 16].iter().all(|&number| refusals[number] > 0), "numbers seen: {refusals:?}");
 }
 
 #[test]
@@ -100,8 +106,8 @@ fn replaying_long_ranges() {
             let (tree, trace) = robbed_in_turn(policy, spine, MAX_TRACE - spine);
             let byte = if policy == Policy::WorkFirst { 1 } else { 2 };
             let (mut got, mut want) = (vec![0; tree.len() / 2], vec![0; tree.len() / 2]);
-            let answer = tuned::replay(&tree, byte, &trace, &mut got);
-            assert_eq!(answer, replay(byte, &tree, &trace, &mut want).into(), "{policy:?}, spine {spine}");
+            let answer = tuned::replay(&tree, byte, 16, &trace, &mut got);
+            assert_eq!(answer, replay(byte, 16, &tree, &trace, &mut want).into(), "{policy:?}, spine {spine}");
             assert!(got == want, "{policy:?}, spine {spine}: the run list");
             assert_eq!(answer.phases, MAX_TRACE + 1);
         }
@@ -111,12 +117,12 @@ fn replaying_long_ranges() {
 /// Single events, refused ones among them, each with the answer of the simulator.
 #[test]
 fn single_events() {
-    let mut refusals = [0; 16];
+    let mut refusals = [0; 17];
     for seed in 0..checks() {
         let rng = &mut Rng::new(seed);
-        let (policy, tree) = (policy(rng), tree(rng));
-        let started = Run::start(policy, &tree);
-        let tuned = tuned::Run::start(&tree, policy);
+        let (policy, workers, tree) = (policy(rng), any_count(rng), tree(rng));
+        let started = Run::start(policy, workers, &tree);
+        let tuned = tuned::Run::start(&tree, policy, workers);
         let (mut run, mut tuned) = match (started, tuned) {
             (Ok(run), Ok(tuned)) => (run, tuned),
             (Err(want), Err(got)) => {
@@ -126,9 +132,10 @@ fn single_events() {
             }
             _ => panic!("seed {seed}: one start is refused, the other is not"),
         };
-        let workers = rng.between(1, 16);
+        let count = run.workers.len();
+        let taking_part = rng.between(1, count);
         for at in 0..3 * run.tree.count() {
-            let [first, second] = any_event(rng, workers);
+            let [first, second] = any_event(rng, taking_part, count);
             let got = tuned.event(first, second);
             let want = match run.event(first, second) {
                 Err(refusal) => [refusal.number as usize, 0, 0, 0, 0],
@@ -143,5 +150,5 @@ fn single_events() {
             refusals[got.number] += 1;
         }
     }
-    assert!([0, 1, 2, 3, 4, 5, 8, 9, 10, 11, 12].iter().all(|&number| refusals[number] > 0), "numbers seen: {refusals:?}");
+    assert!([0, 1, 2, 3, 4, 5, 8, 9, 10, 11, 12, 16].iter().all(|&number| refusals[number] > 0), "numbers seen: {refusals:?}");
 }

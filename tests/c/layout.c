@@ -12,12 +12,13 @@ static void types(void)
 {
     TYPE(FrameState);
     FIELD(FrameState, place);
+    FIELD(FrameState, policy);
     FIELD(FrameState, held);
     FIELD(FrameState, phase);
     FIELD(FrameState, low);
     FIELD(FrameState, base);
     FIELD(FrameState, steals);
-    FIELD(FrameState, policy);
+    FIELD(FrameState, workers);
     TYPE(FrameStart);
     FIELD(FrameStart, number);
     FIELD(FrameStart, position);
@@ -65,6 +66,7 @@ static void types(void)
 
 static void constants(void)
 {
+    NUMBER(FRAME_VERSION);
     NUMBER(FRAME_MOST_STEPS);
     NUMBER(FRAME_MOST_OPEN);
     NUMBER(FRAME_WORKERS);
@@ -101,6 +103,7 @@ static void constants(void)
     NUMBER(FRAME_REFUSED_SAME_WORKER);
     NUMBER(FRAME_REFUSED_NO_PHASE);
     NUMBER(FRAME_REFUSED_NUMBER);
+    NUMBER(FRAME_REFUSED_COUNT);
     NUMBER(FRAME_RAN);
     NUMBER(FRAME_STOLE);
     NUMBER(FRAME_PLACE_RUN);

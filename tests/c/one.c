@@ -24,14 +24,14 @@ int main(void)
     uint8_t list[FRAME_LIST_BYTES(1)] = { 7, 7, 7, 7 };
 
     for (uint8_t policy = FRAME_WORK_FIRST; policy <= FRAME_HELP_FIRST; policy++) {
-        FrameRecord recorded = frame_record(tree, sizeof tree, policy, events, sizeof events, log, sizeof log, trace,
+        FrameRecord recorded = frame_record(tree, sizeof tree, policy, 1, events, sizeof events, log, sizeof log, trace,
                                             sizeof trace);
         EXPECT(recorded.number == FRAME_ACCEPTED && recorded.finished == 1 && recorded.logs == 1);
         EXPECT(recorded.steals == 0 && recorded.loads[0] == 9 && recorded.heaviest == 0);
         EXPECT(log[0] == 0 && log[1] == 0 && log[2] == 0 && log[3] == 0);
         /* No steal: the trace keeps its byte. */
         EXPECT(trace[0] == 7);
-        FrameReplay replayed = frame_replay(tree, sizeof tree, policy, trace, 4 * recorded.steals, list, sizeof list);
+        FrameReplay replayed = frame_replay(tree, sizeof tree, policy, 1, trace, 4 * recorded.steals, list, sizeof list);
         EXPECT(replayed.number == FRAME_ACCEPTED && replayed.phases == 1 && replayed.loads[0] == 9);
         EXPECT(list[0] == 0 && list[1] == 0 && list[2] == 0 && list[3] == 0);
     }

@@ -2,7 +2,7 @@
 
 use crate::tree::Tree;
 
-/// There are sixteen workers.
+/// The most workers of a run.
 pub const WORKERS: usize = 16;
 
 /// One phase: whose it is, where it begins, what was stolen from it.
@@ -38,6 +38,8 @@ impl Phase {
 }
 
 /// For each worker the sum of weights of all steps its phases cover.
+// Reading: sixteen loads, however few workers the run has; the others have no
+// phase, so their loads are 0.
 // Reading: in a live run too the covered steps count, also those that have
 // not run yet; so the loads always add up to the weight of the whole tree.
 pub fn loads(tree: &Tree, phases: &[Phase]) -> [u64; WORKERS] {

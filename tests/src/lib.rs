@@ -1,7 +1,8 @@
-//! A plain reference simulator of document 01: reading a task tree, running
-//! it under scheduler events, recording, replaying, and the listing program.
-//! It is written from document 01 alone and shares no code with the library
-//! it is meant to test.
+//! A plain reference simulator of document 01, with a worker count for each
+//! run as document 02 has it: reading a task tree, running it under scheduler
+//! events, recording, replaying, and the listing program. It is written from
+//! these two documents alone and shares no code with the library it is meant
+//! to test.
 
 pub mod cover;
 pub mod phases;

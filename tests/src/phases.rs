@@ -1,5 +1,6 @@
 //! Program `phases`: its output for given standard input.
 
+use crate::cover::WORKERS;
 use crate::replay::judge_and_replay;
 
 /// The program reads so many bytes at most.
@@ -17,7 +18,8 @@ pub fn phases(input: &[u8]) -> Vec<u8> {
     // what there is and the trace is empty; the count is not judged again.
     let (tree, trace) = rest.split_at(rest.len().min(8 * n));
     // Reading: the program's own run list is never short, so 7 is not printed.
-    let text = match judge_and_replay(policy, tree, trace, 4 * 4_095) {
+    // The program uses 16 workers.
+    let text = match judge_and_replay(policy, WORKERS as u8, tree, trace, 4 * 4_095) {
         // Reading: the refusal is one line with a line feed at its end, as
         // the other lines have.
         Err(refusal) => format!("refused {} {}\n", refusal.number, refusal.position),

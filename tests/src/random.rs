@@ -52,6 +52,30 @@ impl Rng {
     }
 }
 
+// ---- Worker counts ----
+
+/// A count of workers from 0 to 18, mostly one that a run may have.
+pub fn any_count(rng: &mut Rng) -> u8 {
+    match rng.below(20) {
+        0 => rng.pick(&[0, 17, 18]),
+        1..=5 => WORKERS as u8,
+        _ => rng.between(1, WORKERS) as u8,
+    }
+}
+
+/// The count, or where no run may have it the nearest one: so events and
+/// traces for a call that refuses the count are good or bad as others are.
+pub fn nearest_count(count: u8) -> usize {
+    usize::from(count).clamp(1, WORKERS)
+}
+
+/// A worker near the end of those that a run of so many has, or near the end
+/// of those that any run can have.
+pub fn worker_at_the_edge(rng: &mut Rng, count: usize) -> u8 {
+    let count = count as u8;
+    rng.pick(&[count - 1, count, count + 1, 15, 16, 255])
+}
+
 // ---- Trees ----
 
 #[derive(Clone, Copy, Debug, PartialEq, Eq)]
@@ -351,9 +375,10 @@ pub struct Plan {
 }
 
 impl Plan {
-    pub fn any(rng: &mut Rng) -> Plan {
+    /// For a run of so many workers, of which often all take part.
+    pub fn any(rng: &mut Rng, count: usize) -> Plan {
         Plan {
-            workers: rng.between(1, WORKERS),
+            workers: if rng.percent(60) { count } else { rng.between(1, count) },
             events: MAX_EVENTS,
             bad: 0,
             steals: rng.pick(&[5, 30, 60, 95]),
@@ -361,11 +386,11 @@ impl Plan {
     }
 }
 
-/// Any event, mostly of the workers that take part.
-pub fn any_event(rng: &mut Rng, workers: usize) -> [u8; 2] {
+/// Any event in a run of `count` workers, mostly of those that take part.
+pub fn any_event(rng: &mut Rng, workers: usize, count: usize) -> [u8; 2] {
     let one = |rng: &mut Rng| match rng.below(20) {
         0 => rng.next() as u8,
-        1 => rng.between(14, 18) as u8,
+        1 | 2 => worker_at_the_edge(rng, count),
         _ => rng.below(workers) as u8,
     };
     let first = one(rng);
@@ -400,14 +425,8 @@ fn good_event(rng: &mut Rng, run: &Run, plan: &Plan) -> Option<[u8; 2]> {
 pub fn drive(rng: &mut Rng, run: &mut Run, plan: &Plan) -> Vec<Tried> {
     let mut tried = Vec::new();
     while tried.len() < plan.events && run.log.len() < run.tree.count() {
-        let event = if rng.percent(plan.bad) {
-            any_event(rng, plan.workers)
-        } else {
-            match good_event(rng, run, plan) {
-                Some(event) => event,
-                None => any_event(rng, plan.workers),
-            }
-        };
+        let good = if rng.percent(plan.bad) { None } else { good_event(rng, run, plan) };
+        let event = good.unwrap_or_else(|| any_event(rng, plan.workers, run.workers.len()));
         let refused = match run.event(event[0], event[1]) {
             Ok(()) => 0,
             Err(refusal) => refusal.number,
@@ -430,7 +449,8 @@ pub fn accepted_bytes(tried: &[Tried]) -> Vec<u8> {
 /// An event that the run refuses now, with any of 8 to 12 that one can have.
 pub fn refused_event(rng: &mut Rng, run: &Run) -> [u8; 2] {
     let number = rng.between(8, 12) as u32;
-    let all = (0..18).flat_map(|first| (0..18).map(move |second| [first, second]));
+    let workers = || (0..=run.workers.len() as u8 + 1).chain([15, 16, 255]);
+    let all = workers().flat_map(|first| workers().map(move |second| [first, second]));
     let refused: Vec<[u8; 2]> =
         all.filter(|&[first, second]| run.judge(first, second) == number).collect();
     if refused.is_empty() {
@@ -442,9 +462,9 @@ pub fn refused_event(rng: &mut Rng, run: &Run) -> [u8; 2] {
 
 /// Accepted events to the end of a run, or such a list cut short or with
 /// something bad in it.
-pub fn events_to_record(rng: &mut Rng, policy: Policy, tree: &Tree) -> Vec<u8> {
-    let start = Run::new(policy, tree.clone());
-    let plan = Plan::any(rng);
+pub fn events_to_record(rng: &mut Rng, policy: Policy, count: usize, tree: &Tree) -> Vec<u8> {
+    let start = Run::new(policy, count, tree.clone());
+    let plan = Plan::any(rng, count);
     let tried = drive(rng, &mut start.clone(), &plan);
     let accepted = tried.iter().filter(|tried| tried.refused == 0);
     let mut list: Vec<[u8; 2]> = accepted.map(|tried| tried.event).collect();
@@ -462,8 +482,8 @@ pub fn events_to_record(rng: &mut Rng, policy: Policy, tree: &Tree) -> Vec<u8> {
             list.insert(at, refused_event(rng, &run));
         }
         // Any event more, or in place of one, or one less.
-        8 => list.insert(at, any_event(rng, WORKERS)),
-        9 if at < list.len() => list[at] = any_event(rng, WORKERS),
+        8 => list.insert(at, any_event(rng, count, count)),
+        9 if at < list.len() => list[at] = any_event(rng, count, count),
         10 if at < list.len() => {
             list.remove(at);
         }
@@ -473,7 +493,7 @@ pub fn events_to_record(rng: &mut Rng, policy: Policy, tree: &Tree) -> Vec<u8> {
             let bytes = rng.percent(30);
             for _ in 0..rng.between(1, 20) {
                 let any = [rng.next() as u8, rng.next() as u8];
-                list.push(if bytes { any } else { any_event(rng, WORKERS) });
+                list.push(if bytes { any } else { any_event(rng, count, count) });
             }
         }
     }
@@ -500,8 +520,14 @@ pub fn all_stolen(policy: Policy, children: usize) -> Vec<[u8; 2]> {
 }
 
 /// A whole event list for this tree: mostly acceptable events, some bad.
-pub fn events(rng: &mut Rng, policy: Policy, tree: &Tree, plan: &Plan) -> Vec<u8> {
-    let mut run = Run::new(policy, tree.clone());
+pub fn events(
+    rng: &mut Rng,
+    policy: Policy,
+    count: usize,
+    tree: &Tree,
+    plan: &Plan,
+) -> Vec<u8> {
+    let mut run = Run::new(policy, count, tree.clone());
     event_bytes(&drive(rng, &mut run, plan))
 }
 
@@ -515,14 +541,21 @@ pub fn trace_record(thief: u8, victim: u8, number: u16) -> [u8; 4] {
 
 /// A trace of up to `most` records. Each is chosen to be accepted where a few
 /// tries find such a record, and `bad` of a hundred are any record. With
-/// `bad` = 0 the whole trace is accepted.
-pub fn trace(rng: &mut Rng, policy: Policy, tree: &Tree, most: usize, bad: usize) -> Vec<u8> {
-    let mut replay = Replay::new(policy, tree.clone());
+/// `bad` = 0 the whole trace is accepted; one worker alone has none to steal from.
+pub fn trace(
+    rng: &mut Rng,
+    policy: Policy,
+    count: usize,
+    tree: &Tree,
+    most: usize,
+    bad: usize,
+) -> Vec<u8> {
+    let mut replay = Replay::new(policy, count, tree.clone());
     let mut bytes = Vec::new();
-    let workers = rng.between(2, WORKERS);
+    let workers = rng.between(2.min(count), count);
     for _ in 0..most.min(MAX_TRACE) {
         if rng.percent(bad) {
-            let [thief, victim] = any_event(rng, workers);
+            let [thief, victim] = any_event(rng, workers, count);
             let number = match rng.below(4) {
                 0 => rng.next() as u16,
                 1 => rng.below(4) as u16,
@@ -533,7 +566,8 @@ pub fn trace(rng: &mut Rng, policy: Policy, tree: &Tree, most: usize, bad: usize
             bytes.extend_from_slice(&trace_record(thief, victim, number));
             continue;
         }
-        for _ in 0..12 {
+        let tries = if workers == 1 { 0 } else { 12 };
+        for _ in 0..tries {
             let victims: Vec<usize> =
                 (0..workers).filter(|&w| replay.latest[w].is_some()).collect();
             let victim = rng.pick(&victims);
@@ -608,9 +642,10 @@ pub struct Steals {
 }
 
 impl Steals {
-    pub fn any(rng: &mut Rng) -> Steals {
+    /// For a run of so many workers, of which often all take part.
+    pub fn any(rng: &mut Rng, count: usize) -> Steals {
         Steals {
-            workers: rng.between(2, WORKERS),
+            workers: if rng.percent(60) { count } else { rng.between(2.min(count), count) },
             most: MAX_TRACE,
             careful: rng.pick(&[0, 50, 90, 100]),
             lowest: rng.pick(&[0, 50, 90, 100]),
@@ -620,9 +655,10 @@ impl Steals {
 
 /// An accepted trace that goes on until nothing is left to steal or the
 /// plan's count of records is reached. Hardly any scheduler makes it: thieves
-/// may be busy, and any number that is accepted is taken.
+/// may be busy, and any number that is accepted is taken. It is accepted for
+/// every count from the plan's workers on.
 pub fn accepted_trace(rng: &mut Rng, policy: Policy, tree: &Tree, plan: &Steals) -> Vec<u8> {
-    let mut replay = Replay::new(policy, tree.clone());
+    let mut replay = Replay::new(policy, plan.workers, tree.clone());
     // For each worker the numbers that a steal from it may have.
     let mut left = vec![Vec::new(); plan.workers];
     left[0] = numbers_left(&replay, 0);
@@ -639,7 +675,9 @@ pub fn accepted_trace(rng: &mut Rng, policy: Policy, tree: &Tree, plan: &Steals)
             break;
         };
         let thieves = (0..plan.workers).filter(|&w| w != victim).collect();
-        let thief = pick(rng, thieves).expect("there are two workers");
+        let Some(thief) = pick(rng, thieves) else {
+            break;
+        };
         let number =
             if rng.percent(plan.lowest) { left[victim][0] } else { rng.pick(&left[victim]) };
         replay.steal(thief as u8, victim as u8, number).expect("the number is left");
@@ -653,27 +691,34 @@ pub fn accepted_trace(rng: &mut Rng, policy: Policy, tree: &Tree, plan: &Steals)
 }
 
 /// The trace that a random run of the tree leaves, finished or not.
-pub fn recorded_trace(rng: &mut Rng, policy: Policy, tree: &Tree) -> Vec<u8> {
-    let mut run = Run::new(policy, tree.clone());
+pub fn recorded_trace(rng: &mut Rng, policy: Policy, count: usize, tree: &Tree) -> Vec<u8> {
+    let mut run = Run::new(policy, count, tree.clone());
     let some = rng.below(2 * tree.count());
-    let plan = Plan { events: rng.pick(&[MAX_EVENTS, some]), ..Plan::any(rng) };
+    let plan = Plan { events: rng.pick(&[MAX_EVENTS, some]), ..Plan::any(rng, count) };
     drive(rng, &mut run, &plan);
     let record = |r: &TraceRecord| trace_record(r.thief as u8, r.victim as u8, r.number as u16);
     run.trace.iter().flat_map(record).collect()
 }
 
 /// A record that may stand behind these accepted ones or not: thief and
-/// victim are in order, and the number is one of those that are refused for
-/// this or that reason.
-pub fn doubtful_record(rng: &mut Rng, policy: Policy, tree: &Tree, before: &[[u8; 4]]) -> [u8; 4] {
-    let mut replay = Replay::new(policy, tree.clone());
+/// victim are in order where the run has two workers, and the number is one of
+/// those that are refused for this or that reason.
+pub fn doubtful_record(
+    rng: &mut Rng,
+    policy: Policy,
+    count: usize,
+    tree: &Tree,
+    before: &[[u8; 4]],
+) -> [u8; 4] {
+    let mut replay = Replay::new(policy, count, tree.clone());
     for record in before {
         let number = u16::from_le_bytes([record[2], record[3]]);
         replay.steal(record[0], record[1], number).expect("the record is accepted");
     }
-    let victims: Vec<usize> = (0..WORKERS).filter(|&w| replay.latest[w].is_some()).collect();
+    let victims: Vec<usize> = (0..count).filter(|&w| replay.latest[w].is_some()).collect();
     let victim = rng.pick(&victims);
-    let thief = (victim + rng.between(1, WORKERS - 1)) % WORKERS;
+    let workers = count.max(2);
+    let thief = (victim + rng.between(1, workers - 1)) % workers;
     let phase = replay.latest[victim].expect("the victim has had a phase");
     let from = &replay.phases[phase];
     let number = match (policy, rng.below(8)) {
@@ -704,7 +749,12 @@ pub fn doubtful_record(rng: &mut Rng, policy: Policy, tree: &Tree, before: &[[u8
 
 /// The record with one thing about it changed; `before` are those that stand
 /// before it.
-fn damaged_record(rng: &mut Rng, before: &[[u8; 4]], record: [u8; 4]) -> [u8; 4] {
+fn damaged_record(
+    rng: &mut Rng,
+    count: usize,
+    before: &[[u8; 4]],
+    record: [u8; 4],
+) -> [u8; 4] {
     let [mut thief, mut victim, ..] = record;
     let mut number = u16::from_le_bytes([record[2], record[3]]);
     match rng.below(5) {
@@ -718,7 +768,8 @@ fn damaged_record(rng: &mut Rng, before: &[[u8; 4]], record: [u8; 4]) -> [u8; 4]
         1 => number = if rng.percent(50) { number.wrapping_add(1) } else { number.wrapping_sub(1) },
         // No worker, as thief, as victim or as both.
         2 => {
-            let high = rng.pick(&[16, 17, 31, 32, 128, 255]);
+            let count = count as u8;
+            let high = rng.pick(&[count, count, count + 1, 16, 17, 31, 32, 128, 255]);
             let both = rng.percent(30);
             if both || rng.percent(50) {
                 thief = high;
@@ -727,15 +778,16 @@ fn damaged_record(rng: &mut Rng, before: &[[u8; 4]], record: [u8; 4]) -> [u8; 4]
                 victim = high;
             }
         }
-        // Equal workers.
+        // Equal workers, which the run may have or not.
         3 => {
-            thief = rng.below(WORKERS) as u8;
+            let edge = worker_at_the_edge(rng, count);
+            thief = if rng.percent(20) { edge } else { rng.below(count) as u8 };
             victim = thief;
         }
         // A victim that has had no phase, if there is one.
         _ => {
             let had = |w: u8| w == 0 || w == thief || before.iter().any(|record| record[0] == w);
-            let others: Vec<u8> = (0..WORKERS as u8).filter(|&w| !had(w)).collect();
+            let others: Vec<u8> = (0..count as u8).filter(|&w| !had(w)).collect();
             if !others.is_empty() {
                 victim = rng.pick(&others);
             }
@@ -746,11 +798,11 @@ fn damaged_record(rng: &mut Rng, before: &[[u8; 4]], record: [u8; 4]) -> [u8; 4]
 
 /// An accepted trace, one of a run or one that no scheduler makes; or such a
 /// trace cut short or with something bad in it.
-pub fn trace_to_replay(rng: &mut Rng, policy: Policy, tree: &Tree) -> Vec<u8> {
+pub fn trace_to_replay(rng: &mut Rng, policy: Policy, count: usize, tree: &Tree) -> Vec<u8> {
     let accepted = if rng.percent(30) {
-        recorded_trace(rng, policy, tree)
+        recorded_trace(rng, policy, count, tree)
     } else {
-        let plan = Steals::any(rng);
+        let plan = Steals::any(rng, count);
         accepted_trace(rng, policy, tree, &plan)
     };
     let mut list: Vec<[u8; 4]> = accepted.chunks(4).map(|r| [r[0], r[1], r[2], r[3]]).collect();
@@ -767,15 +819,15 @@ pub fn trace_to_replay(rng: &mut Rng, policy: Policy, tree: &Tree) -> Vec<u8> {
         }
         // A record that may be refused, in between or at the end.
         6..=9 => {
-            let doubtful = doubtful_record(rng, policy, tree, &list[..at]);
+            let doubtful = doubtful_record(rng, policy, count, tree, &list[..at]);
             list.insert(at, doubtful);
         }
         // A damaged record, which may stand behind all others.
         10..=14 => {
             if at == list.len() {
-                list.push(doubtful_record(rng, policy, tree, &list));
+                list.push(doubtful_record(rng, policy, count, tree, &list));
             }
-            list[at] = damaged_record(rng, &list[..at], list[at]);
+            list[at] = damaged_record(rng, count, &list[..at], list[at]);
         }
         // Two records exchanged.
         15 | 16 if list.len() > 1 => {
@@ -792,7 +844,7 @@ pub fn trace_to_replay(rng: &mut Rng, policy: Policy, tree: &Tree) -> Vec<u8> {
             list.truncate(at);
             let bytes = rng.percent(30);
             for _ in 0..rng.between(1, 12) {
-                let [thief, victim] = any_event(rng, WORKERS);
+                let [thief, victim] = any_event(rng, count, count);
                 let near = trace_record(thief, victim, rng.between(0, tree.count() + 1) as u16);
                 list.push(if bytes { (rng.next() as u32).to_le_bytes() } else { near });
             }

@@ -1,8 +1,8 @@
 //! A whole record call.
 
 use crate::cover::{heaviest, loads, WORKERS};
-use crate::run::{Policy, Run};
-use crate::tree::{Refusal, Tree};
+use crate::run::Run;
+use crate::tree::Refusal;
 
 pub const EVENT_BYTES: usize = 2;
 pub const MAX_EVENTS: usize = 8_192;
@@ -27,22 +27,21 @@ pub fn put_u16(buffer: &mut [u8], at: usize, value: usize) {
 
 fn judge_and_run(
     policy: u8,
+    workers: u8,
     tree: &[u8],
     events: &[u8],
     log_bytes: usize,
     trace_bytes: usize,
 ) -> Result<Run, Refusal> {
-    let policy = Policy::parse(policy)?;
-    let tree = Tree::parse(tree)?;
+    let mut run = Run::start(policy, workers, tree)?;
     if events.len() % EVENT_BYTES != 0 || events.len() > EVENT_BYTES * MAX_EVENTS {
         return Err(Refusal::new(6, 0));
     }
     // Reading: the room is asked for the whole tree, however few the events.
-    let n = tree.count();
+    let n = run.tree.count();
     if log_bytes < 4 * n || trace_bytes < 2 * (n - 1) {
         return Err(Refusal::new(7, 0));
     }
-    let mut run = Run::new(policy, tree);
     for (position, event) in events.chunks(EVENT_BYTES).enumerate() {
         run.event(event[0], event[1])
             .map_err(|refusal| Refusal::new(refusal.number, position))?;
@@ -55,12 +54,13 @@ fn judge_and_run(
 // the last record keep what they held.
 pub fn record(
     policy: u8,
+    workers: u8,
     tree: &[u8],
     events: &[u8],
     log: &mut [u8],
     trace: &mut [u8],
 ) -> RecordAnswer {
-    let run = match judge_and_run(policy, tree, events, log.len(), trace.len()) {
+    let run = match judge_and_run(policy, workers, tree, events, log.len(), trace.len()) {
         Err(refusal) => {
             return RecordAnswer {
                 number: refusal.number,
@@ -92,10 +92,15 @@ pub fn record(
 }
 
 /// A record call with ample buffers; hands back only the written records.
-pub fn record_to_vecs(policy: u8, tree: &[u8], events: &[u8]) -> (RecordAnswer, Vec<u8>, Vec<u8>) {
+pub fn record_to_vecs(
+    policy: u8,
+    workers: u8,
+    tree: &[u8],
+    events: &[u8],
+) -> (RecordAnswer, Vec<u8>, Vec<u8>) {
     let mut log = vec![0; 4 * 4_095];
     let mut trace = vec![0; 4 * 2_047];
-    let answer = record(policy, tree, events, &mut log, &mut trace);
+    let answer = record(policy, workers, tree, events, &mut log, &mut trace);
     log.truncate(4 * answer.log_count);
     trace.truncate(4 * answer.trace_count);
     (answer, log, trace)

@@ -4,7 +4,7 @@ use std::collections::HashSet;
 
 use crate::cover::{heaviest, loads, Phase, WORKERS};
 use crate::record::put_u16;
-use crate::run::Policy;
+use crate::run::{worker_count, Policy};
 use crate::tree::{Refusal, Tree};
 
 pub const TRACE_BYTES: usize = 4;
@@ -26,14 +26,14 @@ pub struct Replay {
     pub tree: Tree,
     pub policy: Policy,
     pub phases: Vec<Phase>,
-    /// For each worker its latest phase.
-    pub latest: [Option<usize>; WORKERS],
+    /// For each worker of the run its latest phase.
+    pub latest: Vec<Option<usize>>,
 }
 
 impl Replay {
     /// Before the first record there is phase 0, worker 0's, from step 0.
-    pub fn new(policy: Policy, tree: Tree) -> Replay {
-        let mut latest = [None; WORKERS];
+    pub fn new(policy: Policy, workers: usize, tree: Tree) -> Replay {
+        let mut latest = vec![None; workers];
         latest[0] = Some(0);
         Replay { tree, policy, phases: vec![Phase::new(0, 0)], latest }
     }
@@ -95,7 +95,7 @@ impl Replay {
     /// changes nothing.
     pub fn steal(&mut self, thief: u8, victim: u8, number: u16) -> Result<usize, u32> {
         let (thief, victim) = (usize::from(thief), usize::from(victim));
-        if thief >= WORKERS || victim >= WORKERS {
+        if thief >= self.latest.len() || victim >= self.latest.len() {
             return Err(8);
         }
         if thief == victim {
@@ -144,11 +144,13 @@ impl Replay {
 /// Reads a whole trace; `list_bytes` is the length of the lent run list.
 pub fn judge_and_replay(
     policy: u8,
+    workers: u8,
     tree: &[u8],
     trace: &[u8],
     list_bytes: usize,
 ) -> Result<Replay, Refusal> {
     let policy = Policy::parse(policy)?;
+    let workers = worker_count(workers)?;
     let tree = Tree::parse(tree)?;
     if trace.len() % TRACE_BYTES != 0 || trace.len() > TRACE_BYTES * MAX_TRACE {
         return Err(Refusal::new(6, 0));
@@ -156,7 +158,7 @@ pub fn judge_and_replay(
     if list_bytes < 4 * tree.count() {
         return Err(Refusal::new(7, 0));
     }
-    let mut replay = Replay::new(policy, tree);
+    let mut replay = Replay::new(policy, workers, tree);
     for (position, record) in trace.chunks(TRACE_BYTES).enumerate() {
         let number = u16::from_le_bytes([record[2], record[3]]);
         replay
@@ -167,8 +169,14 @@ pub fn judge_and_replay(
 }
 
 /// Replays a trace and writes the run list.
-pub fn replay(policy: u8, tree: &[u8], trace: &[u8], run_list: &mut [u8]) -> ReplayAnswer {
-    let replay = match judge_and_replay(policy, tree, trace, run_list.len()) {
+pub fn replay(
+    policy: u8,
+    workers: u8,
+    tree: &[u8],
+    trace: &[u8],
+    run_list: &mut [u8],
+) -> ReplayAnswer {
+    let replay = match judge_and_replay(policy, workers, tree, trace, run_list.len()) {
         Err(refusal) => {
             return ReplayAnswer {
                 number: refusal.number,
@@ -198,9 +206,14 @@ pub fn replay(policy: u8, tree: &[u8], trace: &[u8], run_list: &mut [u8]) -> Rep
 
 /// A replay call with an ample buffer; hands back the steps of each phase,
 /// as they stand in the written run list.
-pub fn replay_to_vecs(policy: u8, tree: &[u8], trace: &[u8]) -> (ReplayAnswer, Vec<Vec<usize>>) {
+pub fn replay_to_vecs(
+    policy: u8,
+    workers: u8,
+    tree: &[u8],
+    trace: &[u8],
+) -> (ReplayAnswer, Vec<Vec<usize>>) {
     let mut list = vec![0; 4 * 4_095];
-    let answer = replay(policy, tree, trace, &mut list);
+    let answer = replay(policy, workers, tree, trace, &mut list);
     let mut phases = vec![Vec::new(); answer.phases];
     if answer.number == 0 {
         for record in list[..tree.len() / 2].chunks(4) {

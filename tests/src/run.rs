@@ -1,4 +1,4 @@
-//! The live run: sixteen workers, their held steps, deques and phases.
+//! The live run: its workers, their held steps, deques and phases.
 
 use std::collections::VecDeque;
 
@@ -42,6 +42,16 @@ impl Policy {
     }
 }
 
+/// Reads the byte that says how many workers a run has, or refuses it with 16.
+pub fn worker_count(byte: u8) -> Result<usize, Refusal> {
+    let count = usize::from(byte);
+    if (1..=WORKERS).contains(&count) {
+        Ok(count)
+    } else {
+        Err(Refusal::new(16, 0))
+    }
+}
+
 #[derive(Clone, Debug, PartialEq, Eq)]
 pub struct Worker {
     /// The step it holds; none if it is idle.
@@ -72,6 +82,7 @@ pub struct TraceRecord {
 pub struct Run {
     pub tree: Tree,
     pub policy: Policy,
+    /// As many as the run has.
     pub workers: Vec<Worker>,
     pub phases: Vec<Phase>,
     /// For each step whether it has run.
@@ -81,17 +92,19 @@ pub struct Run {
 }
 
 impl Run {
-    /// The start of a run from the policy byte and the tree file (1 to 5).
-    pub fn start(policy: u8, tree: &[u8]) -> Result<Run, Refusal> {
+    /// The start of a run from the policy byte, the count of workers and the
+    /// tree file (1, 16, then 2 to 5).
+    pub fn start(policy: u8, workers: u8, tree: &[u8]) -> Result<Run, Refusal> {
         let policy = Policy::parse(policy)?;
+        let workers = worker_count(workers)?;
         let tree = Tree::parse(tree)?;
-        Ok(Run::new(policy, tree))
+        Ok(Run::new(policy, workers, tree))
     }
 
     /// Worker 0 holds step 0 and that begins phase 0; the others are idle.
-    pub fn new(policy: Policy, tree: Tree) -> Run {
+    pub fn new(policy: Policy, workers: usize, tree: Tree) -> Run {
         let idle = Worker { held: None, deque: VecDeque::new(), phase: None };
-        let mut workers = vec![idle; WORKERS];
+        let mut workers = vec![idle; workers];
         workers[0].held = Some(0);
         workers[0].phase = Some(0);
         let ran = vec![false; tree.count()];
@@ -132,7 +145,7 @@ impl Run {
     /// The number with which this event would be refused now; 0 if none.
     pub fn judge(&self, first: u8, second: u8) -> u32 {
         let (a, b) = (usize::from(first), usize::from(second));
-        if a >= WORKERS || b >= WORKERS {
+        if a >= self.workers.len() || b >= self.workers.len() {
             return 8;
         }
         if a == b {
@@ -201,7 +214,7 @@ impl Run {
     /// The set of idle workers; worker w is bit w.
     pub fn idle_set(&self) -> u16 {
         let mut set = 0;
-        for worker in 0..WORKERS {
+        for worker in 0..self.workers.len() {
             if self.is_idle(worker) {
                 set |= 1 << worker;
             }
@@ -211,12 +224,12 @@ impl Run {
 
     /// How many workers are idle.
     pub fn idle_count(&self) -> usize {
-        (0..WORKERS).filter(|&worker| self.is_idle(worker)).count()
+        (0..self.workers.len()).filter(|&worker| self.is_idle(worker)).count()
     }
 
-    /// The lowest idle worker; 16 if there is none.
+    /// The lowest idle worker; 16 if there is none, however many the run has.
     pub fn lowest_idle(&self) -> usize {
-        (0..WORKERS).find(|&worker| self.is_idle(worker)).unwrap_or(16)
+        (0..self.workers.len()).find(|&worker| self.is_idle(worker)).unwrap_or(16)
     }
 
     /// The steps that a phase has run so far, in order.

@@ -1,4 +1,7 @@
-//! The examples of document 01.
+//! The examples of document 01, and worked cases of a run's own worker count.
+
+#[path = "library/counts.rs"]
+mod counts;
 
 use frame_tests::random::tree_of_kinds;
 use frame_tests::record::{record, record_to_vecs, RecordAnswer};
@@ -72,7 +75,7 @@ fn weights_are_little_endian() {
 fn p1_record() {
     let mut log = [0xEE; 30];
     let mut trace = [0xEE; 14];
-    let answer = record(1, &s(), &P1_EVENTS, &mut log, &mut trace);
+    let answer = record(1, 16, &s(), &P1_EVENTS, &mut log, &mut trace);
     let mut loads = [0; 16];
     loads[0] = 3; // steps 0 and 1 in phase 0, step 5 in phase 3
     loads[1] = 3; // steps 2, 3 and 4 in phase 1
@@ -107,7 +110,7 @@ fn p1_record() {
 #[test]
 fn p1_replay() {
     let mut list = [0xEE; 31];
-    let answer = replay(1, &s(), &P1_TRACE, &mut list);
+    let answer = replay(1, 16, &s(), &P1_TRACE, &mut list);
     let mut loads = [0; 16];
     loads[0] = 3;
     loads[1] = 3;
@@ -128,7 +131,7 @@ fn p1_replay() {
 
 #[test]
 fn p1_events_one_by_one() {
-    let mut run = Run::start(1, &s()).unwrap();
+    let mut run = Run::start(1, 16, &s()).unwrap();
     // After each event: idle set, how many, lowest, finished.
     let wanted = [
         (0xFFFE, 15, 1, false),
@@ -155,14 +158,14 @@ fn p2() {
     events.extend_from_slice(&[1, 1, 2, 2]);
     let mut log = [0x55; 28];
     let mut trace = [0x55; 12];
-    assert_eq!(record(1, &s(), &events, &mut log, &mut trace), refused_record(10, 8));
+    assert_eq!(record(1, 16, &s(), &events, &mut log, &mut trace), refused_record(10, 8));
     assert_eq!(log, [0x55; 28]);
     assert_eq!(trace, [0x55; 12]);
 }
 
 #[test]
 fn p3() {
-    let (answer, phases) = replay_to_vecs(2, &s(), &[]);
+    let (answer, phases) = replay_to_vecs(2, 16, &s(), &[]);
     assert_eq!((answer.number, answer.position, answer.phases), (0, 0, 1));
     assert_eq!(phases, [vec![0, 2, 3, 5, 4, 6, 1]]);
     assert_eq!(answer.loads[0], 7);
@@ -171,7 +174,7 @@ fn p3() {
 
 #[test]
 fn p4() {
-    let (answer, phases) = replay_to_vecs(2, &s(), &[1, 0, 1, 0, 2, 0, 6, 0]);
+    let (answer, phases) = replay_to_vecs(2, 16, &s(), &[1, 0, 1, 0, 2, 0, 6, 0]);
     assert_eq!((answer.number, answer.position, answer.phases), (0, 0, 3));
     assert_eq!(phases, [vec![0, 2, 3, 5, 4], vec![1], vec![6]]);
     assert_eq!(answer.loads[..4], [5, 1, 1, 0]);
@@ -179,7 +182,7 @@ fn p4() {
 
 #[test]
 fn p5() {
-    let (answer, log, trace) = record_to_vecs(1, &[3, 0, 0, 0, 9, 0, 0, 0], &[0, 0]);
+    let (answer, log, trace) = record_to_vecs(1, 16, &[3, 0, 0, 0, 9, 0, 0, 0], &[0, 0]);
     assert_eq!((answer.number, answer.finished), (0, true));
     assert_eq!((answer.log_count, answer.trace_count), (1, 0));
     assert_eq!(log, [0, 0, 0, 0]);
@@ -187,7 +190,7 @@ fn p5() {
     assert_eq!(answer.loads[0], 9);
     // A trace buffer of no bytes is long enough here.
     let mut log = [7; 4];
-    let answer = record(2, &tree_of_kinds(&[3]), &[0, 0], &mut log, &mut []);
+    let answer = record(2, 16, &tree_of_kinds(&[3]), &[0, 0], &mut log, &mut []);
     assert_eq!((answer.number, answer.finished), (0, true));
     assert_eq!(log, [0; 4]);
 }
@@ -195,7 +198,7 @@ fn p5() {
 #[test]
 fn p6() {
     for policy in [1, 2] {
-        let (answer, _, _) = record_to_vecs(policy, &tree_of_kinds(&[3]), &[0, 0, 0, 0]);
+        let (answer, _, _) = record_to_vecs(policy, 16, &tree_of_kinds(&[3]), &[0, 0, 0, 0]);
         assert_eq!(answer, refused_record(9, 1));
     }
 }
@@ -203,10 +206,10 @@ fn p6() {
 #[test]
 fn p7() {
     for policy in [1, 2] {
-        let run = Run::start(policy, &s()).unwrap();
+        let run = Run::start(policy, 16, &s()).unwrap();
         assert!(!run.finished());
         assert_eq!((run.idle_set(), run.idle_count(), run.lowest_idle()), (65_534, 15, 1));
-        let (answer, log, trace) = record_to_vecs(policy, &s(), &[]);
+        let (answer, log, trace) = record_to_vecs(policy, 16, &s(), &[]);
         assert_eq!((answer.number, answer.finished), (0, false));
         assert!(log.is_empty() && trace.is_empty());
         // Phase 0 covers all steps though none has run.
@@ -218,28 +221,28 @@ fn p7() {
 fn p8() {
     let trace = [1, 0, 1, 0, 2, 1, 1, 0];
     let mut list = [0x55; 28];
-    assert_eq!(replay(1, &s(), &trace, &mut list), refused_replay(15, 1));
+    assert_eq!(replay(1, 16, &s(), &trace, &mut list), refused_replay(15, 1));
     assert_eq!(list, [0x55; 28]);
 }
 
 #[test]
 fn p9() {
-    let (answer, _) = replay_to_vecs(2, &s(), &[1, 0, 3, 0]);
+    let (answer, _) = replay_to_vecs(2, 16, &s(), &[1, 0, 3, 0]);
     assert_eq!(answer, refused_replay(15, 0));
 }
 
 #[test]
 fn p10_p11() {
     for policy in [1, 2] {
-        assert_eq!(record_to_vecs(policy, &s(), &[1, 0]).0, refused_record(12, 0));
-        assert_eq!(record_to_vecs(policy, &s(), &[0x10, 0]).0, refused_record(8, 0));
+        assert_eq!(record_to_vecs(policy, 16, &s(), &[1, 0]).0, refused_record(12, 0));
+        assert_eq!(record_to_vecs(policy, 16, &s(), &[0x10, 0]).0, refused_record(8, 0));
     }
 }
 
 #[test]
 fn p12() {
     for policy in [1, 2] {
-        let (answer, _) = replay_to_vecs(policy, &s(), &[0, 1, 1, 0]);
+        let (answer, _) = replay_to_vecs(policy, 16, &s(), &[0, 1, 1, 0]);
         assert_eq!(answer, refused_replay(14, 0));
     }
 }
@@ -250,7 +253,7 @@ fn lowest_is_16_when_none_is_idle() {
     // others steal the sixteen pushed steps from the oldest on.
     let mut kinds = vec![1; 16];
     kinds.extend(vec![3; 17]);
-    let mut run = Run::start(1, &tree_of_kinds(&kinds)).unwrap();
+    let mut run = Run::start(1, 16, &tree_of_kinds(&kinds)).unwrap();
     for _ in 0..16 {
         run.event(0, 0).unwrap();
     }
@@ -259,4 +262,49 @@ fn lowest_is_16_when_none_is_idle() {
         run.event(thief, 0).unwrap();
     }
     assert_eq!((run.idle_set(), run.idle_count(), run.lowest_idle()), (0, 0, 16));
+}
+
+/// The refusal, or 0 with no position.
+fn refusal(number: u32, position: usize) -> (usize, usize) {
+    (number as usize, position)
+}
+
+#[test]
+fn worked_cases_of_the_count() {
+    for (policy, workers, kinds, events, want) in counts::RECORDINGS {
+        let (answer, _, _) = record_to_vecs(policy, workers, &tree_of_kinds(kinds), events);
+        let case = format!("policy {policy}, {workers} workers, {kinds:?}, events {events:?}");
+        assert_eq!(refusal(answer.number, answer.position), want, "{case}");
+    }
+    for (policy, workers, kinds, trace, want) in counts::REPLAYS {
+        let (answer, _) = replay_to_vecs(policy, workers, &tree_of_kinds(kinds), trace);
+        let case = format!("policy {policy}, {workers} workers, {kinds:?}, trace {trace:?}");
+        assert_eq!(refusal(answer.number, answer.position), want, "{case}");
+    }
+    for (workers, events, want) in counts::IDLE {
+        let mut run = Run::start(1, workers, &s()).unwrap();
+        for event in events {
+            run.event(event[0], event[1]).unwrap();
+        }
+        let idle = [run.idle_set().into(), run.idle_count(), run.lowest_idle()];
+        assert_eq!(idle, want, "{workers} workers, {events:?}");
+    }
+}
+
+#[test]
+fn p1_by_three_workers() {
+    let (answer, _, trace) = record_to_vecs(1, 3, &s(), &P1_EVENTS);
+    assert!(answer.finished);
+    assert_eq!(trace, P1_TRACE);
+    assert_eq!(answer.loads, [3, 3, 1, 0, 0, 0, 0, 0, 0, 0, 0, 0, 0, 0, 0, 0]);
+    let (_, phases) = replay_to_vecs(1, 3, &s(), &P1_TRACE);
+    assert_eq!(phases, [vec![0, 1], vec![2, 3, 4], vec![6], vec![5]]);
+}
+
+#[test]
+fn help_first_by_one_worker() {
+    let (answer, log, trace) = record_to_vecs(2, 1, &s(), &[0; 14]);
+    assert!(answer.finished);
+    assert_eq!(log.chunks(4).map(|r| r[2]).collect::<Vec<_>>(), [0, 2, 3, 5, 4, 6, 1]);
+    assert!(trace.is_empty());
 }

@@ -10,6 +10,7 @@ use std::path::{Path, PathBuf};
 use std::process::{Child, Command, Output, Stdio};
 use std::time::SystemTime;
 
+use frame_tests::cover::WORKERS;
 use frame_tests::phases::{phases, MAX_INPUT};
 use frame_tests::random::{trace_to_replay, tree, Rng};
 use frame_tests::{Policy, Tree};
@@ -181,7 +182,7 @@ fn joined_frames_are_listed() {
         let tasks = rng.below(60);
         let tree = tree(&mut rng, tasks);
         let parsed = Tree::parse(&tree).expect("the tree is accepted");
-        let trace = trace_to_replay(&mut rng, Policy::parse(policy).expect("the policy is one"), &parsed);
+        let trace = trace_to_replay(&mut rng, Policy::parse(policy).expect("the policy is one"), WORKERS, &parsed);
         let case = format!("seed {seed}");
         let bytes = joined(&folder, name, &tree, &trace, &case);
         let child = start(&mut Command::new(root().join("bin/phases")), &bytes);

@@ -1,5 +1,6 @@
 //! The library's interface is declared three times: in its source, in the C header and, for the tests, in Rust. These tests hold
-//! the three together, and the tables of docs/FORMAT.md with them: functions, structs, constants and refusals. They need `gcc`.
+//! the three together, and the tables of docs/FORMAT.md with them: functions, structs, constants, refusals and versions. They
+//! need `gcc`.
 
 mod library;
 
@@ -197,7 +198,7 @@ macro_rules! layout {
 
 fn layout() -> BTreeMap<String, Vec<usize>> {
     let mut lines = BTreeMap::new();
-    layout!(lines, "FrameState", RunState { place, held, phase, low, base, steals, policy });
+    layout!(lines, "FrameState", RunState { place, policy, held, phase, low, base, steals, workers });
     layout!(lines, "FrameStart", FrameStart { number, position, state });
     layout!(lines, "FrameOutcome", FrameOutcome { number, position, what, phase, step, trace });
     layout!(lines, "FrameEvent", FrameEvent { outcome, state });
@@ -234,12 +235,36 @@ fn the_layouts_of_the_format() {
     assert_eq!(format_fields(answers, 1, 2), fields("FrameReplay"));
 }
 
+/// The fields of a state cover it from its first byte to its last.
+#[test]
+fn no_byte_of_a_state_is_padding() {
+    let places = fields("FrameState");
+    assert_eq!(places, [[0, 4_095], [4_095, 1], [4_096, 32], [4_128, 32], [4_160, 32], [4_192, 32], [4_224, 2], [4_226, 2]]);
+    let end = places.iter().fold(0, |end, place| {
+        assert_eq!(place[0], end, "{places:?}");
+        end + place[1]
+    });
+    assert_eq!((end, size_of::<RunState>()), (4_228, 4_228));
+}
+
 // ---- Constants ----
+
+/// The versions of the header that FORMAT.md lists.
+fn versions() -> Vec<usize> {
+    let rows = format_rows("| version | what a caller sees |");
+    rows.iter().map(|row| row[0].parse().expect("it is a number")).collect()
+}
+
+#[test]
+fn the_versions_of_the_format() {
+    assert_eq!(versions(), (1..=versions().len()).collect::<Vec<_>>());
+}
 
 /// What a name of the header stands for, apart from the refusals.
 fn constants() -> BTreeMap<String, Vec<usize>> {
     let steps = MAX_TREE_BYTES / TREE_RECORD;
     [
+        ("FRAME_VERSION", *versions().last().expect("there is a version")),
         ("FRAME_MOST_STEPS", steps),
         ("FRAME_MOST_OPEN", MAX_OPEN),
         ("FRAME_WORKERS", WORKERS),
@@ -289,7 +314,7 @@ fn header_refusals() -> Vec<(usize, String, String)> {
 fn the_refusals_of_the_format() {
     let refusal = |row: Vec<String>| (row[0].parse().expect("it is a number"), row[1].clone());
     let rows: Vec<(usize, String)> = format_rows("| number | condition | position |").into_iter().map(refusal).collect();
-    assert_eq!(rows.iter().map(|row| row.0).collect::<Vec<_>>(), (1..=15).collect::<Vec<_>>());
+    assert_eq!(rows.iter().map(|row| row.0).collect::<Vec<_>>(), (1..=16).collect::<Vec<_>>());
     let named = header_refusals().into_iter().map(|(number, _, condition)| (number, condition));
     assert_eq!(named.collect::<Vec<_>>(), rows);
 }

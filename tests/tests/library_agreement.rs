@@ -20,6 +20,7 @@ type Phase = (usize, usize);
 struct Live<'a> {
     tree: &'a [u8],
     policy: u8,
+    workers: u8,
     state: RunState,
     /// The accepted events.
     events: Vec<u8>,
@@ -47,11 +48,11 @@ fn records_of(bytes: &[u8]) -> Vec<(usize, usize)> {
 }
 
 impl Live<'_> {
-    fn start(tree: &[u8], policy: u8) -> Live<'_> {
-        let started = library::start(tree, policy);
+    fn start(tree: &[u8], policy: u8, workers: u8) -> Live<'_> {
+        let started = library::start(tree, policy, workers);
         assert_eq!((started.number, started.position), (0, 0));
         // Phase 0 is worker 0's, from step 0.
-        Live { tree, policy, state: started.state, events: vec![], log: vec![], phases: vec![(0, 0)] }
+        Live { tree, policy, workers, state: started.state, events: vec![], log: vec![], phases: vec![(0, 0)] }
     }
 
     fn steps(&self) -> usize {
@@ -67,7 +68,7 @@ impl Live<'_> {
     /// Recording with outputs of these lengths.
     fn recorded(&self, events: &[u8], [log, trace]: [usize; 2]) -> (FrameRecord, Vec<u8>, Vec<u8>) {
         let (mut log, mut trace) = (vec![0; log], vec![0; trace]);
-        let got = library::record(self.tree, self.policy, events, &mut log, &mut trace);
+        let got = library::record(self.tree, self.policy, self.workers, events, &mut log, &mut trace);
         log.truncate(4 * got.logs);
         trace.truncate(4 * got.steals);
         (got, log, trace)
@@ -76,7 +77,7 @@ impl Live<'_> {
     /// Replay with a list of this length.
     fn replayed(&self, trace: &[u8], length: usize) -> (FrameReplay, Vec<u8>) {
         let mut list = vec![0; length];
-        let got = library::replay(self.tree, self.policy, trace, &mut list);
+        let got = library::replay(self.tree, self.policy, self.workers, trace, &mut list);
         (got, list)
     }
 
@@ -192,10 +193,10 @@ impl Seen {
 }
 
 /// Events from the start on, refused ones among them. Some lists are cut, and some have none.
-fn event_list(rng: &mut Rng, tree: &[u8], policy: u8, most: usize) -> Vec<[u8; 2]> {
-    let mut run = Run::start(policy, tree).expect("the tree is accepted");
+fn event_list(rng: &mut Rng, tree: &[u8], policy: u8, workers: u8, most: usize) -> Vec<[u8; 2]> {
+    let mut run = Run::start(policy, workers, tree).expect("the tree is accepted");
     let events = if rng.percent(60) { most } else { rng.below(tree.len() / 8 * 3 + 1) };
-    let plan = Plan { bad: rng.pick(&[0, 5, 30, 60]), events, ..Plan::any(rng) };
+    let plan = Plan { bad: rng.pick(&[0, 5, 30, 60]), events, ..Plan::any(rng, workers.into()) };
     drive(rng, &mut run, &plan).iter().map(|tried| tried.event).collect()
 }
 
@@ -211,6 +212,15 @@ fn follow(live: &mut Live, events: &[[u8; 2]], every: usize, rng: &mut Rng, seed
     seen.longest = seen.longest.max(events.len());
 }
 
+/// A count that a run may have, often the most.
+fn run_count(rng: &mut Rng) -> u8 {
+    if rng.percent(30) {
+        16
+    } else {
+        rng.between(1, 16) as u8
+    }
+}
+
 #[test]
 fn small_runs() {
     let mut seen = Seen::default();
@@ -218,9 +228,9 @@ fn small_runs() {
         let mut rng = Rng::new(seed);
         let tasks = if rng.percent(5) { rng.below(120) } else { rng.below(25) };
         let bytes = tree(&mut rng, tasks);
-        let policy = rng.between(1, 2) as u8;
-        let events = event_list(&mut rng, &bytes, policy, 12 * (tasks + 1));
-        follow(&mut Live::start(&bytes, policy), &events, 1, &mut rng, seed, &mut seen);
+        let (policy, workers) = (rng.between(1, 2) as u8, run_count(&mut rng));
+        let events = event_list(&mut rng, &bytes, policy, workers, 12 * (tasks + 1));
+        follow(&mut Live::start(&bytes, policy, workers), &events, 1, &mut rng, seed, &mut seen);
     }
     assert!(seen.numbers[0] > 400_000 && seen.steals > 100_000, "{seen:?}");
     assert!(seen.numbers[8..].iter().all(|&times| times > 10_000), "{seen:?}");
@@ -237,8 +247,9 @@ fn large_runs() {
         let tasks = if seed / 8 % 2 == 0 { 2_047 } else { rng.between(100, 2_047) };
         let finish = rng.pick(&[0, 20, 50, 80, 100]);
         let bytes = tree_with(&mut rng, shape, tasks, finish, Weights::Mixed);
-        let events = event_list(&mut rng, &bytes, policy, 20_000);
-        follow(&mut Live::start(&bytes, policy), &events, 100, &mut rng, seed, &mut seen);
+        let workers = run_count(&mut rng);
+        let events = event_list(&mut rng, &bytes, policy, workers, 20_000);
+        follow(&mut Live::start(&bytes, policy, workers), &events, 100, &mut rng, seed, &mut seen);
     }
     // A list of single events may be longer than one that is recorded.
     assert!(seen.longest > MAX_EVENTS, "{seen:?}");
@@ -247,12 +258,12 @@ fn large_runs() {
     assert!(seen.finished > 50 && seen.unfinished > 30, "{seen:?}");
 }
 
-/// Every spawned task is stolen, so that there are 2,048 phases; at the end, and on the way.
+/// Every spawned task is stolen by two workers, so that there are 2,048 phases; at the end, and on the way.
 #[test]
 fn as_many_phases_as_a_run_can_have() {
     let bytes = flat_tree(2_047);
     for (policy, reading) in [(1, Policy::WorkFirst), (2, Policy::HelpFirst)] {
-        let mut live = Live::start(&bytes, policy);
+        let mut live = Live::start(&bytes, policy, 2);
         for (k, event) in all_stolen(reading, 2_047).into_iter().enumerate() {
             if k % 1_000 == 0 {
                 live.round_trip(format_args!("policy {policy}, {k} events"));
@@ -272,8 +283,8 @@ fn view(live: &Live) -> (Vec<u8>, Vec<u16>, Vec<Phase>, Vec<Vec<usize>>) {
     (state.place[..live.steps()].to_vec(), tables, live.phases.clone(), ran)
 }
 
-/// All lists of events of three workers from this start on; runs that differ only in the order of the log between phases
-/// are taken once. Gives how many there are.
+/// All lists of events of three workers from this start on, and behind each of them every event that names a fourth, which the
+/// run does not have; runs that differ only in the order of the log between phases are taken once. Gives how many there are.
 fn all_schedules(start: Live, case: fmt::Arguments) -> usize {
     let mut seen = HashSet::new();
     let mut open = vec![start];
@@ -282,8 +293,8 @@ fn all_schedules(start: Live, case: fmt::Arguments) -> usize {
             continue;
         }
         live.round_trip(format_args!("{case}, events {:?}", live.events));
-        for first in 0..3 {
-            for second in 0..3 {
+        for first in 0..=3 {
+            for second in 0..=3 {
                 let mut next = live.clone();
                 if next.event([first, second], true, format_args!("{case}, events {:?}", live.events)) == 0 {
                     open.push(next);
@@ -300,7 +311,7 @@ fn all_small_schedules() {
     for tasks in 0..=4 {
         for (t, bytes) in all_trees(tasks).iter().enumerate() {
             for policy in [1, 2] {
-                let start = Live::start(bytes, policy);
+                let start = Live::start(bytes, policy, 3);
                 runs += all_schedules(start, format_args!("{tasks} tasks, tree {t}, policy {policy}"));
             }
         }

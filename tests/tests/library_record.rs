@@ -1,6 +1,8 @@
 //! Whole recordings over the C interface against the simulator: every answer and every byte of both outputs, which hold
 //! random bytes when they are lent. Each slice lies before or behind a guard page. A failure names its seed.
 
+#[path = "library/counts.rs"]
+mod counts;
 #[path = "library/guarded.rs"]
 mod guarded;
 #[path = "library/lent.rs"]
@@ -14,8 +16,8 @@ mod trees;
 use std::fmt;
 
 use frame_tests::random::{
-    accepted_bytes, all_stolen, any_event, damaged_tree, drive, events_to_record, flat_tree, tree, tree_of_kinds, tree_with,
-    Plan, Rng, Weights, SHAPES,
+    accepted_bytes, all_stolen, any_count, any_event, damaged_tree, drive, events_to_record, flat_tree, nearest_count, tree,
+    tree_of_kinds, tree_with, Plan, Rng, Weights, SHAPES,
 };
 use frame_tests::record::{record, MAX_EVENTS};
 use frame_tests::run::{Policy, Run};
@@ -29,6 +31,7 @@ use trees::{trees, S};
 struct Call {
     tree: Vec<u8>,
     policy: u8,
+    workers: u8,
     events: Vec<u8>,
     /// The outputs as they are lent.
     log: Vec<u8>,
@@ -39,10 +42,11 @@ struct Call {
 
 impl Call {
     /// A call with outputs of these lengths.
-    fn new(rng: &mut Rng, tree: &[u8], policy: u8, events: &[u8], lengths: [usize; 2]) -> Call {
+    fn new(rng: &mut Rng, tree: &[u8], policy: u8, workers: u8, events: &[u8], lengths: [usize; 2]) -> Call {
         Call {
             tree: tree.to_vec(),
             policy,
+            workers,
             events: events.to_vec(),
             log: rng.bytes(lengths[0]),
             trace: rng.bytes(lengths[1]),
@@ -70,7 +74,7 @@ fn lengths(rng: &mut Rng, tree: &[u8]) -> [usize; 2] {
 #[derive(Default, Debug)]
 struct Seen {
     /// By number; 0 is accepted.
-    numbers: [usize; 13],
+    numbers: [usize; 17],
     finished: usize,
     steals: usize,
     /// Accepted, and worker 0 is not the heaviest.
@@ -93,14 +97,14 @@ impl Both {
     /// Both sides give the same answer and leave the same bytes.
     fn same(&mut self, call: &Call, case: fmt::Arguments) -> FrameRecord {
         let (mut log, mut trace) = (call.log.clone(), call.trace.clone());
-        let want = FrameRecord::from(record(call.policy, &call.tree, &call.events, &mut log, &mut trace));
+        let want = FrameRecord::from(record(call.policy, call.workers, &call.tree, &call.events, &mut log, &mut trace));
         let [a, b, c, d] = &mut self.rooms;
         let lent_tree = put(a, &call.tree, call.ends[0]);
         let lent_events = put(b, &call.events, call.ends[1]);
         let lent_log = put(c, &call.log, call.ends[2]);
         let lent_trace = put(d, &call.trace, call.ends[3]);
         about_to_call(case);
-        let got = library::record(lent_tree, call.policy, lent_events, lent_log, lent_trace);
+        let got = library::record(lent_tree, call.policy, call.workers, lent_events, lent_log, lent_trace);
         assert_eq!(got, want, "{case}");
         same_bytes(lent_log, &log, "log", case);
         same_bytes(lent_trace, &trace, "trace", case);
@@ -143,23 +147,23 @@ fn small_calls() {
         let mut rng = Rng::new(seed);
         let tasks = if rng.percent(5) { rng.below(120) } else { rng.below(25) };
         let bytes = tree(&mut rng, tasks);
-        let policy = rng.between(1, 2) as u8;
+        let (policy, workers) = (rng.between(1, 2) as u8, any_count(&mut rng));
         let read = Tree::parse(&bytes).expect("the tree is accepted");
-        let events = events_to_record(&mut rng, policy_of(policy), &read);
+        let events = events_to_record(&mut rng, policy_of(policy), nearest_count(workers), &read);
         let lengths = lengths(&mut rng, &bytes);
-        let call = Call::new(&mut rng, &bytes, policy, &events, lengths);
+        let call = Call::new(&mut rng, &bytes, policy, workers, &events, lengths);
         both.same(&call, format_args!("seed {seed}"));
     }
     let seen = both.seen;
     assert!(seen.numbers[0] > 30_000 && seen.finished > 20_000 && seen.steals > 100_000, "{seen:?}");
-    assert!(seen.numbers[7..].iter().all(|&times| times > 1_000), "{seen:?}");
+    assert!([7, 8, 9, 10, 11, 12, 16].iter().all(|&number| seen.numbers[number] > 1_000), "{seen:?}");
     assert!(seen.other_heaviest > 8_000 && seen.equals > 5_000, "{seen:?}");
 }
 
 /// A run of a tree to its end.
-fn whole_run(rng: &mut Rng, tree: &[u8], policy: u8) -> Vec<u8> {
-    let mut run = Run::start(policy, tree).expect("the tree is accepted");
-    let plan = Plan::any(rng);
+fn whole_run(rng: &mut Rng, tree: &[u8], policy: u8, workers: u8) -> Vec<u8> {
+    let mut run = Run::start(policy, workers, tree).expect("the tree is accepted");
+    let plan = Plan::any(rng, workers.into());
     let tried = drive(rng, &mut run, &plan);
     assert!(run.finished(), "the run is finished");
     accepted_bytes(&tried)
@@ -176,34 +180,37 @@ fn large_runs() {
         let finish = rng.pick(&[0, 20, 50, 80, 100]);
         let weights = rng.pick(&[Weights::Mixed, Weights::Mixed, Weights::Max, Weights::One]);
         let bytes = tree_with(&mut rng, shape, tasks, finish, weights);
-        let events = whole_run(&mut rng, &bytes, policy);
+        let workers = if rng.percent(30) { 16 } else { rng.between(1, 16) as u8 };
+        let events = whole_run(&mut rng, &bytes, policy, workers);
         let more = rng.pick(&[0, 0, 1, 100]);
         let lengths = needed(&bytes).map(|need| need + more);
-        let call = Call::new(&mut rng, &bytes, policy, &events, lengths);
+        let call = Call::new(&mut rng, &bytes, policy, workers, &events, lengths);
         let got = both.same(&call, format_args!("seed {seed}"));
         assert_eq!((got.number, got.logs, got.finished), (0, 2 * tasks + 1, 1), "seed {seed}");
         // Cut short, and with an event in between that is refused.
         let at = rng.below(events.len() / 2);
         let (before, behind) = events.split_at(2 * at);
-        let call = Call::new(&mut rng, &bytes, policy, before, lengths);
+        let call = Call::new(&mut rng, &bytes, policy, workers, before, lengths);
         both.numbered(&call, (0, 0), format_args!("seed {seed}, {at} events"));
-        let call = Call::new(&mut rng, &bytes, policy, &[before, &[7, 16], behind].concat(), lengths);
+        let refused = [before, &[workers / 2, workers], behind].concat();
+        let call = Call::new(&mut rng, &bytes, policy, workers, &refused, lengths);
         both.numbered(&call, (8, at), format_args!("seed {seed}, refused at {at}"));
     }
     let seen = both.seen;
     assert!(seen.finished == 160 && seen.steals > 40_000 && seen.other_heaviest > 100, "{seen:?}");
 }
 
-/// Every spawned task is stolen: both outputs are full, and the last phase is 2,047.
+/// Every spawned task is stolen: both outputs are full, and the last phase is 2,047. Two workers are enough.
 #[test]
 fn as_many_steals_as_a_run_can_have() {
     let mut both = Both::new();
     let bytes = flat_tree(2_047);
-    for policy in [1, 2] {
+    for (policy, workers) in [(1, 16), (2, 16), (1, 2), (2, 2)] {
+        let case = format!("policy {policy}, {workers} workers");
         let events = all_stolen(policy_of(policy), 2_047).concat();
-        let call = Call::new(&mut Rng::new(policy.into()), &bytes, policy, &events, [16_380, 8_188]);
-        let got = both.same(&call, format_args!("policy {policy}"));
-        assert_eq!((got.number, got.logs, got.steals, got.finished), (0, 4_095, 2_047, 1), "policy {policy}");
+        let call = Call::new(&mut Rng::new(policy.into()), &bytes, policy, workers, &events, [16_380, 8_188]);
+        let got = both.same(&call, format_args!("{case}"));
+        assert_eq!((got.number, got.logs, got.steals, got.finished), (0, 4_095, 2_047, 1), "{case}");
     }
 }
 
@@ -222,23 +229,43 @@ fn damaged_trees_and_odd_lengths() {
             }
         };
         let policy = rng.pick(&[1, 1, 1, 1, 2, 2, 2, 2, 0, 3, 255]);
+        let workers = any_count(&mut rng);
+        let count = nearest_count(workers);
         let mut events = match (Policy::parse(policy), Tree::parse(&bytes)) {
-            (Ok(policy), Ok(tree)) => events_to_record(&mut rng, policy, &tree),
-            _ => (0..rng.below(20)).flat_map(|_| any_event(&mut rng, 16)).collect(),
+            (Ok(policy), Ok(tree)) => events_to_record(&mut rng, policy, count, &tree),
+            _ => (0..rng.below(20)).flat_map(|_| any_event(&mut rng, count, count)).collect(),
         };
         if rng.percent(20) {
             events.push(rng.next() as u8);
         }
         let lengths = lengths(&mut rng, &bytes);
-        let call = Call::new(&mut rng, &bytes, policy, &events, lengths);
+        let call = Call::new(&mut rng, &bytes, policy, workers, &events, lengths);
         let got = both.same(&call, format_args!("seed {seed}"));
-        // A start refuses the same with 1 to 5, and nothing else.
-        let started = library::start(&bytes, policy);
-        let want = if got.number <= 5 { (got.number, got.position) } else { (0, 0) };
+        // A start refuses the same with 1 to 5 and 16, and nothing else.
+        let started = library::start(&bytes, policy, workers);
+        let want = if got.number <= 5 || got.number == 16 { (got.number, got.position) } else { (0, 0) };
         assert_eq!((started.number, started.position), want, "seed {seed}");
     }
     let seen = both.seen;
-    assert!(seen.numbers[..8].iter().all(|&times| times > 400), "{seen:?}");
+    assert!([0, 1, 2, 3, 4, 5, 6, 7, 16].iter().all(|&number| seen.numbers[number] > 400), "{seen:?}");
+}
+
+/// Only 1 to 16 are counts. Worker 0 runs everything, so any of them is enough.
+#[test]
+fn every_count_byte() {
+    let mut both = Both::new();
+    for seed in 0..20 {
+        let mut rng = Rng::new(seed);
+        let tasks = rng.below(12);
+        let bytes = tree(&mut rng, tasks);
+        let policy = rng.between(1, 2) as u8;
+        let events = whole_run(&mut rng, &bytes, policy, 1);
+        for workers in 0..=255 {
+            let call = Call::new(&mut rng, &bytes, policy, workers, &events, needed(&bytes));
+            let want = if (1..=16).contains(&workers) { (0, 0) } else { (16, 0) };
+            both.numbered(&call, want, format_args!("seed {seed}, {workers} workers"));
+        }
+    }
 }
 
 // ---- Lengths ----
@@ -250,8 +277,8 @@ fn outputs_of_all_lengths() {
         let mut rng = Rng::new(seed);
         let tasks = if seed < 10 { 2_000 + rng.below(48) } else { rng.below(12) };
         let bytes = tree(&mut rng, tasks);
-        let policy = rng.between(1, 2) as u8;
-        let mut events = whole_run(&mut rng, &bytes, policy);
+        let (policy, workers) = (rng.between(1, 2) as u8, rng.between(1, 16) as u8);
+        let mut events = whole_run(&mut rng, &bytes, policy, workers);
         // The room is asked for the whole tree, however few the events.
         let kept = if rng.percent(50) { events.len() } else { 2 * rng.between(0, events.len() / 2) };
         events.truncate(kept);
@@ -262,7 +289,7 @@ fn outputs_of_all_lengths() {
         let needed = needed(&bytes);
         for &log in &log {
             for &trace in &trace {
-                let call = Call::new(&mut rng, &bytes, policy, &events, [log, trace]);
+                let call = Call::new(&mut rng, &bytes, policy, workers, &events, [log, trace]);
                 let number = if log < needed[0] || trace < needed[1] { 7 } else { 0 };
                 both.numbered(&call, (number, 0), format_args!("seed {seed}, log of {log}, trace of {trace} bytes"));
             }
@@ -302,10 +329,10 @@ fn as_many_events_as_a_list_may_have() {
                 };
                 let case = format!("policy {policy}, {count} events, from {accepted} on {more:?}");
                 let rng = &mut Rng::new(count as u64);
-                let call = Call::new(rng, &bytes, policy, &events, [16_380, 8_188]);
+                let call = Call::new(rng, &bytes, policy, 16, &events, [16_380, 8_188]);
                 both.numbered(&call, want, format_args!("{case}"));
                 events.push(0);
-                let call = Call::new(rng, &bytes, policy, &events, [16_380, 8_188]);
+                let call = Call::new(rng, &bytes, policy, 16, &events, [16_380, 8_188]);
                 both.numbered(&call, (6, 0), format_args!("{case}, and a byte"));
             }
         }
@@ -315,21 +342,21 @@ fn as_many_events_as_a_list_may_have() {
 // ---- Which refusal wins ----
 
 /// A start of a run of S after which one worker is idle, one waits and one can run its step with an empty deque; then events
-/// that are refused with 8 to 12 there.
-fn walked(policy: u8) -> (Vec<[u8; 2]>, Vec<([u8; 2], usize)>) {
+/// that are refused with 8 to 12 there. The run has four workers or more; the one that is none is at its count.
+fn walked(policy: u8, none: u8) -> (Vec<[u8; 2]>, Vec<([u8; 2], usize)>) {
     if policy == 2 {
         let start = vec![[0, 0], [0, 0], [1, 0], [2, 0]];
-        (start, vec![([16, 16], 8), ([3, 3], 9), ([2, 2], 10), ([2, 0], 11), ([3, 0], 12)])
+        (start, vec![([none, none], 8), ([3, 3], 9), ([2, 2], 10), ([2, 0], 11), ([3, 0], 12)])
     } else {
         let start = vec![[0, 0], [1, 0], [1, 1], [2, 1], [1, 1], [0, 0], [0, 1], [1, 1]];
-        (start, vec![([16, 16], 8), ([1, 1], 9), ([2, 2], 10), ([2, 0], 11), ([1, 0], 12)])
+        (start, vec![([none, none], 8), ([1, 1], 9), ([2, 2], 10), ([2, 0], 11), ([1, 0], 12)])
     }
 }
 
 /// Lists of events for S with the number and the position of their refusal: whole or not, and with every two of 8 to 12, in
 /// one event or in two.
-fn lists(policy: u8) -> Vec<(Vec<u8>, (usize, usize))> {
-    let (start, refused) = walked(policy);
+fn lists(policy: u8, none: u8) -> Vec<(Vec<u8>, (usize, usize))> {
+    let (start, refused) = walked(policy, none);
     let place = start.len();
     let mut lists = vec![
         (vec![], (0, 0)),
@@ -339,8 +366,9 @@ fn lists(policy: u8) -> Vec<(Vec<u8>, (usize, usize))> {
         ([16; 2 * (MAX_EVENTS + 1)].to_vec(), (6, 0)),
         ([0; 2 * (MAX_EVENTS + 1)].to_vec(), (6, 0)),
         // 8 with 11, 8 with 12, 11 with 12.
-        (vec![0, 16], (8, 0)),
-        (vec![1, 16], (8, 0)),
+        (vec![0, none], (8, 0)),
+        (vec![1, none], (8, 0)),
+        (vec![none, 0], (8, 0)),
         (vec![0, 1], (11, 0)),
     ];
     for &(first, number) in &refused {
@@ -352,21 +380,25 @@ fn lists(policy: u8) -> Vec<(Vec<u8>, (usize, usize))> {
     lists
 }
 
-/// All these policies, trees, lists and lengths together: the first refusal in rising order is given.
+/// All these policies, counts, trees, lists and lengths together: the first refusal in rising order is given, with 16 directly
+/// after 1.
 #[test]
 fn the_lower_number_wins() {
     let mut both = Both::new();
     let trees = trees();
     let outputs = [[28, 12], [40, 20], [27, 12], [28, 11], [27, 11], [0, 12], [28, 0], [0, 0]];
     let mut rng = Rng::new(0);
-    for policy in [1, 2, 0, 3, 255] {
-        let lists = lists(policy);
+    let counts = [16, 4, 0, 17];
+    for (policy, workers) in [1, 2, 0, 3, 255].into_iter().flat_map(|policy| counts.map(|workers| (policy, workers))) {
+        let lists = lists(policy, if workers == 4 { 4 } else { 16 });
         for (t, (tree, of_tree)) in trees.iter().enumerate() {
             for (l, (events, of_list)) in lists.iter().enumerate() {
                 for lengths in outputs {
                     let short = lengths[0] < 28 || lengths[1] < 12;
                     let want = if ![1, 2].contains(&policy) {
                         (1, 0)
+                    } else if ![4, 16].contains(&workers) {
+                        (16, 0)
                     } else if of_tree.0 != 0 {
                         *of_tree
                     } else if short && of_list.0 != 6 {
@@ -374,14 +406,15 @@ fn the_lower_number_wins() {
                     } else {
                         *of_list
                     };
-                    let call = Call::new(&mut rng, tree, policy, events, lengths);
-                    both.numbered(&call, want, format_args!("policy {policy}, tree {t}, list {l}, {lengths:?}"));
+                    let call = Call::new(&mut rng, tree, policy, workers, events, lengths);
+                    let case = format_args!("policy {policy}, {workers} workers, tree {t}, list {l}, {lengths:?}");
+                    both.numbered(&call, want, case);
                 }
             }
         }
     }
-    let seen = both.seen;
-    assert!(seen.numbers.iter().all(|&times| times > 0), "{seen:?}");
+    let seen = both.seen.numbers;
+    assert!((0..=12).chain([16]).all(|number| seen[number] > 0), "{seen:?}");
 }
 
 // ---- Single events ----
@@ -396,18 +429,19 @@ fn as_single_events() {
         let mut rng = Rng::new(seed);
         let tasks = if rng.percent(2) { rng.below(300) } else { rng.below(25) };
         let bytes = tree(&mut rng, tasks);
-        let policy = rng.between(1, 2) as u8;
-        let mut run = Run::start(policy, &bytes).expect("the tree is accepted");
-        let plan = Plan { bad: rng.pick(&[0, 5, 30]), events: rng.pick(&[10, 100, MAX_EVENTS]), ..Plan::any(&mut rng) };
+        let (policy, workers) = (rng.between(1, 2) as u8, rng.between(1, 16) as u8);
+        let mut run = Run::start(policy, workers, &bytes).expect("the tree is accepted");
+        let any = Plan::any(&mut rng, workers.into());
+        let plan = Plan { bad: rng.pick(&[0, 5, 30]), events: rng.pick(&[10, 100, MAX_EVENTS]), ..any };
         let tried = drive(&mut rng, &mut run, &plan);
 
-        let mut state = library::start(&bytes, policy).state;
+        let mut state = library::start(&bytes, policy, workers).state;
         let (mut events, mut log, mut trace) = (vec![], vec![], vec![]);
         let [log_bytes, trace_bytes] = needed(&bytes);
         let [empty_log, empty_trace] = [rng.bytes(log_bytes), rng.bytes(trace_bytes)];
         let recorded = |events: &[u8]| {
             let (mut log, mut trace) = (empty_log.clone(), empty_trace.clone());
-            let got = library::record(&bytes, policy, events, &mut log, &mut trace);
+            let got = library::record(&bytes, policy, workers, events, &mut log, &mut trace);
             (got, log, trace)
         };
         for (k, tried) in tried.iter().enumerate() {
@@ -444,10 +478,10 @@ fn as_single_events() {
 
 /// A call with plain slices, the outputs longer than the tree asks for. Gives what stands at their front; the rest must keep
 /// its bytes.
-fn recorded(kinds: &[u8], policy: u8, events: &[u8]) -> (FrameRecord, Vec<u8>, Vec<u8>) {
+fn recorded(kinds: &[u8], policy: u8, workers: u8, events: &[u8]) -> (FrameRecord, Vec<u8>, Vec<u8>) {
     let bytes = tree_of_kinds(kinds);
     let [mut log, mut trace] = needed(&bytes).map(|need| vec![0xEE; need + 3]);
-    let got = library::record(&bytes, policy, events, &mut log, &mut trace);
+    let got = library::record(&bytes, policy, workers, events, &mut log, &mut trace);
     for (output, count) in [(&mut log, got.logs), (&mut trace, got.steals)] {
         assert!(output[4 * count..].iter().all(|&byte| byte == 0xEE), "{events:?}");
         output.truncate(4 * count);
@@ -484,7 +518,9 @@ const P1_TRACE: [u8; 12] = [1, 0, 1, 0, 2, 1, 2, 0, 0, 1, 1, 0];
 #[test]
 fn p1_and_its_parts() {
     let want = (accepted(7, 3, 1, [3, 3, 1], 0), P1_LOG.to_vec(), P1_TRACE.to_vec());
-    assert_eq!(recorded(&S, 1, &P1), want);
+    for workers in 3..=16 {
+        assert_eq!(recorded(&S, 1, workers, &P1), want, "{workers} workers");
+    }
     // After so many events: steps run, steals, loads of all that the phases cover, the heaviest.
     let parts: [(usize, usize, [u64; 3], usize); 10] = [
         (0, 0, [7, 0, 0], 0),
@@ -501,7 +537,7 @@ fn p1_and_its_parts() {
     for (count, (logs, steals, loads, heaviest)) in parts.into_iter().enumerate() {
         let answer = accepted(logs, steals, 0, loads, heaviest);
         let want = (answer, P1_LOG[..4 * logs].to_vec(), P1_TRACE[..4 * steals].to_vec());
-        assert_eq!(recorded(&S, 1, &P1[..2 * count]), want, "{count} events");
+        assert_eq!(recorded(&S, 1, 16, &P1[..2 * count]), want, "{count} events");
     }
 }
 
@@ -509,15 +545,30 @@ fn p1_and_its_parts() {
 fn p2_p5_p6_p7_p10_and_p11() {
     let none = Vec::new;
     let p2 = [&P1[..14], &[1, 1, 2, 2]].concat();
-    assert_eq!(recorded(&S, 1, &p2), (refused(10, 8), none(), none()));
+    assert_eq!(recorded(&S, 1, 16, &p2), (refused(10, 8), none(), none()));
     for policy in [1, 2] {
         let p5 = (accepted(1, 0, 1, [1, 0, 0], 0), vec![0; 4], none());
-        assert_eq!(recorded(&[3], policy, &[0, 0]), p5);
-        assert_eq!(recorded(&[3], policy, &[0, 0, 0, 0]), (refused(9, 1), none(), none()));
-        assert_eq!(recorded(&S, policy, &[]), (accepted(0, 0, 0, [7, 0, 0], 0), none(), none()));
-        assert_eq!(recorded(&S, policy, &[1, 0]), (refused(12, 0), none(), none()));
-        assert_eq!(recorded(&S, policy, &[16, 0]), (refused(8, 0), none(), none()));
+        assert_eq!(recorded(&[3], policy, 16, &[0, 0]), p5);
+        assert_eq!(recorded(&[3], policy, 16, &[0, 0, 0, 0]), (refused(9, 1), none(), none()));
+        assert_eq!(recorded(&S, policy, 16, &[]), (accepted(0, 0, 0, [7, 0, 0], 0), none(), none()));
+        assert_eq!(recorded(&S, policy, 16, &[1, 0]), (refused(12, 0), none(), none()));
+        assert_eq!(recorded(&S, policy, 16, &[16, 0]), (refused(8, 0), none(), none()));
     }
+}
+
+/// The worked cases of the count, and a whole run of one worker.
+#[test]
+fn worked_cases_of_the_count() {
+    for (policy, workers, kinds, events, want) in counts::RECORDINGS {
+        let (got, ..) = recorded(kinds, policy, workers, events);
+        let case = format!("policy {policy}, {workers} workers, {kinds:?}, events {events:?}");
+        assert_eq!((got.number, got.position), want, "{case}");
+        assert!(got.number == 0 || got == refused(want.0, want.1), "{case}: {got:?}");
+    }
+    let (got, log, trace) = recorded(&S, 2, 1, &[0; 14]);
+    assert_eq!(got, accepted(7, 0, 1, [7, 0, 0], 0));
+    assert_eq!(log.chunks(4).map(|record| record[2]).collect::<Vec<_>>(), [0, 2, 3, 5, 4, 6, 1]);
+    assert!(trace.is_empty());
 }
 
 /// P5 with outputs of exactly the bytes it asks for: a trace of none.
@@ -525,12 +576,12 @@ fn p2_p5_p6_p7_p10_and_p11() {
 fn empty_slices() {
     let one = tree_of_kinds(&[3]);
     let mut log = [0xEE; 4];
-    assert_eq!(library::record(&one, 1, &[0, 0], &mut log, &mut []), accepted(1, 0, 1, [1, 0, 0], 0));
+    assert_eq!(library::record(&one, 1, 16, &[0, 0], &mut log, &mut []), accepted(1, 0, 1, [1, 0, 0], 0));
     assert_eq!(log, [0; 4]);
-    assert_eq!(library::record(&one, 1, &[], &mut log, &mut []), accepted(0, 0, 0, [1, 0, 0], 0));
-    assert_eq!(library::record(&one, 1, &[], &mut [], &mut []), refused(7, 0));
-    assert_eq!(library::record(&[], 1, &[], &mut [], &mut []), refused(2, 0));
-    assert_eq!(library::record(&[], 0, &[], &mut [], &mut []), refused(1, 0));
+    assert_eq!(library::record(&one, 1, 16, &[], &mut log, &mut []), accepted(0, 0, 0, [1, 0, 0], 0));
+    assert_eq!(library::record(&one, 1, 16, &[], &mut [], &mut []), refused(7, 0));
+    assert_eq!(library::record(&[], 1, 16, &[], &mut [], &mut []), refused(2, 0));
+    assert_eq!(library::record(&[], 0, 16, &[], &mut [], &mut []), refused(1, 0));
 }
 
 // ---- Stack ----
@@ -544,10 +595,10 @@ fn stack_of_a_call() {
         let mut rng = Rng::new(seed);
         let policy = 1 + (seed / 4 % 2) as u8;
         let bytes = tree_with(&mut rng, SHAPES[seed as usize % 4], 2_047, 30, Weights::Mixed);
-        let events = whole_run(&mut rng, &bytes, policy);
+        let events = whole_run(&mut rng, &bytes, policy, 16);
         let [mut log, mut trace] = needed(&bytes).map(|need| vec![0; need]);
         let mut answer = refused(0, 0);
-        let used = stack::used_by(&mut || answer = library::record(&bytes, policy, &events, &mut log, &mut trace));
+        let used = stack::used_by(&mut || answer = library::record(&bytes, policy, 16, &events, &mut log, &mut trace));
         assert_eq!((answer.number, answer.finished), (0, 1), "seed {seed}");
         assert!(used <= MOST_STACK, "seed {seed}: {used} bytes");
     }

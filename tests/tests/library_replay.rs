@@ -1,6 +1,8 @@
 //! Whole replays over the C interface against the simulator: every answer and every byte of the run list, which holds random
 //! bytes when it is lent. Each slice lies before or behind a guard page. A failure names its seed.
 
+#[path = "library/counts.rs"]
+mod counts;
 #[path = "library/guarded.rs"]
 mod guarded;
 #[path = "library/lent.rs"]
@@ -16,8 +18,8 @@ use std::fmt;
 use std::io::Write;
 
 use frame_tests::random::{
-    accepted_trace, all_stolen, all_trees, any_event, damaged_tree, doubtful_record, flat_tree, recorded_trace,
-    robbed_in_turn, trace_record, trace_to_replay, tree, tree_of_kinds, tree_with, Rng, Steals, Weights, SHAPES,
+    accepted_trace, all_stolen, all_trees, any_count, any_event, damaged_tree, doubtful_record, flat_tree, nearest_count,
+    recorded_trace, robbed_in_turn, trace_record, trace_to_replay, tree, tree_of_kinds, tree_with, Rng, Steals, Weights, SHAPES,
 };
 use frame_tests::record::record_to_vecs;
 use frame_tests::replay::{judge_and_replay, replay, MAX_TRACE, TRACE_BYTES};
@@ -32,6 +34,7 @@ use trees::{trees, S};
 struct Call {
     tree: Vec<u8>,
     policy: u8,
+    workers: u8,
     trace: Vec<u8>,
     /// The list as it is lent.
     list: Vec<u8>,
@@ -43,10 +46,11 @@ struct Call {
 
 impl Call {
     /// A call with a list of this length.
-    fn new(rng: &mut Rng, tree: &[u8], policy: u8, trace: &[u8], length: usize) -> Call {
+    fn new(rng: &mut Rng, tree: &[u8], policy: u8, workers: u8, trace: &[u8], length: usize) -> Call {
         Call {
             tree: tree.to_vec(),
             policy,
+            workers,
             trace: trace.to_vec(),
             list: rng.bytes(length),
             beside: rng.bytes(8),
@@ -107,7 +111,8 @@ fn sound(call: &Call, got: &FrameReplay, list: &[u8], case: fmt::Arguments) {
 /// Why the record at this position, which is refused with 15, is.
 fn why(call: &Call, position: usize) -> &'static str {
     let (before, record) = call.trace.split_at(TRACE_BYTES * position);
-    let read = judge_and_replay(call.policy, &call.tree, before, usize::MAX).expect("what stands before is accepted");
+    let read = judge_and_replay(call.policy, call.workers, &call.tree, before, usize::MAX);
+    let read = read.expect("what stands before is accepted");
     let tree = &read.tree;
     let number = number(&record[2..]);
     let phase = read.latest[usize::from(record[1])].expect("the victim has had a phase");
@@ -141,7 +146,7 @@ fn why(call: &Call, position: usize) -> &'static str {
 #[derive(Default, Debug)]
 struct Seen {
     /// By number; 0 is accepted.
-    numbers: [usize; 16],
+    numbers: [usize; 17],
     /// By reason, where the number is 15 and the tree is small.
     why: BTreeMap<&'static str, usize>,
     /// Of accepted calls.
@@ -168,13 +173,13 @@ impl Both {
     /// Both sides give the same answer and leave the same bytes.
     fn same(&mut self, call: &Call, case: fmt::Arguments) -> FrameReplay {
         let mut list = call.list.clone();
-        let want = FrameReplay::from(replay(call.policy, &call.tree, &call.trace, &mut list));
+        let want = FrameReplay::from(replay(call.policy, call.workers, &call.tree, &call.trace, &mut list));
         let [a, b, c] = &mut self.rooms;
         let lent_tree = put(a, &call.tree, call.ends[0]);
         let lent_trace = put(b, &call.trace, call.ends[1]);
         let (lent_list, beside) = lend_list(c, call);
         about_to_call(case);
-        let got = library::replay(lent_tree, call.policy, lent_trace, lent_list);
+        let got = library::replay(lent_tree, call.policy, call.workers, lent_trace, lent_list);
         assert_eq!(got, want, "{case}");
         same_bytes(lent_list, &list, "list", case);
         same_bytes(beside, &call.beside, "room beside the list", case);
@@ -196,7 +201,7 @@ impl Both {
     fn count(&mut self, call: &Call, got: &FrameReplay) {
         let seen = &mut self.seen;
         seen.numbers[got.number] += 1;
-        seen.later += usize::from(got.number >= 8 && got.position > 0);
+        seen.later += usize::from((8..16).contains(&got.number) && got.position > 0);
         if got.number == 15 && call.tree.len() < 1_000 {
             *seen.why.entry(why(call, got.position)).or_default() += 1;
         }
@@ -238,26 +243,30 @@ fn small_calls() {
         let mut rng = Rng::new(seed);
         let tasks = if rng.percent(5) { rng.below(120) } else { rng.below(25) };
         let bytes = tree(&mut rng, tasks);
-        let policy = rng.between(1, 2) as u8;
-        let trace = trace_to_replay(&mut rng, policy_of(policy), &read(&bytes));
+        let (policy, workers) = (rng.between(1, 2) as u8, any_count(&mut rng));
+        let trace = trace_to_replay(&mut rng, policy_of(policy), nearest_count(workers), &read(&bytes));
         let length = length(&mut rng, &bytes);
-        let call = Call::new(&mut rng, &bytes, policy, &trace, length);
+        let call = Call::new(&mut rng, &bytes, policy, workers, &trace, length);
         both.same(&call, format_args!("seed {seed}"));
     }
     let seen = both.seen;
     assert!(seen.numbers[0] > 30_000 && seen.steals > 200_000, "{seen:?}");
-    assert!([6, 7, 8, 13, 14, 15].iter().all(|&number| seen.numbers[number] > 1_000), "{seen:?}");
+    assert!([6, 7, 8, 13, 14, 15, 16].iter().all(|&number| seen.numbers[number] > 1_000), "{seen:?}");
     all_reasons(&seen, 300);
     assert!(seen.later > 10_000 && seen.other_heaviest > 5_000 && seen.equals > 5_000, "{seen:?}");
 }
 
-/// All records between so many workers, with every number up to n and one that is too large for a tree. Where thief and victim
-/// are equal two numbers are enough.
+/// All records between so many workers and one more, which the run does not have, with every number up to n and one that is too
+/// large for a tree. Where thief and victim are equal two numbers are enough, and one where there is no such worker.
 fn all_records(workers: u8, n: usize) -> Vec<[u8; 4]> {
     let mut records = Vec::new();
-    for thief in 0..workers {
-        for victim in 0..workers {
-            let numbers = if thief == victim { vec![0, 1] } else { (0..=n as u16).chain([65_535]).collect() };
+    for thief in 0..=workers {
+        for victim in 0..=workers {
+            let numbers = match thief.max(victim) {
+                none if none == workers => vec![1],
+                _ if thief == victim => vec![0, 1],
+                _ => (0..=n as u16).chain([65_535]).collect(),
+            };
             records.extend(numbers.into_iter().map(|number| trace_record(thief, victim, number)));
         }
     }
@@ -273,8 +282,8 @@ fn told_apart(tree: &[u8]) -> Vec<u8> {
     bytes
 }
 
-/// Every trace between so many workers on all trees with so many spawned tasks, up to its first record that is refused. A worker
-/// is named only when all below it have been: others' names would make the same phases.
+/// Every trace of a run of so many workers on all trees with so many spawned tasks, up to its first record that is refused. A
+/// worker is named only when all below it have been: others' names would make the same phases.
 fn all_traces(both: &mut Both, tasks: usize, workers: u8) {
     let mut rng = Rng::new(0);
     for (t, tree) in all_trees(tasks).iter().enumerate() {
@@ -285,7 +294,7 @@ fn all_traces(both: &mut Both, tasks: usize, workers: u8) {
             while let Some(trace) = open.pop() {
                 let bytes = if rng.percent(50) { tree } else { &told };
                 let length = needed(bytes) + rng.below(3);
-                let call = Call::new(&mut rng, bytes, policy, &trace, length);
+                let call = Call::new(&mut rng, bytes, policy, workers, &trace, length);
                 let got = both.same(&call, format_args!("{tasks} tasks, tree {t}, policy {policy}, trace {trace:?}"));
                 if got.number == 0 {
                     // A trace has at most as many records as there are spawned tasks.
@@ -330,14 +339,23 @@ fn large_tree(rng: &mut Rng, seed: u64) -> (Vec<u8>, u8) {
     (tree_with(rng, shape, tasks, finish, weights), policy)
 }
 
+/// A count of workers of whom one can steal, often the most.
+fn some_count(rng: &mut Rng) -> u8 {
+    if rng.percent(30) {
+        16
+    } else {
+        rng.between(2, 16) as u8
+    }
+}
+
 /// An accepted trace whole, cut short, and with a record in between that is refused or read in another way.
-fn with_its_parts(both: &mut Both, rng: &mut Rng, bytes: &[u8], policy: u8, trace: &[u8], seed: u64) {
+fn with_its_parts(both: &mut Both, rng: &mut Rng, bytes: &[u8], policy: u8, workers: u8, trace: &[u8], seed: u64) {
     let length = needed(bytes) + rng.pick(&[0, 0, 1, 100]);
-    let call = Call::new(rng, bytes, policy, trace, length);
+    let call = Call::new(rng, bytes, policy, workers, trace, length);
     both.numbered(&call, (0, 0), format_args!("seed {seed}"));
     let any_place = |rng: &mut Rng| rng.below(trace.len() / TRACE_BYTES + 1);
     let at = any_place(rng);
-    let call = Call::new(rng, bytes, policy, &trace[..TRACE_BYTES * at], length);
+    let call = Call::new(rng, bytes, policy, workers, &trace[..TRACE_BYTES * at], length);
     both.numbered(&call, (0, 0), format_args!("seed {seed}, {at} records"));
     if trace.len() == TRACE_BYTES * MAX_TRACE {
         return;
@@ -346,13 +364,13 @@ fn with_its_parts(both: &mut Both, rng: &mut Rng, bytes: &[u8], policy: u8, trac
         let (before, behind) = trace.split_at(TRACE_BYTES * at);
         [before, &more, behind].concat()
     };
-    let call = Call::new(rng, bytes, policy, &with(at, [7, 16, 1, 0]), length);
+    let call = Call::new(rng, bytes, policy, workers, &with(at, [workers / 2, workers, 1, 0]), length);
     both.numbered(&call, (8, at), format_args!("seed {seed}, refused at {at}"));
     let records: Vec<[u8; 4]> = trace.chunks(4).map(|r| [r[0], r[1], r[2], r[3]]).collect();
     for _ in 0..4 {
         let at = any_place(rng);
-        let doubtful = doubtful_record(rng, policy_of(policy), &read(bytes), &records[..at]);
-        let call = Call::new(rng, bytes, policy, &with(at, doubtful), length);
+        let doubtful = doubtful_record(rng, policy_of(policy), workers.into(), &read(bytes), &records[..at]);
+        let call = Call::new(rng, bytes, policy, workers, &with(at, doubtful), length);
         both.same(&call, format_args!("seed {seed}, {doubtful:?} at {at}"));
     }
 }
@@ -363,13 +381,14 @@ fn large_traces_that_no_scheduler_makes() {
     for seed in 0..192 {
         let mut rng = Rng::new(seed);
         let (bytes, policy) = large_tree(&mut rng, seed);
-        let mut plan = Steals::any(&mut rng);
+        let workers = some_count(&mut rng);
+        let mut plan = Steals::any(&mut rng, workers.into());
         // In every other round as many steals as can be had.
         if seed / 16 % 2 == 0 {
             plan = Steals { careful: 100, lowest: rng.pick(&[98, 100]), ..plan };
         }
         let trace = accepted_trace(&mut rng, policy_of(policy), &read(&bytes), &plan);
-        with_its_parts(&mut both, &mut rng, &bytes, policy, &trace, seed);
+        with_its_parts(&mut both, &mut rng, &bytes, policy, workers, &trace, seed);
     }
     let seen = both.seen;
     assert!(seen.steals > 30_000 && seen.other_heaviest > 50, "{seen:?}");
@@ -381,8 +400,9 @@ fn large_traces_of_runs() {
     for seed in 0..128 {
         let mut rng = Rng::new(seed);
         let (bytes, policy) = large_tree(&mut rng, seed);
-        let trace = recorded_trace(&mut rng, policy_of(policy), &read(&bytes));
-        with_its_parts(&mut both, &mut rng, &bytes, policy, &trace, seed);
+        let workers = some_count(&mut rng);
+        let trace = recorded_trace(&mut rng, policy_of(policy), workers.into(), &read(&bytes));
+        with_its_parts(&mut both, &mut rng, &bytes, policy, workers, &trace, seed);
     }
     let seen = both.seen;
     assert!(seen.steals > 20_000 && seen.other_heaviest > 30, "{seen:?}");
@@ -392,7 +412,7 @@ fn large_traces_of_runs() {
 /// a tree that is as deep as can be.
 fn longest_traces(policy: u8) -> Vec<(Vec<u8>, Vec<u8>)> {
     let flat = flat_tree(2_047);
-    let (_, _, trace) = record_to_vecs(policy, &flat, &all_stolen(policy_of(policy), 2_047).concat());
+    let (_, _, trace) = record_to_vecs(policy, 16, &flat, &all_stolen(policy_of(policy), 2_047).concat());
     let policy = policy_of(policy);
     vec![(flat, trace), robbed_in_turn(policy, 0, 2_047), robbed_in_turn(policy, 62, 1_985)]
 }
@@ -403,7 +423,7 @@ fn as_many_steals_as_a_trace_can_have() {
     let mut both = Both::new();
     for policy in [1, 2] {
         for (k, (bytes, trace)) in longest_traces(policy).into_iter().enumerate() {
-            let call = Call::new(&mut Rng::new(policy.into()), &bytes, policy, &trace, 16_380);
+            let call = Call::new(&mut Rng::new(policy.into()), &bytes, policy, 16, &trace, 16_380);
             let got = both.same(&call, format_args!("policy {policy}, trace {k}"));
             assert_eq!((got.number, got.phases), (0, 2_048), "policy {policy}, trace {k}");
         }
@@ -425,28 +445,30 @@ fn damaged_trees_and_odd_lengths() {
             }
         };
         let policy = rng.pick(&[1, 1, 1, 1, 2, 2, 2, 2, 0, 3, 255]);
+        let workers = any_count(&mut rng);
+        let count = nearest_count(workers);
         let mut trace = match (Policy::parse(policy), Tree::parse(&bytes)) {
-            (Ok(policy), Ok(tree)) => trace_to_replay(&mut rng, policy, &tree),
-            _ => (0..2 * rng.below(10)).flat_map(|_| any_event(&mut rng, 16)).collect(),
+            (Ok(policy), Ok(tree)) => trace_to_replay(&mut rng, policy, count, &tree),
+            _ => (0..2 * rng.below(10)).flat_map(|_| any_event(&mut rng, count, count)).collect(),
         };
         for _ in 0..rng.pick(&[0, 0, 0, 0, 1, 2, 3]) {
             trace.push(rng.next() as u8);
         }
         let length = length(&mut rng, &bytes);
-        let call = Call::new(&mut rng, &bytes, policy, &trace, length);
+        let call = Call::new(&mut rng, &bytes, policy, workers, &trace, length);
         let got = both.same(&call, format_args!("seed {seed}"));
-        // A start refuses the same with 1 to 5, and nothing else.
-        let started = library::start(&bytes, policy);
-        let want = if got.number <= 5 { (got.number, got.position) } else { (0, 0) };
+        // A start refuses the same with 1 to 5 and 16, and nothing else.
+        let started = library::start(&bytes, policy, workers);
+        let want = if got.number <= 5 || got.number == 16 { (got.number, got.position) } else { (0, 0) };
         assert_eq!((started.number, started.position), want, "seed {seed}");
     }
     let seen = both.seen;
-    assert!(seen.numbers[..9].iter().all(|&times| times > 100), "{seen:?}");
+    assert!((0..9).chain([16]).all(|number| seen.numbers[number] > 100), "{seen:?}");
 }
 
-/// Only 1 and 2 are policies.
+/// Only 1 and 2 are policies, and only 1 to 16 are counts.
 #[test]
-fn every_policy_byte() {
+fn every_policy_and_every_count_byte() {
     let mut both = Both::new();
     for seed in 0..20 {
         let mut rng = Rng::new(seed);
@@ -454,10 +476,18 @@ fn every_policy_byte() {
         let bytes = tree(&mut rng, tasks);
         for policy in 0..=255 {
             let reading = Policy::parse(policy).unwrap_or(Policy::HelpFirst);
-            let trace = accepted_trace(&mut rng, reading, &read(&bytes), &Steals::any(&mut Rng::new(seed)));
-            let call = Call::new(&mut rng, &bytes, policy, &trace, needed(&bytes));
+            let trace = accepted_trace(&mut rng, reading, &read(&bytes), &Steals::any(&mut Rng::new(seed), 16));
+            let call = Call::new(&mut rng, &bytes, policy, 16, &trace, needed(&bytes));
             let want = if [1, 2].contains(&policy) { (0, 0) } else { (1, 0) };
             both.numbered(&call, want, format_args!("seed {seed}, policy {policy}"));
+        }
+        for workers in 0..=255 {
+            let policy = rng.between(1, 2) as u8;
+            let plan = Steals::any(&mut rng, nearest_count(workers));
+            let trace = accepted_trace(&mut rng, policy_of(policy), &read(&bytes), &plan);
+            let call = Call::new(&mut rng, &bytes, policy, workers, &trace, needed(&bytes));
+            let want = if (1..=16).contains(&workers) { (0, 0) } else { (16, 0) };
+            both.numbered(&call, want, format_args!("seed {seed}, {workers} workers"));
         }
     }
 }
@@ -471,14 +501,14 @@ fn lists_of_all_lengths() {
         let mut rng = Rng::new(seed);
         let tasks = if seed < 10 { 2_000 + rng.below(48) } else { rng.below(12) };
         let bytes = tree(&mut rng, tasks);
-        let policy = rng.between(1, 2) as u8;
+        let (policy, workers) = (rng.between(1, 2) as u8, rng.between(1, 16) as u8);
         // The room is asked for the whole tree, however few the records.
-        let plan = Steals { most: rng.pick(&[0, 1, MAX_TRACE]), ..Steals::any(&mut rng) };
+        let plan = Steals { most: rng.pick(&[0, 1, MAX_TRACE]), ..Steals::any(&mut rng, workers.into()) };
         let trace = accepted_trace(&mut rng, policy_of(policy), &read(&bytes), &plan);
         let need = needed(&bytes);
         let lengths = [0, rng.below(need), need - 4, need - 1, need, need + 1, need + 4, need + rng.between(2, 200)];
         for length in lengths {
-            let call = Call::new(&mut rng, &bytes, policy, &trace, length);
+            let call = Call::new(&mut rng, &bytes, policy, workers, &trace, length);
             let number = if length < need { 7 } else { 0 };
             both.numbered(&call, (number, 0), format_args!("seed {seed}, list of {length} bytes"));
         }
@@ -520,10 +550,10 @@ fn as_many_records_as_a_trace_may_have() {
                 };
                 let case = format!("policy {policy}, {count} records, from {accepted} on {more:?}");
                 let rng = &mut Rng::new(count as u64);
-                let call = Call::new(rng, &bytes, policy, &trace, 16_380);
+                let call = Call::new(rng, &bytes, policy, 16, &trace, 16_380);
                 both.numbered(&call, want, format_args!("{case}"));
                 trace.resize(trace.len() + rng.between(1, 3), 0);
-                let call = Call::new(rng, &bytes, policy, &trace, 16_380);
+                let call = Call::new(rng, &bytes, policy, 16, &trace, 16_380);
                 both.numbered(&call, (6, 0), format_args!("{case}, and some bytes"));
             }
         }
@@ -533,21 +563,22 @@ fn as_many_records_as_a_trace_may_have() {
 // ---- Which refusal wins ----
 
 /// The start of a trace of S, then records that are refused with 8 and 13 to 15 there. Most have something of a higher number
-/// as well.
-fn walked(policy: u8) -> (Vec<[u8; 4]>, Vec<([u8; 4], usize)>) {
+/// as well. The run has six workers or more; the one that is none is at its count.
+fn walked(policy: u8, none: u8) -> (Vec<[u8; 4]>, Vec<([u8; 4], usize)>) {
     let start = if policy == 2 { vec![[1, 0, 1, 0], [2, 0, 6, 0]] } else { vec![[1, 0, 1, 0], [2, 1, 2, 0]] };
     let refused = vec![
-        ([16, 0, 4, 0], 8),
-        ([0, 16, 1, 0], 8),
+        ([none, 0, 4, 0], 8),
+        ([0, none, 1, 0], 8),
+        ([none, none, 1, 0], 8),
         ([200, 200, 1, 0], 8),
-        ([16, 5, 1, 0], 8),
+        ([none, 5, 1, 0], 8),
         ([255, 0, 9, 9], 8),
         ([1, 1, 1, 0], 13),
         ([5, 5, 1, 0], 13),
         ([0, 0, 9, 9], 13),
         ([5, 5, 9, 9], 13),
         ([0, 3, 1, 0], 14),
-        ([3, 15, 9, 9], 14),
+        ([3, none - 1, 9, 9], 14),
         ([3, 0, 9, 9], 15),
         ([3, 2, 6, 0], 15),
         ([3, 1, 0, 0], 15),
@@ -557,8 +588,8 @@ fn walked(policy: u8) -> (Vec<[u8; 4]>, Vec<([u8; 4], usize)>) {
 
 /// Traces of S with the number and the position of their refusal: whole or not, and with every two of 8 and 13 to 15, in one
 /// record or in two.
-fn lists(policy: u8) -> Vec<(Vec<u8>, (usize, usize))> {
-    let (start, refused) = walked(policy);
+fn lists(policy: u8, none: u8) -> Vec<(Vec<u8>, (usize, usize))> {
+    let (start, refused) = walked(policy, none);
     let place = start.len();
     let mut lists = vec![
         (vec![], (0, 0)),
@@ -588,19 +619,23 @@ fn early([_, victim, ..]: [u8; 4], number: usize) -> usize {
     }
 }
 
-/// All these policies, trees, traces and lengths together: the first refusal in rising order is given.
+/// All these policies, counts, trees, traces and lengths together: the first refusal in rising order is given, with 16 directly
+/// after 1.
 #[test]
 fn the_lower_number_wins() {
     let mut both = Both::new();
     let trees = trees();
     let mut rng = Rng::new(0);
-    for policy in [1, 2, 0, 3, 255] {
-        let lists = lists(policy);
+    let counts = [16, 6, 0, 17];
+    for (policy, workers) in [1, 2, 0, 3, 255].into_iter().flat_map(|policy| counts.map(|workers| (policy, workers))) {
+        let lists = lists(policy, if workers == 6 { 6 } else { 16 });
         for (t, (tree, of_tree)) in trees.iter().enumerate() {
             for (l, (trace, of_list)) in lists.iter().enumerate() {
                 for length in [28, 40, 27, 0] {
                     let want = if ![1, 2].contains(&policy) {
                         (1, 0)
+                    } else if ![6, 16].contains(&workers) {
+                        (16, 0)
                     } else if of_tree.0 != 0 {
                         *of_tree
                     } else if length < 28 && of_list.0 != 6 {
@@ -608,24 +643,25 @@ fn the_lower_number_wins() {
                     } else {
                         *of_list
                     };
-                    let call = Call::new(&mut rng, tree, policy, trace, length);
-                    both.numbered(&call, want, format_args!("policy {policy}, tree {t}, list {l}, {length} bytes"));
+                    let call = Call::new(&mut rng, tree, policy, workers, trace, length);
+                    let case = format_args!("policy {policy}, {workers} workers, tree {t}, list {l}, {length} bytes");
+                    both.numbered(&call, want, case);
                 }
             }
         }
     }
     let seen = both.seen.numbers;
-    assert!([0, 1, 2, 3, 4, 5, 6, 7, 8, 13, 14, 15].iter().all(|&number| seen[number] > 0), "{seen:?}");
+    assert!([0, 1, 2, 3, 4, 5, 6, 7, 8, 13, 14, 15, 16].iter().all(|&number| seen[number] > 0), "{seen:?}");
 }
 
 // ---- Document 01's cases ----
 
 /// A call with plain slices, the list longer than the tree asks for. Gives the steps of each phase; the rest of the list must
 /// keep its bytes, and all of it if the call is refused.
-fn replayed(kinds: &[u8], policy: u8, trace: &[u8]) -> (FrameReplay, Vec<Vec<usize>>) {
+fn replayed(kinds: &[u8], policy: u8, workers: u8, trace: &[u8]) -> (FrameReplay, Vec<Vec<usize>>) {
     let bytes = tree_of_kinds(kinds);
     let mut list = vec![0xEE; needed(&bytes) + 3];
-    let got = library::replay(&bytes, policy, trace, &mut list);
+    let got = library::replay(&bytes, policy, workers, trace, &mut list);
     let written = if got.number == 0 { needed(&bytes) } else { 0 };
     assert!(list[written..].iter().all(|&byte| byte == 0xEE), "{trace:?}");
     let mut phases = vec![vec![]; got.phases];
@@ -663,8 +699,11 @@ const P1_LIST: [u8; 28] = [
 fn p1_and_its_parts() {
     let s = tree_of_kinds(&S);
     let mut list = [0xEE; 28];
-    assert_eq!(library::replay(&s, 1, &P1_TRACE, &mut list), accepted(4, [3, 3, 1], 0));
-    assert_eq!(list, P1_LIST);
+    for workers in 3..=16 {
+        list.fill(0xEE);
+        assert_eq!(library::replay(&s, 1, workers, &P1_TRACE, &mut list), accepted(4, [3, 3, 1], 0), "{workers} workers");
+        assert_eq!(list, P1_LIST, "{workers} workers");
+    }
     let parts = [
         (accepted(1, [7, 0, 0], 0), vec![vec![0, 1, 2, 3, 4, 5, 6]]),
         (accepted(2, [2, 5, 0], 1), vec![vec![0, 1], vec![2, 3, 4, 5, 6]]),
@@ -672,19 +711,29 @@ fn p1_and_its_parts() {
         (accepted(4, [3, 3, 1], 0), vec![vec![0, 1], vec![2, 3, 4], vec![6], vec![5]]),
     ];
     for (count, want) in parts.into_iter().enumerate() {
-        assert_eq!(replayed(&S, 1, &P1_TRACE[..TRACE_BYTES * count]), want, "{count} records");
+        assert_eq!(replayed(&S, 1, 16, &P1_TRACE[..TRACE_BYTES * count]), want, "{count} records");
     }
 }
 
 #[test]
 fn p3_p4_p8_p9_and_p12() {
-    assert_eq!(replayed(&S, 2, &[]), (accepted(1, [7, 0, 0], 0), vec![vec![0, 2, 3, 5, 4, 6, 1]]));
+    assert_eq!(replayed(&S, 2, 16, &[]), (accepted(1, [7, 0, 0], 0), vec![vec![0, 2, 3, 5, 4, 6, 1]]));
     let p4 = vec![vec![0, 2, 3, 5, 4], vec![1], vec![6]];
-    assert_eq!(replayed(&S, 2, &[1, 0, 1, 0, 2, 0, 6, 0]), (accepted(3, [5, 1, 1], 0), p4));
-    assert_eq!(replayed(&S, 1, &[1, 0, 1, 0, 2, 1, 1, 0]), (refused(15, 1), vec![]));
-    assert_eq!(replayed(&S, 2, &[1, 0, 3, 0]), (refused(15, 0), vec![]));
+    assert_eq!(replayed(&S, 2, 16, &[1, 0, 1, 0, 2, 0, 6, 0]), (accepted(3, [5, 1, 1], 0), p4));
+    assert_eq!(replayed(&S, 1, 16, &[1, 0, 1, 0, 2, 1, 1, 0]), (refused(15, 1), vec![]));
+    assert_eq!(replayed(&S, 2, 16, &[1, 0, 3, 0]), (refused(15, 0), vec![]));
     for policy in [1, 2] {
-        assert_eq!(replayed(&S, policy, &[0, 1, 1, 0]), (refused(14, 0), vec![]));
+        assert_eq!(replayed(&S, policy, 16, &[0, 1, 1, 0]), (refused(14, 0), vec![]));
+    }
+}
+
+#[test]
+fn worked_cases_of_the_count() {
+    for (policy, workers, kinds, trace, want) in counts::REPLAYS {
+        let (got, _) = replayed(kinds, policy, workers, trace);
+        let case = format!("policy {policy}, {workers} workers, {kinds:?}, trace {trace:?}");
+        assert_eq!((got.number, got.position), want, "{case}");
+        assert!(got.number == 0 || got == refused(want.0, want.1), "{case}: {got:?}");
     }
 }
 
@@ -694,12 +743,12 @@ fn the_latest_phase() {
     // Three children of the root, whose steps are 0, 2, 4, 6. Worker 0 has phase 0 and, from step 4 on, phase 2.
     let kinds = [1, 3, 1, 3, 1, 3, 3];
     let phases = vec![vec![0, 1], vec![2, 3], vec![4, 5], vec![6]];
-    assert_eq!(replayed(&kinds, 1, &[1, 0, 1, 0, 0, 1, 2, 0, 2, 0, 3, 0]), (accepted(4, [4, 2, 1], 0), phases));
+    assert_eq!(replayed(&kinds, 1, 16, &[1, 0, 1, 0, 0, 1, 2, 0, 2, 0, 3, 0]), (accepted(4, [4, 2, 1], 0), phases));
     // Phase 0 still has step 3, which is the first child's, or step 5, which is the second's first. Worker 0's latest has
     // neither.
     let kinds = [1, 1, 3, 3, 1, 3, 3];
-    assert_eq!(replayed(&kinds, 1, &[1, 0, 1, 0, 0, 1, 2, 0, 2, 0, 1, 0]), (refused(15, 2), vec![]));
-    assert_eq!(replayed(&kinds, 2, &[1, 0, 1, 0, 0, 1, 2, 0, 2, 0, 5, 0]), (refused(15, 2), vec![]));
+    assert_eq!(replayed(&kinds, 1, 16, &[1, 0, 1, 0, 0, 1, 2, 0, 2, 0, 1, 0]), (refused(15, 2), vec![]));
+    assert_eq!(replayed(&kinds, 2, 16, &[1, 0, 1, 0, 0, 1, 2, 0, 2, 0, 5, 0]), (refused(15, 2), vec![]));
 }
 
 /// Help-first: all steps from the named one to the end of its own task must be in the phase still.
@@ -707,28 +756,28 @@ fn the_latest_phase() {
 fn a_partly_stolen_range() {
     // An async child with steps 1 and 3, in which another has step 2.
     let kinds = [1, 1, 3, 3, 3];
-    assert_eq!(replayed(&kinds, 2, &[1, 0, 2, 0]), (accepted(2, [4, 1, 0], 0), vec![vec![0, 4, 1, 3], vec![2]]));
-    assert_eq!(replayed(&kinds, 2, &[1, 0, 2, 0, 2, 0, 1, 0]), (refused(15, 1), vec![]));
+    assert_eq!(replayed(&kinds, 2, 16, &[1, 0, 2, 0]), (accepted(2, [4, 1, 0], 0), vec![vec![0, 4, 1, 3], vec![2]]));
+    assert_eq!(replayed(&kinds, 2, 16, &[1, 0, 2, 0, 2, 0, 1, 0]), (refused(15, 1), vec![]));
     let phases = vec![vec![0, 4], vec![1, 3], vec![2]];
-    assert_eq!(replayed(&kinds, 2, &[1, 0, 1, 0, 2, 1, 2, 0]), (accepted(3, [2, 2, 1], 0), phases));
+    assert_eq!(replayed(&kinds, 2, 16, &[1, 0, 1, 0, 2, 1, 2, 0]), (accepted(3, [2, 2, 1], 0), phases));
     // Behind a finish child the range goes to the end of the root; what is stolen inside the child is not in it.
     let kinds = [2, 1, 3, 3, 1, 3, 3];
-    assert_eq!(replayed(&kinds, 2, &[1, 0, 5, 0, 2, 0, 4, 0]), (refused(15, 1), vec![]));
+    assert_eq!(replayed(&kinds, 2, 16, &[1, 0, 5, 0, 2, 0, 4, 0]), (refused(15, 1), vec![]));
     let phases = vec![vec![0, 1, 3], vec![2], vec![4, 6, 5]];
-    assert_eq!(replayed(&kinds, 2, &[1, 0, 2, 0, 2, 0, 4, 0]), (accepted(3, [3, 1, 3], 0), phases));
+    assert_eq!(replayed(&kinds, 2, 16, &[1, 0, 2, 0, 2, 0, 4, 0]), (accepted(3, [3, 1, 3], 0), phases));
 }
 
 /// Replay waits for no finish child, and any order of steals is read.
 #[test]
 fn what_no_scheduler_makes() {
     // Worker 0 keeps what follows the finish child though its inside is another's.
-    assert_eq!(replayed(&[2, 1, 3, 3, 3], 2, &[1, 0, 2, 0]), (accepted(2, [4, 1, 0], 0), vec![vec![0, 1, 3, 4], vec![2]]));
+    assert_eq!(replayed(&[2, 1, 3, 3, 3], 2, 16, &[1, 0, 2, 0]), (accepted(2, [4, 1, 0], 0), vec![vec![0, 1, 3, 4], vec![2]]));
     // The newest first.
     let phases = vec![vec![0, 2, 3, 5], vec![6], vec![4], vec![1]];
-    assert_eq!(replayed(&S, 2, &[1, 0, 6, 0, 2, 0, 4, 0, 1, 0, 1, 0]), (accepted(4, [4, 2, 1], 0), phases));
+    assert_eq!(replayed(&S, 2, 16, &[1, 0, 6, 0, 2, 0, 4, 0, 1, 0, 1, 0]), (accepted(4, [4, 2, 1], 0), phases));
     // Worker 1 steals twice, and what its phase 1 has is never run by phase 2.
     let phases = vec![vec![0, 1, 2, 3, 4], vec![6], vec![5]];
-    assert_eq!(replayed(&S, 1, &[1, 0, 2, 0, 1, 0, 1, 0]), (accepted(3, [5, 2, 0], 0), phases));
+    assert_eq!(replayed(&S, 1, 16, &[1, 0, 2, 0, 1, 0, 1, 0]), (accepted(3, [5, 2, 0], 0), phases));
 }
 
 /// Sums above four bytes, and the lowest numbered of equal workers.
@@ -740,15 +789,15 @@ fn loads_and_heaviest() {
         bytes[8 * step + 4..8 * step + 8].copy_from_slice(&[255; 4]);
     }
     let most = u64::from(u32::MAX);
-    assert_eq!(library::replay(&bytes, 1, &P1_TRACE, &mut list), accepted(4, [3 * most, 3 * most, most], 0));
+    assert_eq!(library::replay(&bytes, 1, 16, &P1_TRACE, &mut list), accepted(4, [3 * most, 3 * most, most], 0));
     for step in 0..7 {
         let weight = u8::from(step == 1 || step == 4);
         bytes[8 * step + 4..8 * step + 8].copy_from_slice(&[weight, 0, 0, 0]);
     }
-    let got = library::replay(&bytes, 2, &[9, 0, 4, 0, 3, 0, 1, 0], &mut list);
+    let got = library::replay(&bytes, 2, 16, &[9, 0, 4, 0, 3, 0, 1, 0], &mut list);
     assert_eq!((got.loads[0], got.loads[3], got.loads[9], got.heaviest), (0, 1, 1, 3));
     bytes.chunks_mut(8).for_each(|record| record[4] = 0);
-    assert_eq!(library::replay(&bytes, 2, &[9, 0, 4, 0, 3, 0, 1, 0], &mut list), accepted(3, [0; 3], 0));
+    assert_eq!(library::replay(&bytes, 2, 16, &[9, 0, 4, 0, 3, 0, 1, 0], &mut list), accepted(3, [0; 3], 0));
 }
 
 /// The tree of one end has nothing to steal.
@@ -757,15 +806,15 @@ fn empty_slices() {
     let one = tree_of_kinds(&[3]);
     let mut list = [0xEE; 4];
     for policy in [1, 2] {
-        assert_eq!(library::replay(&one, policy, &[], &mut list), accepted(1, [1, 0, 0], 0));
+        assert_eq!(library::replay(&one, policy, 16, &[], &mut list), accepted(1, [1, 0, 0], 0));
         assert_eq!(list, [0; 4]);
         for number in [0, 1, 255] {
-            assert_eq!(library::replay(&one, policy, &[1, 0, number, 0], &mut list), refused(15, 0));
+            assert_eq!(library::replay(&one, policy, 16, &[1, 0, number, 0], &mut list), refused(15, 0));
         }
-        assert_eq!(library::replay(&one, policy, &[], &mut []), refused(7, 0));
-        assert_eq!(library::replay(&[], policy, &[], &mut []), refused(2, 0));
+        assert_eq!(library::replay(&one, policy, 16, &[], &mut []), refused(7, 0));
+        assert_eq!(library::replay(&[], policy, 16, &[], &mut []), refused(2, 0));
     }
-    assert_eq!(library::replay(&[], 0, &[], &mut []), refused(1, 0));
+    assert_eq!(library::replay(&[], 0, 16, &[], &mut []), refused(1, 0));
 }
 
 // ---- Stack ----
@@ -781,7 +830,7 @@ fn stack_of_a_call() {
         let policy = 1 + (seed / 4 % 2) as u8;
         let (bytes, trace) = if seed < 16 {
             let bytes = tree_with(&mut rng, SHAPES[seed as usize % 4], 2_047, 30, Weights::Mixed);
-            let plan = Steals::any(&mut rng);
+            let plan = Steals::any(&mut rng, 16);
             let trace = accepted_trace(&mut rng, policy_of(policy), &read(&bytes), &plan);
             (bytes, trace)
         } else {
@@ -789,7 +838,7 @@ fn stack_of_a_call() {
         };
         let mut list = vec![0; needed(&bytes)];
         let mut answer = refused(0, 0);
-        let used = stack::used_by(&mut || answer = library::replay(&bytes, policy, &trace, &mut list));
+        let used = stack::used_by(&mut || answer = library::replay(&bytes, policy, 16, &trace, &mut list));
         assert_eq!((answer.number, answer.phases), (0, trace.len() / 4 + 1), "seed {seed}");
         assert!(used <= MOST_STACK, "seed {seed}: {used} bytes");
         most = most.max(used);

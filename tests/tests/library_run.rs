@@ -1,18 +1,25 @@
 //! Starts, single events (by value and in place) and idle answers over the C interface, event by event: against the simulator on
 //! the runs that a start leads to, and against the contract on any state and any bytes. A failure names its seed and its event.
 
-mod library;
+#[path = "library/counts.rs"]
+mod counts;
 #[path = "library/guarded.rs"]
 mod guarded;
+#[path = "library/lent.rs"]
+mod lent;
+mod library;
 
 use std::fmt;
+use std::mem::transmute;
 
 use frame_tests::cover::WORKERS;
 use frame_tests::random::{
-    all_stolen, damaged_tree, drive, flat_tree, tree, tree_of_kinds, tree_with, Plan, Rng, Weights, SHAPES,
+    all_stolen, any_count, damaged_tree, drive, flat_tree, tree, tree_of_kinds, tree_with, worker_at_the_edge, Plan, Rng, Weights,
+    SHAPES,
 };
 use frame_tests::run::{Policy, Run};
 use guarded::Guarded;
+use lent::{about_to_call, put, same_bytes};
 use library::{FrameEvent, FrameIdle, FrameOutcome, RunState, NOT_RUN, NO_STEP, RUN};
 
 /// The most steps of a tree.
@@ -36,20 +43,48 @@ impl fmt::Display for At {
 
 /// The state beside a refused start.
 fn zeros() -> RunState {
-    RunState { place: [0; 4095], held: [0; 16], phase: [0; 16], low: [0; 16], base: [0; 16], steals: 0, policy: 0 }
+    state_of_bytes([0; STATE_BYTES])
 }
 
 /// Worker 0 holds step 0 in phase 0, the others are idle, and no step has run.
-fn first_state(policy: u8) -> RunState {
+fn first_state(policy: u8, workers: u8) -> RunState {
     let mut held = [NO_STEP; 16];
     held[0] = 0;
-    RunState { place: [NOT_RUN; 4095], held, phase: [0; 16], low: [0; 16], base: [0; 16], steals: 0, policy }
+    RunState { place: [NOT_RUN; 4095], policy, held, workers: workers.into(), ..zeros() }
+}
+
+const STATE_BYTES: usize = 4_228;
+
+/// A state's memory, which has no padding.
+fn state_bytes(state: &RunState) -> [u8; STATE_BYTES] {
+    unsafe { transmute(*state) }
+}
+
+fn state_of_bytes(bytes: [u8; STATE_BYTES]) -> RunState {
+    unsafe { transmute(bytes) }
 }
 
 /// An event's outcome: number, what, phase, step, trace. The position is always 0.
 fn numbers(outcome: &FrameOutcome) -> [usize; 5] {
     assert_eq!(outcome.position, 0);
     [outcome.number, outcome.what, outcome.phase, outcome.step, outcome.trace]
+}
+
+/// One event, by value and in place: the outcome is the same, and the lent state is the next one. A refused event leaves every
+/// byte of it, and no event changes the count of workers. Gives the answer by value.
+fn both_ways(lent: &mut RunState, tree: &[u8], first: u8, second: u8, at: impl fmt::Display) -> FrameEvent {
+    let given = state_bytes(lent);
+    let workers = lent.workers;
+    let by_value = library::event(*lent, tree, first, second);
+    let in_place = library::event_in_place(lent, tree, first, second);
+    assert_eq!(in_place, by_value.outcome, "{at}: {first} {second}: another outcome in place");
+    let next = state_bytes(lent);
+    same_bytes(&next, &state_bytes(&by_value.state), "state in place", format_args!("{at}: {first} {second}"));
+    if in_place.number != 0 {
+        same_bytes(&next, &given, "state after a refusal", format_args!("{at}: {first} {second}"));
+    }
+    assert_eq!(lent.workers, workers, "{at}: {first} {second}: the count of workers was changed");
+    by_value
 }
 
 /// Bytes around a lent state.
@@ -68,18 +103,8 @@ impl Lent {
         Lent { before: AROUND, state, behind: AROUND }
     }
 
-    /// One event, by value and in place: the outcome is the same, and the lent state is the next one. A refused event leaves
-    /// every byte of it. Gives the answer by value.
     fn event(&mut self, tree: &[u8], first: u8, second: u8, at: impl fmt::Display) -> FrameEvent {
-        let given = self.state;
-        let by_value = library::event(given, tree, first, second);
-        let in_place = library::event_in_place(&mut self.state, tree, first, second);
-        if in_place.number != 0 {
-            let same = state_bytes(&self.state) == state_bytes(&given);
-            assert!(same, "{at}: {first} {second}: a refused event changed the lent state");
-        }
-        assert_eq!(in_place, by_value.outcome, "{at}: {first} {second}: another outcome in place");
-        assert!(self.state == by_value.state, "{at}: {first} {second}: another state in place");
+        let by_value = both_ways(&mut self.state, tree, first, second, &at);
         let around = self.before == AROUND && self.behind == AROUND;
         assert!(around, "{at}: {first} {second}: bytes around the lent state were changed");
         by_value
@@ -88,8 +113,14 @@ impl Lent {
 
 // ---- The simulator ----
 
-/// What each worker holds, its latest phase, and the idle workers are the simulator's, and so is the count of steals.
+/// What each worker holds, its latest phase, and the idle workers are the simulator's, and so are the counts of steals and of
+/// workers. Those that the run does not have are as they were at the start.
 fn same_workers(state: &RunState, run: &Run, at: At) {
+    assert_eq!(usize::from(state.workers), run.workers.len(), "{at}, workers");
+    for w in run.workers.len()..WORKERS {
+        let numbers = [state.held[w], state.phase[w], state.low[w], state.base[w]];
+        assert_eq!(numbers, [NO_STEP, 0, 0, 0], "{at}, worker {w}, which the run does not have");
+    }
     for (w, worker) in run.workers.iter().enumerate() {
         let held = worker.held.map_or(NO_STEP, |step| step as u16);
         assert_eq!(state.held[w], held, "{at}, held by worker {w}");
@@ -161,10 +192,10 @@ struct Both<'a> {
 }
 
 impl Both<'_> {
-    fn start(tree: &[u8], policy: u8, seed: u64) -> Both<'_> {
+    fn start(tree: &[u8], policy: u8, workers: u8, seed: u64) -> Both<'_> {
         let at = At { seed, event: None };
-        let run = Run::start(policy, tree).unwrap_or_else(|refusal| panic!("{at}: {refusal:?}"));
-        let started = library::start(tree, policy);
+        let run = Run::start(policy, workers, tree).unwrap_or_else(|refusal| panic!("{at}: {refusal:?}"));
+        let started = library::start(tree, policy, workers);
         assert_eq!((started.number, started.position), (0, 0), "{at}");
         let both = Both { tree, run, lent: Lent::new(started.state), policy, at };
         both.whole_view();
@@ -182,7 +213,6 @@ impl Both<'_> {
         self.at.event = Some(self.at.event.map_or(0, |k| k + 1));
         let at = self.at;
         let [first, second] = event;
-        let given = self.lent.state;
         let got = self.lent.event(self.tree, first, second, at);
         let want = match self.run.event(first, second) {
             Err(refusal) => [refusal.number as usize, 0, 0, 0, 0],
@@ -196,9 +226,6 @@ impl Both<'_> {
             }
         };
         assert_eq!(numbers(&got.outcome), want, "{at}: {first} {second}");
-        if got.outcome.number != 0 {
-            assert!(got.state == given, "{at}: {first} {second}: a refused event changed the state");
-        }
         same_workers(&self.lent.state, &self.run, at);
         seen.count(&got.outcome);
         seen.nobody_idle += usize::from(self.run.idle_set() == 0);
@@ -217,14 +244,15 @@ impl Both<'_> {
     }
 }
 
-/// Any two bytes, mostly the numbers of workers.
-fn any_pair(rng: &mut Rng) -> [u8; 2] {
-    let limit = rng.pick(&[4, 16, 16, 20, 256]);
-    let first = rng.below(limit) as u8;
+/// Any two bytes, mostly workers of a run of so many, or near to them.
+fn any_pair(rng: &mut Rng, count: usize) -> [u8; 2] {
+    let limit = rng.pick(&[count, count, count, 20, 256]);
+    let any = |rng: &mut Rng| if rng.percent(10) { worker_at_the_edge(rng, count) } else { rng.below(limit) as u8 };
+    let first = any(rng);
     if rng.percent(40) {
         [first, first]
     } else {
-        [first, rng.below(limit) as u8]
+        [first, any(rng)]
     }
 }
 
@@ -234,18 +262,19 @@ fn event_list(rng: &mut Rng, mut run: Run, most: usize) -> Vec<[u8; 2]> {
     if rng.percent(2) {
         return list;
     }
-    let mut plan = Plan { bad: rng.pick(&[0, 0, 5, 30]), ..Plan::any(rng) };
+    let count = run.workers.len();
+    let mut plan = Plan { bad: rng.pick(&[0, 0, 5, 30]), ..Plan::any(rng, count) };
     // So many of a hundred turns are of any bytes.
     let any = rng.pick(&[0, 0, 10, 40, 100]);
     if any > 0 {
-        plan.workers = WORKERS;
+        plan.workers = count;
     }
     let most = if rng.percent(20) { rng.below(most + 1) } else { most };
     while list.len() < most && !run.finished() {
         plan.events = rng.between(1, 40).min(most - list.len());
         if rng.percent(any) {
             for _ in 0..plan.events {
-                let [first, second] = any_pair(rng);
+                let [first, second] = any_pair(rng, count);
                 // Refused or not, the event goes into the list.
                 let _ = run.event(first, second);
                 list.push([first, second]);
@@ -255,16 +284,25 @@ fn event_list(rng: &mut Rng, mut run: Run, most: usize) -> Vec<[u8; 2]> {
         }
     }
     for _ in 0..rng.below(6) {
-        list.push(any_pair(rng));
+        list.push(any_pair(rng, count));
     }
     list
+}
+
+/// A count that a run may have, often the most.
+fn run_count(rng: &mut Rng) -> u8 {
+    if rng.percent(30) {
+        WORKERS as u8
+    } else {
+        rng.between(1, WORKERS) as u8
+    }
 }
 
 #[test]
 fn starts() {
     let mut guarded = Guarded::new(40_000);
     let mut accepted = 0;
-    let mut refused = [0; 6];
+    let mut refused = [0; 17];
     for seed in 0..60_000 {
         let mut rng = Rng::new(seed);
         let tasks = if rng.percent(1) { rng.below(2_048) } else { rng.below(20) };
@@ -278,20 +316,26 @@ fn starts() {
         };
         let bytes: &[u8] = if rng.percent(50) { guarded.at_end(&plain) } else { guarded.at_start(&plain) };
         let any = rng.next() as u8;
-        let policies = if seed % 200 == 0 { (0..=255).collect() } else { vec![0, 1, 2, 3, any] };
-        for policy in policies {
+        let mut arguments: Vec<[u8; 2]> = [0, 1, 1, 2, 2, 3, any].map(|policy| [policy, any_count(&mut rng)]).to_vec();
+        if seed % 200 == 0 {
+            arguments.extend((0..=255).map(|byte| [byte, any_count(&mut rng)]));
+            arguments.extend((0..=255).map(|byte| [rng.between(1, 2) as u8, byte]));
+        }
+        for [policy, workers] in arguments {
             let at = At { seed, event: None };
-            let got = library::start(bytes, policy);
-            match Run::start(policy, bytes) {
+            let case = format!("{at}, policy {policy}, {workers} workers");
+            about_to_call(format_args!("{case}"));
+            let got = library::start(bytes, policy, workers);
+            match Run::start(policy, workers, bytes) {
                 Err(refusal) => {
                     let want = (refusal.number as usize, refusal.position);
-                    assert_eq!((got.number, got.position), want, "{at}, policy {policy}");
-                    assert!(got.state == zeros(), "{at}, policy {policy}: a state beside a refusal");
+                    assert_eq!((got.number, got.position), want, "{case}");
+                    assert!(state_bytes(&got.state) == [0; STATE_BYTES], "{case}: a state beside a refusal");
                     refused[want.0] += 1;
                 }
                 Ok(run) => {
-                    assert_eq!((got.number, got.position), (0, 0), "{at}, policy {policy}");
-                    assert!(got.state == first_state(policy), "{at}, policy {policy}: another first state");
+                    assert_eq!((got.number, got.position), (0, 0), "{case}");
+                    assert!(got.state == first_state(policy, workers), "{case}: another first state");
                     same_workers(&got.state, &run, at);
                     same_places(&got.state, &run, at);
                     accepted += 1;
@@ -299,7 +343,7 @@ fn starts() {
             }
         }
     }
-    assert!(accepted > 10_000 && refused[1..].iter().all(|&times| times > 100), "{accepted} {refused:?}");
+    assert!(accepted > 10_000 && [1, 2, 3, 4, 5, 16].iter().all(|&number| refused[number] > 100), "{accepted} {refused:?}");
 }
 
 #[test]
@@ -310,7 +354,7 @@ fn small_runs() {
         let tasks = if rng.percent(10) { rng.below(120) } else { rng.below(25) };
         let bytes = tree(&mut rng, tasks);
         let policy = rng.between(1, 2) as u8;
-        let mut both = Both::start(&bytes, policy, seed);
+        let mut both = Both::start(&bytes, policy, run_count(&mut rng), seed);
         let list = event_list(&mut rng, both.run.clone(), 12 * (tasks + 1));
         both.events(&list, 1, &mut seen);
     }
@@ -330,7 +374,7 @@ fn large_runs() {
         let tasks = if seed / 8 % 3 == 0 { 2_047 } else { rng.between(100, 2_047) };
         let finish = rng.pick(&[0, 20, 50, 80, 100]);
         let bytes = tree_with(&mut rng, shape, tasks, finish, Weights::Mixed);
-        let mut both = Both::start(&bytes, policy, seed);
+        let mut both = Both::start(&bytes, policy, run_count(&mut rng), seed);
         let list = event_list(&mut rng, both.run.clone(), 10_000);
         longest = longest.max(list.len());
         both.events(&list, 61, &mut seen);
@@ -342,20 +386,21 @@ fn large_runs() {
     assert!(seen.finished > 50 && seen.nobody_idle > 10_000, "{seen:?}");
 }
 
-/// Every spawned task is stolen: 2,047 steals, the last begins phase 2,047.
+/// Every spawned task is stolen: 2,047 steals, the last begins phase 2,047. Two workers are enough.
 #[test]
 fn as_many_steals_as_a_run_can_have() {
     let bytes = flat_tree(2_047);
-    for policy in [1, 2] {
+    for (policy, workers, all) in [(1, 16, 65_535), (2, 16, 65_535), (1, 2, 3), (2, 2, 3)] {
+        let case = format!("policy {policy}, {workers} workers");
         let mut seen = Seen::default();
-        let mut both = Both::start(&bytes, policy, policy.into());
+        let mut both = Both::start(&bytes, policy, workers, policy.into());
         let events = all_stolen(both.run.policy, 2_047);
         both.events(&events, 61, &mut seen);
-        assert_eq!((seen.runs, seen.steals, seen.finished), (4_095, 2_047, 1), "policy {policy}");
+        assert_eq!((seen.runs, seen.steals, seen.finished), (4_095, 2_047, 1), "{case}");
         let state = both.lent.state;
-        assert_eq!(state.steals, 2_047, "policy {policy}");
-        assert_eq!(state.phase[1], 2_047, "policy {policy}");
-        assert_eq!(library::idle(state).set, 65_535, "policy {policy}");
+        assert_eq!(state.steals, 2_047, "{case}");
+        assert_eq!(state.phase[1], 2_047, "{case}");
+        assert_eq!(library::idle(state).set, all, "{case}");
     }
 }
 
@@ -519,7 +564,7 @@ const P2_END: [Row; 2] = [
 
 /// The start, with the row's numbers in it.
 fn state_of(row: &Row) -> RunState {
-    let mut state = first_state(1);
+    let mut state = first_state(1, 16);
     state.place[..7].copy_from_slice(&row.place);
     state.held[..3].copy_from_slice(&row.held);
     state.phase[..3].copy_from_slice(&row.phase);
@@ -536,9 +581,9 @@ fn idle_numbers(state: RunState) -> [usize; 3] {
 
 fn follow<'a>(case: &str, rows: impl Iterator<Item = &'a Row>) {
     let bytes = tree_of_kinds(&S);
-    let started = library::start(&bytes, 1);
+    let started = library::start(&bytes, 1, 16);
     assert_eq!((started.number, started.position), (0, 0), "{case}");
-    assert!(started.state == first_state(1), "{case}");
+    assert!(started.state == first_state(1, 16), "{case}");
     let mut lent = Lent::new(started.state);
     for (k, row) in rows.enumerate() {
         let got = lent.event(&bytes, row.event[0], row.event[1], format_args!("{case}, event {k}"));
@@ -559,7 +604,7 @@ fn p5_to_p7_p10_and_p11() {
     // P5 and P6
     let one = tree_of_kinds(&[3]);
     for policy in [1, 2] {
-        let first = library::start(&one, policy).state;
+        let first = library::start(&one, policy, 16).state;
         let ran = library::event(first, &one, 0, 0);
         assert_eq!(numbers(&ran.outcome), [0, 1, 0, 0, 0]);
         assert_eq!(idle_numbers(ran.state), [65_535, 16, 0]);
@@ -571,7 +616,7 @@ fn p5_to_p7_p10_and_p11() {
     // P7, P10 and P11
     let s = tree_of_kinds(&S);
     for policy in [1, 2] {
-        let first = library::start(&s, policy).state;
+        let first = library::start(&s, policy, 16).state;
         assert_eq!(idle_numbers(first), [65_534, 15, 1]);
         let refused = [([1, 0], 12), ([16, 0], 8), ([0, 16], 8), ([16, 16], 8), ([255, 0], 8), ([1, 1], 9), ([0, 1], 11)];
         for (event, number) in refused {
@@ -594,33 +639,60 @@ fn accept_all(mut state: RunState, tree: &[u8], events: &[[u8; 2]]) -> RunState 
 
 #[test]
 fn nobody_idle_and_then_all() {
-    let bytes = flat_tree(15);
-    for policy in [1, 2] {
-        let mut state = library::start(&bytes, policy).state;
-        for thief in 1..16 {
+    for (policy, workers) in (1..=2).flat_map(|policy| (1..=16).map(move |workers| (policy, workers))) {
+        let bytes = flat_tree(usize::from(workers) - 1);
+        let case = format!("policy {policy}, {workers} workers");
+        let mut state = library::start(&bytes, policy, workers).state;
+        for thief in 1..workers {
             // Work-first, the latest thief opens the next child; help-first, always worker 0.
             let victim = if policy == 1 { thief - 1 } else { 0 };
             state = accept_all(state, &bytes, &[[victim, victim], [thief, victim]]);
         }
-        assert_eq!(idle_numbers(state), [0, 0, 16], "policy {policy}");
-        for thief in 0..16 {
-            for victim in (0..16).filter(|&victim| victim != thief) {
+        assert_eq!(idle_numbers(state), [0, 0, 16], "{case}");
+        for thief in 0..=workers {
+            for victim in (0..=workers).filter(|&victim| victim != thief) {
                 let got = library::event(state, &bytes, thief, victim);
-                assert_eq!(numbers(&got.outcome), [11, 0, 0, 0, 0], "policy {policy}, {thief} {victim}");
-                assert!(got.state == state, "policy {policy}, {thief} {victim}");
+                let number = if thief.max(victim) == workers { 8 } else { 11 };
+                assert_eq!(numbers(&got.outcome), [number, 0, 0, 0, 0], "{case}, {thief} {victim}");
+                assert!(got.state == state, "{case}, {thief} {victim}");
             }
         }
         // Every worker holds an end.
-        for worker in (0..16).rev() {
+        for worker in (0..workers).rev() {
             state = accept_all(state, &bytes, &[[worker, worker]]);
-            let set = 65_535 - ((1 << worker) - 1);
-            assert_eq!(idle_numbers(state), [set, 16 - usize::from(worker), worker.into()], "policy {policy}");
+            let set = (1 << workers) - (1 << worker);
+            assert_eq!(idle_numbers(state), [set, (workers - worker).into(), worker.into()], "{case}");
         }
-        assert_eq!(idle_numbers(state), [65_535, 16, 0], "policy {policy}");
-        assert!(state.place[..31].iter().all(|&place| place == RUN), "policy {policy}");
-        for worker in 0..16 {
-            assert_eq!(library::event(state, &bytes, worker, worker).outcome.number, 9, "policy {policy}");
-            assert_eq!(library::event(state, &bytes, worker, (worker + 1) % 16).outcome.number, 12, "policy {policy}");
+        assert!(state.place[..bytes.len() / 8].iter().all(|&place| place == RUN), "{case}");
+        for worker in 0..=workers {
+            let number = |small| if worker == workers { 8 } else { small };
+            assert_eq!(library::event(state, &bytes, worker, worker).outcome.number, number(9), "{case}");
+            if workers > 1 {
+                let other = if worker == 0 { 1 } else { 0 };
+                assert_eq!(library::event(state, &bytes, worker, other).outcome.number, number(12), "{case}");
+            }
+        }
+    }
+}
+
+/// The worked cases of the count, and P1 by three workers, who are all that it names.
+#[test]
+fn worked_cases_of_the_count() {
+    let s = tree_of_kinds(&S);
+    for (workers, events, idle) in counts::IDLE {
+        let first = library::start(&s, 1, workers).state;
+        assert!(first == first_state(1, workers), "{workers} workers");
+        assert_eq!(idle_numbers(accept_all(first, &s, events)), idle, "{workers} workers, {events:?}");
+    }
+    let (mut three, mut sixteen) = (library::start(&s, 1, 3).state, library::start(&s, 1, 16).state);
+    for row in &P1 {
+        let [first, second] = row.event;
+        let outcome = library::event_in_place(&mut three, &s, first, second);
+        assert_eq!(outcome, library::event_in_place(&mut sixteen, &s, first, second), "{:?}", row.event);
+        assert!(RunState { workers: 16, ..three } == sixteen, "{:?}", row.event);
+        assert_eq!(idle_numbers(three)[0], row.idle[0] & 7, "{:?}", row.event);
+        for refused in [[3, 3], [3, 1], [1, 3], [16, 16], [0, 255]] {
+            assert_eq!(library::event(three, &s, refused[0], refused[1]).outcome.number, 8, "{:?}, {refused:?}", row.event);
         }
     }
 }
@@ -631,7 +703,7 @@ fn a_waiting_worker() {
     let bytes = tree_of_kinds(&[2, 1, 3, 3, 3]);
     for policy in [1, 2] {
         // Worker 1 takes step 4, and worker 2 what worker 0 pushed inside.
-        let first = library::start(&bytes, policy).state;
+        let first = library::start(&bytes, policy, 16).state;
         let mut state = accept_all(first, &bytes, &[[0, 0], [0, 0], [1, 0], [2, 0]]);
         let inside = if policy == 1 { [2, 3] } else { [3, 2] };
         assert_eq!(state.held[..3], [inside[0], 4, inside[1]], "policy {policy}");
@@ -667,6 +739,11 @@ struct Contract<'a> {
 impl Contract<'_> {
     fn steps(&self) -> usize {
         self.tree.len() / 8
+    }
+
+    /// A count above the most, which no start makes, acts as the most.
+    fn workers(&self) -> usize {
+        usize::from(self.state.workers).min(WORKERS)
     }
 
     fn pushes_child(&self, step: usize) -> bool {
@@ -719,7 +796,7 @@ impl Contract<'_> {
     }
 
     fn run(&self, worker: usize) -> FrameEvent {
-        if worker >= WORKERS {
+        if worker >= self.workers() {
             return self.refused(8);
         }
         if self.steps() > MOST_STEPS {
@@ -751,7 +828,7 @@ impl Contract<'_> {
     }
 
     fn steal(&self, thief: usize, victim: usize) -> FrameEvent {
-        if thief >= WORKERS || victim >= WORKERS {
+        if thief >= self.workers() || victim >= self.workers() {
             return self.refused(8);
         }
         if self.steps() > MOST_STEPS {
@@ -792,7 +869,7 @@ impl Contract<'_> {
     }
 
     fn idle(&self) -> FrameIdle {
-        let idle: Vec<usize> = (0..WORKERS).filter(|&w| usize::from(self.state.held[w]) >= MOST_STEPS).collect();
+        let idle: Vec<usize> = (0..self.workers()).filter(|&w| usize::from(self.state.held[w]) >= MOST_STEPS).collect();
         FrameIdle {
             set: idle.iter().map(|&w| 1 << w).sum(),
             count: idle.len(),
@@ -801,64 +878,54 @@ impl Contract<'_> {
     }
 }
 
-/// The bytes of a state's places, and of all that follows them.
+/// The bytes of a state's places; all others follow them.
 const PLACE_BYTES: usize = 4_095;
-const OTHER_BYTES: usize = 4 * 32 + 2 + 1;
 
-fn state_bytes(state: &RunState) -> Vec<u8> {
-    let mut bytes = state.place.to_vec();
-    for numbers in [&state.held[..], &state.phase, &state.low, &state.base, &[state.steals]] {
-        bytes.extend(numbers.iter().flat_map(|number| number.to_le_bytes()));
-    }
-    bytes.push(state.policy);
-    bytes
-}
+/// Counts that no start makes; the low byte of some is a count.
+const DAMAGED_COUNTS: [u16; 9] = [0, 17, 18, 200, 255, 256, 257, 272, 65_535];
 
-fn state_of_bytes(bytes: &[u8]) -> RunState {
-    assert_eq!(bytes.len(), PLACE_BYTES + OTHER_BYTES);
-    let number = |k: usize| u16::from_le_bytes([bytes[PLACE_BYTES + 2 * k], bytes[PLACE_BYTES + 2 * k + 1]]);
-    RunState {
-        place: std::array::from_fn(|k| bytes[k]),
-        held: std::array::from_fn(number),
-        phase: std::array::from_fn(|w| number(16 + w)),
-        low: std::array::from_fn(|w| number(32 + w)),
-        base: std::array::from_fn(|w| number(48 + w)),
-        steals: number(64),
-        policy: bytes[PLACE_BYTES + 130],
+fn damaged_count(rng: &mut Rng) -> u16 {
+    if rng.percent(70) {
+        rng.pick(&DAMAGED_COUNTS)
+    } else {
+        rng.next() as u16
     }
 }
 
 /// A state that a run of the tree leads to.
 fn reached(rng: &mut Rng, tree: &[u8], most: usize) -> RunState {
-    let policy = rng.between(1, 2) as u8;
-    let run = Run::start(policy, tree).expect("the tree is accepted");
+    let (policy, workers) = (rng.between(1, 2) as u8, run_count(rng));
+    let run = Run::start(policy, workers, tree).expect("the tree is accepted");
     let most = rng.below(most);
     let list = event_list(rng, run, most);
-    let mut state = library::start(tree, policy).state;
+    let mut state = library::start(tree, policy, workers).state;
     for [first, second] in list {
         state = library::event(state, tree, first, second).state;
     }
     state
 }
 
-/// A reached state with so many bytes flipped, most of them where it says something of the tree.
+/// A reached state with so many bytes flipped, most of them where it says something of the tree, and sometimes another count.
 fn damaged_state(rng: &mut Rng, state: &RunState, steps: usize, flips: usize) -> RunState {
     let mut bytes = state_bytes(state);
     for _ in 0..flips {
         let at = match rng.below(10) {
             0..=4 => rng.below(steps.clamp(1, PLACE_BYTES)),
             5 => rng.below(PLACE_BYTES),
-            _ => PLACE_BYTES + rng.below(OTHER_BYTES),
+            _ => rng.between(PLACE_BYTES, STATE_BYTES - 1),
         };
         bytes[at] ^= if rng.percent(50) { 1 << rng.below(8) } else { rng.between(1, 255) as u8 };
     }
-    state_of_bytes(&bytes)
+    let mut state = state_of_bytes(bytes);
+    if rng.percent(15) {
+        state.workers = damaged_count(rng);
+    }
+    state
 }
 
 /// Wholly random bytes.
 fn random_state(rng: &mut Rng) -> RunState {
-    let bytes: Vec<u8> = (0..PLACE_BYTES + OTHER_BYTES).map(|_| rng.next() as u8).collect();
-    state_of_bytes(&bytes)
+    state_of_bytes(std::array::from_fn(|_| rng.next() as u8))
 }
 
 /// A step after the end of a finish child, if a few tries find one.
@@ -894,6 +961,7 @@ fn likely_state(rng: &mut Rng, tree: &[u8]) -> RunState {
     }
     state.steals = rng.pick(&[0, 1, 2_046, 2_047, 2_048, 2_049, 65_535, 77]);
     state.policy = rng.pick(&[0, 1, 1, 1, 2, 2, 2, 3, 255]);
+    state.workers = if rng.percent(25) { damaged_count(rng) } else { run_count(rng).into() };
     state
 }
 
@@ -912,10 +980,12 @@ fn any_bytes(rng: &mut Rng, len: usize) -> Vec<u8> {
 /// An event that has a good chance to be accepted, or any.
 fn likely_pair(rng: &mut Rng, tree: &[u8], state: &RunState) -> [u8; 2] {
     let steps = tree.len() / 8;
+    let count = usize::from(state.workers).clamp(1, WORKERS);
     let pick = |rng: &mut Rng, holds: bool| {
-        let workers: Vec<u8> = (0..16).filter(|&w| (usize::from(state.held[usize::from(w)]) < steps) == holds).collect();
+        let holds_one = |&w: &u8| usize::from(state.held[usize::from(w)]) < steps;
+        let workers: Vec<u8> = (0..count as u8).filter(|w| holds_one(w) == holds).collect();
         if workers.is_empty() {
-            rng.below(16) as u8
+            rng.below(count) as u8
         } else {
             rng.pick(&workers)
         }
@@ -928,37 +998,36 @@ fn likely_pair(rng: &mut Rng, tree: &[u8], state: &RunState) -> [u8; 2] {
         4..=6 => {
             // From a worker that a step is marked with, if a few tries find one.
             let marks: Vec<u8> = (0..40).map(|_| state.place[rng.below(steps.clamp(1, MOST_STEPS))]).collect();
-            let victim = marks.into_iter().find(|&mark| mark < RUN).unwrap_or(0);
+            let victim = marks.into_iter().find(|&mark| usize::from(mark) < count).unwrap_or(0);
             [pick(rng, false), victim]
         }
-        _ => any_pair(rng),
+        _ => any_pair(rng, count),
     }
 }
 
-/// Gives events to the state, each to the one that the last handed back, with the tree's bytes before and behind a guard
-/// page. Every answer is the contract's.
-fn as_the_contract_says(
-    rng: &mut Rng,
-    guarded: &mut [Guarded; 2],
-    tree: &[u8],
-    mut state: RunState,
-    seed: u64,
-    seen: &mut Seen,
-) {
-    let [before, behind] = guarded;
+/// The state just before a guard page, or just behind one.
+fn lend_state<'a>(room: &'a mut Guarded, state: &RunState, end: bool) -> &'a mut RunState {
+    let lent = put(room, &state_bytes(state), end).as_mut_ptr().cast::<RunState>();
+    assert!(lent.is_aligned());
+    unsafe { &mut *lent }
+}
+
+/// Gives events to the state, each to the one that the last handed back, with the tree's bytes and the state before and behind a
+/// guard page. Every answer is the contract's.
+fn as_the_contract_says(rng: &mut Rng, rooms: &mut Rooms, tree: &[u8], mut state: RunState, seed: u64, seen: &mut Seen) {
+    let [before, behind] = &mut rooms.trees;
     let trees: [&[u8]; 2] = [before.at_end(tree), behind.at_start(tree)];
     for k in 0..rng.between(1, 12) {
         let at = At { seed, event: Some(k) };
         let [first, second] = likely_pair(rng, tree, &state);
         let contract = Contract { tree, state };
-        assert_eq!(library::idle(state), contract.idle(), "{at}");
         let want = contract.event(first, second);
-        for given in trees {
-            let got = Lent::new(state).event(given, first, second, at);
+        for (end, given) in [true, false].into_iter().zip(trees) {
+            let lent = lend_state(&mut rooms.state, &state, end);
+            about_to_call(format_args!("{at}: {first} {second}"));
+            assert_eq!(library::idle(*lent), contract.idle(), "{at}");
+            let got = both_ways(lent, given, first, second, at);
             assert_eq!(got.outcome, want.outcome, "{at}: {first} {second}");
-            if got.outcome.number != 0 {
-                assert!(got.state == state, "{at}: {first} {second}: a refused event changed the state");
-            }
             assert!(got.state == want.state, "{at}: {first} {second}: another state");
             assert!(given == tree, "{at}: {first} {second}: the tree was changed");
         }
@@ -968,6 +1037,16 @@ fn as_the_contract_says(
     }
 }
 
+/// Rooms for a tree before a guard page and behind one, and for a state.
+struct Rooms {
+    trees: [Guarded; 2],
+    state: Guarded,
+}
+
+fn rooms() -> Rooms {
+    Rooms { trees: room(), state: Guarded::new(STATE_BYTES) }
+}
+
 fn room() -> [Guarded; 2] {
     [Guarded::new(45_000), Guarded::new(45_000)]
 }
@@ -975,7 +1054,7 @@ fn room() -> [Guarded; 2] {
 #[test]
 fn any_state_with_small_trees() {
     let mut seen = Seen::default();
-    let mut guarded = room();
+    let mut rooms = rooms();
     for seed in 0..90_000 {
         let mut rng = Rng::new(seed);
         let tasks = rng.below(30);
@@ -1006,7 +1085,7 @@ fn any_state_with_small_trees() {
                 damaged_state(&mut rng, &state, right.len() / 8, flips)
             }
         };
-        as_the_contract_says(&mut rng, &mut guarded, &given, state, seed, &mut seen);
+        as_the_contract_says(&mut rng, &mut rooms, &given, state, seed, &mut seen);
     }
     assert!(seen.runs > 50_000 && seen.steals > 20_000, "{seen:?}");
     assert!([2, 8, 9, 10, 11, 12].iter().all(|&number| seen.refused[number] > 1_000), "{seen:?}");
@@ -1015,7 +1094,7 @@ fn any_state_with_small_trees() {
 #[test]
 fn any_state_with_bytes_of_any_length() {
     let mut seen = Seen::default();
-    let mut guarded = room();
+    let mut rooms = rooms();
     for seed in 0..12_000 {
         let mut rng = Rng::new(seed);
         let tasks = if rng.percent(40) { rng.below(2_048) } else { rng.below(100) };
@@ -1042,28 +1121,72 @@ fn any_state_with_bytes_of_any_length() {
                 damaged_state(&mut rng, &state, right.len() / 8, flips)
             }
         };
-        as_the_contract_says(&mut rng, &mut guarded, &given, state, seed, &mut seen);
+        as_the_contract_says(&mut rng, &mut rooms, &given, state, seed, &mut seen);
     }
     assert!(seen.runs > 5_000 && seen.steals > 2_000, "{seen:?}");
     assert!([2, 8, 9, 10, 11, 12].iter().all(|&number| seen.refused[number] > 500), "{seen:?}");
+}
+
+/// Every damaged count on states that runs lead to, with every pair of workers up to one that no run has: with 0 each event is
+/// refused and nobody is idle, with any other the answers are those of 16 and the count is handed on as it is.
+#[test]
+fn damaged_counts() {
+    let mut room = Guarded::new(STATE_BYTES);
+    let mut seen = Seen::default();
+    for seed in 0..600 {
+        let mut rng = Rng::new(seed);
+        let tasks = rng.below(20);
+        let bytes = tree(&mut rng, tasks);
+        let state = reached(&mut rng, &bytes, 4 * (tasks + 1));
+        let any = rng.next() as u16;
+        for workers in DAMAGED_COUNTS.into_iter().chain([any]) {
+            let damaged = RunState { workers, ..state };
+            let limit = workers.min(16);
+            let acting = RunState { workers: limit, ..state };
+            let end = rng.percent(50);
+            let lent = lend_state(&mut room, &damaged, end);
+            let want = if limit == 0 { FrameIdle { set: 0, count: 0, lowest: 16 } } else { library::idle(acting) };
+            assert_eq!(library::idle(*lent), want, "seed {seed}, count {workers}");
+            for first in 0..=17 {
+                let [second, other] = [rng.below(18) as u8, worker_at_the_edge(&mut rng, 16)];
+                for second in [first, second, other] {
+                    let case = format!("seed {seed}, count {workers}");
+                    about_to_call(format_args!("{case}: {first} {second}"));
+                    let lent = lend_state(&mut room, &damaged, end);
+                    let got = both_ways(lent, &bytes, first, second, &case);
+                    let want = library::event(acting, &bytes, first, second);
+                    if u16::from(first.max(second)) >= limit {
+                        assert_eq!(numbers(&got.outcome), [8, 0, 0, 0, 0], "{case}: {first} {second}");
+                    }
+                    assert_eq!(got.outcome, want.outcome, "{case}: {first} {second}");
+                    assert!(got.state == RunState { workers, ..want.state }, "{case}: {first} {second}: another state");
+                    seen.count(&got.outcome);
+                }
+            }
+        }
+    }
+    assert!(seen.runs > 1_000 && seen.steals > 1_000, "{seen:?}");
+    assert!(seen.refused[8..].iter().all(|&times| times > 1_000), "{seen:?}");
 }
 
 /// Too many records: 2, but 8 comes first. One record less, or a few stray bytes, and it is not 2.
 #[test]
 fn too_many_records() {
     let mut guarded = room();
-    let state = first_state(1);
+    let states = [first_state(1, 16), first_state(1, 4)];
     for (len, number) in [(32_760, 0), (32_767, 0), (32_768, 2), (32_775, 2), (40_000, 2)] {
         let plain = [1, 0, 0, 0, 0, 0, 0, 0].repeat(5_000)[..len].to_vec();
         let [before, behind] = &mut guarded;
-        for tree in [before.at_end(&plain), behind.at_start(&plain)] {
+        let trees: [&[u8]; 2] = [before.at_end(&plain), behind.at_start(&plain)];
+        for (tree, state) in trees.into_iter().flat_map(|tree| states.map(|state| (tree, state))) {
             for (event, small) in [([0, 0], 0), ([1, 1], 9), ([0, 1], 11), ([1, 0], 12)] {
                 let want = if number == 2 { 2 } else { small };
                 let got = library::event(state, tree, event[0], event[1]);
                 assert_eq!(got.outcome.number, want, "{len} bytes, {event:?}");
                 assert!(want == 0 || got.state == state, "{len} bytes, {event:?}");
             }
-            for event in [[16, 16], [16, 0], [0, 16], [255, 0]] {
+            let none = state.workers as u8;
+            for event in [[none, none], [none, 0], [0, none], [255, 0]] {
                 let got = library::event(state, tree, event[0], event[1]);
                 assert_eq!(numbers(&got.outcome), [8, 0, 0, 0, 0], "{len} bytes, {event:?}");
                 assert!(got.state == state, "{len} bytes, {event:?}");

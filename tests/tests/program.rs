@@ -11,6 +11,7 @@ use std::process::{Child, ChildStdin, Command, Output, Stdio};
 use std::thread;
 use std::time::{Duration, Instant};
 
+use frame_tests::cover::WORKERS;
 use frame_tests::phases::{phases, MAX_INPUT};
 use frame_tests::random::{
     damaged_tree, flat_tree, robbed_in_turn, trace_to_replay, tree, tree_of_kinds, tree_record, tree_with, Rng, Weights,
@@ -494,7 +495,7 @@ fn sound_input(rng: &mut Rng, tasks: usize) -> Vec<u8> {
         tree_with(rng, shape, tasks, finish, Weights::One)
     };
     let read = Tree::parse(&bytes).expect("the tree is accepted");
-    let trace = trace_to_replay(rng, Policy::parse(policy).expect("the policy is one"), &read);
+    let trace = trace_to_replay(rng, Policy::parse(policy).expect("the policy is one"), WORKERS, &read);
     input(policy, 2 * tasks as u16 + 1, &bytes, &trace)
 }
 

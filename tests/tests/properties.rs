@@ -34,9 +34,10 @@ fn policy_of(byte: u8) -> Policy {
 
 /// The live run of these accepted events against the replay of its trace.
 fn same_phases(policy: u8, tree: &[u8], run: &Run, events: &[u8]) {
+    let workers = run.workers.len() as u8;
     let n = run.tree.count();
     let total = run.tree.total_weight();
-    let (recorded, log, trace) = record_to_vecs(policy, tree, events);
+    let (recorded, log, trace) = record_to_vecs(policy, workers, tree, events);
     assert_eq!((recorded.number, recorded.position), (0, 0));
     assert_eq!(recorded.log_count, run.log.len());
     assert_eq!(recorded.trace_count, run.trace.len());
@@ -44,7 +45,7 @@ fn same_phases(policy: u8, tree: &[u8], run: &Run, events: &[u8]) {
     assert_eq!(recorded.finished, run.finished());
     assert_eq!(recorded.loads.iter().sum::<u64>(), total);
 
-    let (replayed, phases) = replay_to_vecs(policy, tree, &trace);
+    let (replayed, phases) = replay_to_vecs(policy, workers, tree, &trace);
     assert_eq!((replayed.number, replayed.position), (0, 0));
     // As many phases, the same worker and first step.
     assert_eq!(replayed.phases, recorded.trace_count + 1);
@@ -87,7 +88,7 @@ fn same_phases(policy: u8, tree: &[u8], run: &Run, events: &[u8]) {
 /// Facts about a state that only accepted events led to.
 fn sound_state(run: &Run) {
     let mut can_go_on = false;
-    for worker in 0..16 {
+    for worker in 0..run.workers.len() {
         let me = &run.workers[worker];
         assert_eq!(run.is_idle(worker), run.idle_set() >> worker & 1 == 1);
         if run.is_idle(worker) {
@@ -104,7 +105,9 @@ fn sound_state(run: &Run) {
     assert_eq!(run.lowest_idle(), run.idle_set().trailing_zeros() as usize);
     // Somebody can run until all is done; then all are idle.
     assert_eq!(can_go_on, !run.finished());
-    assert_eq!(run.finished(), run.idle_set() == 0xFFFF);
+    assert_eq!(run.finished(), run.idle_count() == run.workers.len());
+    // No bit from the count on.
+    assert_eq!(u32::from(run.idle_set()) >> run.workers.len(), 0);
 }
 
 fn random_schedule(seed: u64, most_tasks: usize) {
@@ -112,12 +115,13 @@ fn random_schedule(seed: u64, most_tasks: usize) {
     let tasks = rng.between(0, most_tasks);
     let tree = random::tree(&mut rng, tasks);
     for policy in [1, 2] {
-        let mut plan = Plan::any(&mut rng);
+        let workers = rng.between(1, 16);
+        let mut plan = Plan::any(&mut rng, workers);
         plan.bad = rng.pick(&[0, 0, 10, 40]);
         if rng.percent(40) {
             plan.events = rng.between(0, 3 * tasks + 2);
         }
-        let mut run = Run::start(policy, &tree).unwrap();
+        let mut run = Run::start(policy, workers as u8, &tree).unwrap();
         let tried = random::drive(&mut rng, &mut run, &plan);
         sound_state(&run);
         if plan.events == MAX_EVENTS && plan.bad == 0 {
@@ -126,7 +130,8 @@ fn random_schedule(seed: u64, most_tasks: usize) {
         same_phases(policy, &tree, &run, &random::accepted_bytes(&tried));
 
         // All tried events in one call: refused at the first bad one.
-        let (answer, _, _) = record_to_vecs(policy, &tree, &random::event_bytes(&tried));
+        let events = random::event_bytes(&tried);
+        let (answer, _, _) = record_to_vecs(policy, workers as u8, &tree, &events);
         match tried.iter().position(|t| t.refused != 0) {
             None => assert_eq!(answer.number, 0),
             Some(at) => assert_eq!((answer.number, answer.position), (tried[at].refused, at)),
@@ -160,7 +165,7 @@ fn longest_trees() {
                 assert_eq!(tree.len(), 32_760);
                 for policy in [1, 2] {
                     let plan = Plan { workers: 16, events: MAX_EVENTS, bad: 0, steals: 100 };
-                    let mut run = Run::start(policy, &tree).unwrap();
+                    let mut run = Run::start(policy, 16, &tree).unwrap();
                     let tried = random::drive(&mut rng, &mut run, &plan);
                     assert!(run.finished());
                     same_phases(policy, &tree, &run, &random::accepted_bytes(&tried));
@@ -179,15 +184,16 @@ fn single_events_against_record() {
         let tasks = rng.between(0, 10);
         let tree = random::tree(&mut rng, tasks);
         for policy in [1, 2] {
-            let plan =
-                Plan { workers: rng.between(1, 5), events: 60, bad: 50, steals: 50 };
-            let mut run = Run::start(policy, &tree).unwrap();
+            let workers = rng.between(1, 5);
+            let plan = Plan { workers, events: 60, bad: 50, steals: 50 };
+            let count = (workers + rng.below(3)) as u8;
+            let mut run = Run::start(policy, count, &tree).unwrap();
             let tried = random::drive(&mut rng, &mut run, &plan);
             let mut before: Vec<u8> = Vec::new();
             for t in tried {
                 let position = before.len() / 2;
                 before.extend_from_slice(&t.event);
-                let (answer, _, _) = record_to_vecs(policy, &tree, &before);
+                let (answer, _, _) = record_to_vecs(policy, count, &tree, &before);
                 assert_eq!(answer.number, t.refused);
                 if t.refused != 0 {
                     assert_eq!(answer.position, position);
@@ -214,13 +220,13 @@ fn bytes_behind_the_records() {
                 steals: 50,
             };
             let parsed = Tree::parse(&tree).unwrap();
-            let events = random::events(&mut rng, policy_of(policy), &parsed, &plan);
+            let events = random::events(&mut rng, policy_of(policy), 4, &parsed, &plan);
             let mut log = vec![0xC3; 4 * n + rng.below(9)];
             let mut trace = vec![0xC3; 4 * tasks + rng.below(9)];
-            let answer = record(policy, &tree, &events, &mut log, &mut trace);
+            let answer = record(policy, 4, &tree, &events, &mut log, &mut trace);
             assert!(log[4 * answer.log_count..].iter().all(|&b| b == 0xC3));
             assert!(trace[4 * answer.trace_count..].iter().all(|&b| b == 0xC3));
-            let (same, written_log, written_trace) = record_to_vecs(policy, &tree, &events);
+            let (same, written_log, written_trace) = record_to_vecs(policy, 4, &tree, &events);
             assert_eq!(answer, same);
             assert_eq!(log[..4 * answer.log_count], written_log);
             assert_eq!(trace[..4 * answer.trace_count], written_trace);
@@ -230,8 +236,8 @@ fn bytes_behind_the_records() {
 
 /// An accepted trace, one that a schedule could give or not: every step
 /// stands once in the run list, and each phase runs what it covers.
-fn check_trace(policy: u8, tree: &[u8], trace: &[u8]) -> u32 {
-    let (answer, phases) = replay_to_vecs(policy, tree, trace);
+fn check_trace(policy: u8, workers: u8, tree: &[u8], trace: &[u8]) -> u32 {
+    let (answer, phases) = replay_to_vecs(policy, workers, tree, trace);
     if answer.number != 0 {
         assert!(answer.position < trace.len() / 4);
         return answer.number;
@@ -243,7 +249,7 @@ fn check_trace(policy: u8, tree: &[u8], trace: &[u8]) -> u32 {
     assert_eq!(all, (0..parsed.count()).collect::<Vec<_>>());
     assert_eq!(answer.loads.iter().sum::<u64>(), parsed.total_weight());
 
-    let mut replay = Replay::new(policy_of(policy), parsed);
+    let mut replay = Replay::new(policy_of(policy), workers.into(), parsed);
     for r in trace.chunks(4) {
         replay.steal(r[0], r[1], u16::from_le_bytes([r[2], r[3]])).unwrap();
     }
@@ -267,9 +273,10 @@ fn random_traces() {
         let tree = random::tree(&mut rng, tasks);
         let parsed = Tree::parse(&tree).unwrap();
         for policy in [1, 2] {
+            let workers = rng.between(1, 16);
             let bad = rng.pick(&[0, 0, 3, 50]);
-            let trace = random::trace(&mut rng, policy_of(policy), &parsed, tasks + 3, bad);
-            let number = check_trace(policy, &tree, &trace);
+            let trace = random::trace(&mut rng, policy_of(policy), workers, &parsed, tasks + 3, bad);
+            let number = check_trace(policy, workers as u8, &tree, &trace);
             assert!(bad != 0 || number == 0);
             seen.insert((policy, number));
         }
@@ -288,8 +295,8 @@ fn random_large_traces() {
         let tree = random::tree(&mut rng, 2_047);
         let parsed = Tree::parse(&tree).unwrap();
         for policy in [1, 2] {
-            let trace = random::trace(&mut rng, policy_of(policy), &parsed, 2_047, 0);
-            assert_eq!(check_trace(policy, &tree, &trace), 0);
+            let trace = random::trace(&mut rng, policy_of(policy), 16, &parsed, 2_047, 0);
+            assert_eq!(check_trace(policy, 16, &tree, &trace), 0);
         }
     });
 }
@@ -304,11 +311,13 @@ fn numbers_left_are_those_accepted() {
         let tree = Tree::parse(&random::tree(&mut rng, tasks)).unwrap();
         let n = tree.count();
         for policy in [Policy::WorkFirst, Policy::HelpFirst] {
-            let plan = random::Steals::any(&mut rng);
+            // One worker alone has nobody to steal from.
+            let workers = rng.between(2, 16);
+            let plan = random::Steals::any(&mut rng, workers);
             let trace = random::accepted_trace(&mut rng, policy, &tree, &plan);
-            let mut replay = Replay::new(policy, tree.clone());
+            let mut replay = Replay::new(policy, workers, tree.clone());
             for at in 0..=trace.len() / 4 {
-                for phase in replay.latest.into_iter().flatten() {
+                for &phase in replay.latest.iter().flatten() {
                     let named = |&number: &usize| replay.named_step(phase, number).is_some();
                     let accepted: Vec<usize> =
                         (0..n + 2).chain([4_096, 65_535]).filter(named).collect();
@@ -334,13 +343,13 @@ fn most_steals() {
         let victim = (k - 1) % 16;
         trace.extend_from_slice(&random::trace_record((k % 16) as u8, victim as u8, k));
     }
-    assert_eq!(check_trace(1, &tree, &trace), 0);
+    assert_eq!(check_trace(1, 16, &tree, &trace), 0);
     // Help-first: worker 1 takes every child from worker 0.
     let mut trace = Vec::new();
     for k in 0..2_047u16 {
         trace.extend_from_slice(&random::trace_record(1, 0, 2 * k + 1));
     }
-    assert_eq!(check_trace(2, &tree, &trace), 0);
+    assert_eq!(check_trace(2, 2, &tree, &trace), 0);
 }
 
 /// All schedules of three workers on all trees with up to four spawned
@@ -362,7 +371,7 @@ fn all_small_schedules() {
 
 fn all_schedules(policy: u8, tree: &[u8]) -> usize {
     let mut seen = HashSet::new();
-    let mut open = vec![(Run::start(policy, tree).unwrap(), Vec::new())];
+    let mut open = vec![(Run::start(policy, 3, tree).unwrap(), Vec::new())];
     while let Some((run, events)) = open.pop() {
         let logs: Vec<_> = (0..run.phases.len()).map(|k| run.steps_run_in(k)).collect();
         if !seen.insert(format!("{:?} {:?} {:?}", run.workers, run.trace, logs)) {
@@ -401,7 +410,7 @@ fn all_small_traces() {
             for policy in [1, 2] {
                 let mut open = vec![Vec::new()];
                 while let Some(trace) = open.pop() {
-                    if check_trace(policy, &tree, &trace) != 0 {
+                    if check_trace(policy, 3, &tree, &trace) != 0 {
                         continue;
                     }
                     // A trace never has more records than spawned tasks.
@@ -552,9 +561,10 @@ fn events_reach_every_refusal() {
         let tasks = rng.between(1, 40);
         let tree = random::tree(&mut rng, tasks);
         for policy in [1, 2] {
-            let mut plan = Plan::any(&mut rng);
+            let workers = rng.between(1, 16);
+            let mut plan = Plan::any(&mut rng, workers);
             plan.bad = 20;
-            let mut run = Run::start(policy, &tree).unwrap();
+            let mut run = Run::start(policy, workers as u8, &tree).unwrap();
             for t in random::drive(&mut rng, &mut run, &plan) {
                 seen.insert((policy, t.refused));
             }
@@ -565,4 +575,41 @@ fn events_reach_every_refusal() {
             assert!(seen.contains(&(policy, number)), "{} {}", policy, number);
         }
     }
+}
+
+/// The count matters only by the workers that a call names: with one that is
+/// above them all the answer is that of 16, with a lower one the first event or
+/// record that names too high a worker is refused, unless another one was before.
+#[test]
+fn counts_beside_16() {
+    for_seeds(110_000..113_000, |seed| {
+        let mut rng = Rng::new(seed);
+        let tasks = rng.between(0, 20);
+        let tree = random::tree(&mut rng, tasks);
+        let parsed = Tree::parse(&tree).unwrap();
+        for policy in [1, 2] {
+            let events = random::events_to_record(&mut rng, policy_of(policy), 16, &parsed);
+            let trace = random::trace_to_replay(&mut rng, policy_of(policy), 16, &parsed);
+            let recorded = record_to_vecs(policy, 16, &tree, &events);
+            let replayed = replay_to_vecs(policy, 16, &tree, &trace);
+            for workers in 1..16 {
+                let high = |record: &[u8]| record[0] >= workers || record[1] >= workers;
+                let answer = record_to_vecs(policy, workers, &tree, &events);
+                match events.chunks(2).position(high) {
+                    Some(at) if recorded.0.number == 0 || recorded.0.position >= at => {
+                        assert_eq!((answer.0.number, answer.0.position), (8, at));
+                    }
+                    _ => assert_eq!(answer, recorded),
+                }
+                let answer = replay_to_vecs(policy, workers, &tree, &trace);
+                match trace.chunks_exact(4).position(high) {
+                    Some(at) if replayed.0.number == 0 || replayed.0.position >= at => {
+                        let want = if replayed.0.number == 6 { (6, 0) } else { (8, at) };
+                        assert_eq!((answer.0.number, answer.0.position), want);
+                    }
+                    _ => assert_eq!(answer, replayed),
+                }
+            }
+        }
+    });
 }

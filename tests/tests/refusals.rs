@@ -10,14 +10,19 @@ fn s() -> Vec<u8> {
     tree_of_kinds(&[1, 3, 2, 1, 3, 3, 3])
 }
 
-/// The refusal of a record call with ample buffers. All other results are 0
-/// and the buffers keep their bytes.
+/// The refusal of a record call with 16 workers and ample buffers.
 fn record_refusal(policy: u8, tree: &[u8], events: &[u8]) -> (u32, usize) {
-    record_refusal_with(policy, tree, events, 4 * 4_095, 4 * 2_047)
+    record_refusal_of(policy, 16, tree, events)
 }
 
+fn record_refusal_of(policy: u8, workers: u8, tree: &[u8], events: &[u8]) -> (u32, usize) {
+    record_refusal_with(policy, workers, tree, events, 4 * 4_095, 4 * 2_047)
+}
+
+/// All other results are 0 and the buffers keep their bytes.
 fn record_refusal_with(
     policy: u8,
+    workers: u8,
     tree: &[u8],
     events: &[u8],
     log_bytes: usize,
@@ -25,7 +30,7 @@ fn record_refusal_with(
 ) -> (u32, usize) {
     let mut log = vec![0xA5; log_bytes];
     let mut trace = vec![0xA5; trace_bytes];
-    let answer = record(policy, tree, events, &mut log, &mut trace);
+    let answer = record(policy, workers, tree, events, &mut log, &mut trace);
     if answer.number != 0 {
         let (number, position) = (answer.number, answer.position);
         assert_eq!(answer, RecordAnswer { number, position, ..RecordAnswer::default() });
@@ -35,17 +40,22 @@ fn record_refusal_with(
 }
 
 fn replay_refusal(policy: u8, tree: &[u8], trace: &[u8]) -> (u32, usize) {
-    replay_refusal_with(policy, tree, trace, 4 * 4_095)
+    replay_refusal_of(policy, 16, tree, trace)
+}
+
+fn replay_refusal_of(policy: u8, workers: u8, tree: &[u8], trace: &[u8]) -> (u32, usize) {
+    replay_refusal_with(policy, workers, tree, trace, 4 * 4_095)
 }
 
 fn replay_refusal_with(
     policy: u8,
+    workers: u8,
     tree: &[u8],
     trace: &[u8],
     list_bytes: usize,
 ) -> (u32, usize) {
     let mut list = vec![0xA5; list_bytes];
-    let answer = replay(policy, tree, trace, &mut list);
+    let answer = replay(policy, workers, tree, trace, &mut list);
     if answer.number != 0 {
         let (number, position) = (answer.number, answer.position);
         assert_eq!(answer, ReplayAnswer { number, position, ..ReplayAnswer::default() });
@@ -60,7 +70,7 @@ fn tree_refusal(tree: &[u8]) -> (u32, usize) {
         Ok(_) => (0, 0),
         Err(refusal) => (refusal.number, refusal.position),
     };
-    let start = match Run::start(2, tree) {
+    let start = match Run::start(2, 16, tree) {
         Ok(_) => (0, 0),
         Err(refusal) => (refusal.number, refusal.position),
     };
@@ -75,9 +85,47 @@ fn refusal_1() {
     for policy in [0, 3, 4, 255] {
         assert_eq!(record_refusal(policy, &s(), &[]), (1, 0));
         assert_eq!(replay_refusal(policy, &s(), &[]), (1, 0));
-        assert_eq!(Run::start(policy, &s()).unwrap_err(), Refusal::new(1, 0));
+        assert_eq!(Run::start(policy, 16, &s()).unwrap_err(), Refusal::new(1, 0));
         // 1 before 2.
         assert_eq!(record_refusal(policy, &[], &[1]), (1, 0));
+    }
+}
+
+/// The refusal of a start, the same from record and replay.
+fn start_refusal(policy: u8, workers: u8, tree: &[u8]) -> (u32, usize) {
+    let start = match Run::start(policy, workers, tree) {
+        Ok(_) => (0, 0),
+        Err(refusal) => (refusal.number, refusal.position),
+    };
+    assert_eq!(start, record_refusal_of(policy, workers, tree, &[]));
+    assert_eq!(start, replay_refusal_of(policy, workers, tree, &[]));
+    start
+}
+
+#[test]
+fn refusal_16() {
+    for policy in [1, 2] {
+        for workers in 0..=255 {
+            let refused = if (1..=16).contains(&workers) { (0, 0) } else { (16, 0) };
+            assert_eq!(start_refusal(policy, workers, &s()), refused, "{}", workers);
+        }
+    }
+    for workers in [0, 17, 255] {
+        // 1 before 16.
+        assert_eq!(start_refusal(3, workers, &s()), (1, 0));
+        assert_eq!(start_refusal(0, workers, &[]), (1, 0));
+        // 16 before 2 to 5.
+        assert_eq!(start_refusal(1, workers, &[]), (16, 0));
+        assert_eq!(start_refusal(1, workers, &[9; 8]), (16, 0));
+        assert_eq!(start_refusal(2, workers, &chain(64, 1)), (16, 0));
+        assert_eq!(start_refusal(2, workers, &s()[..48]), (16, 0));
+        // 16 before 6, 7 and the walks.
+        assert_eq!(record_refusal_with(1, workers, &s(), &[0], 0, 0), (16, 0));
+        assert_eq!(record_refusal_with(1, workers, &s(), &[1, 1], 0, 0), (16, 0));
+        assert_eq!(record_refusal_of(1, workers, &s(), &[255, 255]), (16, 0));
+        assert_eq!(replay_refusal_with(1, workers, &s(), &[0], 0), (16, 0));
+        assert_eq!(replay_refusal_with(1, workers, &s(), &[], 0), (16, 0));
+        assert_eq!(replay_refusal_of(1, workers, &s(), &[255, 255, 1, 0]), (16, 0));
     }
 }
 
@@ -227,29 +275,29 @@ fn refusal_6_trace() {
 #[test]
 fn refusal_7_record() {
     // S has 7 records: 28 bytes of log, 12 of trace.
-    assert_eq!(record_refusal_with(1, &s(), &[], 28, 12), (0, 0));
-    assert_eq!(record_refusal_with(1, &s(), &[], 27, 12), (7, 0));
-    assert_eq!(record_refusal_with(1, &s(), &[], 28, 11), (7, 0));
-    assert_eq!(record_refusal_with(1, &s(), &[], 0, 0), (7, 0));
-    assert_eq!(record_refusal_with(2, &tree_of_kinds(&[3]), &[], 4, 0), (0, 0));
-    assert_eq!(record_refusal_with(2, &tree_of_kinds(&[3]), &[], 3, 0), (7, 0));
+    assert_eq!(record_refusal_with(1, 16, &s(), &[], 28, 12), (0, 0));
+    assert_eq!(record_refusal_with(1, 16, &s(), &[], 27, 12), (7, 0));
+    assert_eq!(record_refusal_with(1, 16, &s(), &[], 28, 11), (7, 0));
+    assert_eq!(record_refusal_with(1, 16, &s(), &[], 0, 0), (7, 0));
+    assert_eq!(record_refusal_with(2, 16, &tree_of_kinds(&[3]), &[], 4, 0), (0, 0));
+    assert_eq!(record_refusal_with(2, 16, &tree_of_kinds(&[3]), &[], 3, 0), (7, 0));
     // 6 before 7, 7 before 8.
-    assert_eq!(record_refusal_with(1, &s(), &[0], 0, 0), (6, 0));
-    assert_eq!(record_refusal_with(1, &s(), &[16, 16], 0, 0), (7, 0));
-    assert_eq!(record_refusal_with(1, &s(), &[16, 16], 28, 12), (8, 0));
+    assert_eq!(record_refusal_with(1, 16, &s(), &[0], 0, 0), (6, 0));
+    assert_eq!(record_refusal_with(1, 16, &s(), &[16, 16], 0, 0), (7, 0));
+    assert_eq!(record_refusal_with(1, 16, &s(), &[16, 16], 28, 12), (8, 0));
 }
 
 #[test]
 fn refusal_7_replay() {
-    assert_eq!(replay_refusal_with(1, &s(), &[], 28), (0, 0));
-    assert_eq!(replay_refusal_with(1, &s(), &[], 27), (7, 0));
-    assert_eq!(replay_refusal_with(2, &s(), &[], 0), (7, 0));
-    assert_eq!(replay_refusal_with(2, &flat(4_095), &[], 4 * 4_095), (0, 0));
-    assert_eq!(replay_refusal_with(2, &flat(4_095), &[], 4 * 4_095 - 1), (7, 0));
+    assert_eq!(replay_refusal_with(1, 16, &s(), &[], 28), (0, 0));
+    assert_eq!(replay_refusal_with(1, 16, &s(), &[], 27), (7, 0));
+    assert_eq!(replay_refusal_with(2, 16, &s(), &[], 0), (7, 0));
+    assert_eq!(replay_refusal_with(2, 16, &flat(4_095), &[], 4 * 4_095), (0, 0));
+    assert_eq!(replay_refusal_with(2, 16, &flat(4_095), &[], 4 * 4_095 - 1), (7, 0));
     // 6 before 7, 7 before 8.
-    assert_eq!(replay_refusal_with(1, &s(), &[0; 5], 0), (6, 0));
-    assert_eq!(replay_refusal_with(1, &s(), &[16, 0, 1, 0], 27), (7, 0));
-    assert_eq!(replay_refusal_with(1, &s(), &[16, 0, 1, 0], 28), (8, 0));
+    assert_eq!(replay_refusal_with(1, 16, &s(), &[0; 5], 0), (6, 0));
+    assert_eq!(replay_refusal_with(1, 16, &s(), &[16, 0, 1, 0], 27), (7, 0));
+    assert_eq!(replay_refusal_with(1, 16, &s(), &[16, 0, 1, 0], 28), (8, 0));
 }
 
 #[test]
@@ -268,6 +316,34 @@ fn refusal_8_record() {
     assert_eq!(record_refusal(1, &s(), &[1, 1, 16, 16]), (9, 0));
     // 12 earlier, 8 later: 12.
     assert_eq!(record_refusal(1, &s(), &[0, 0, 1, 2, 16, 16]), (12, 1));
+}
+
+/// For each count the highest worker of the run, and the one above it.
+#[test]
+fn refusal_8_by_the_count() {
+    for workers in 1..=16 {
+        let last = workers - 1;
+        for policy in [1, 2] {
+            let refusal = |events: &[u8]| record_refusal_of(policy, workers, &s(), events);
+            for no_worker in [workers, workers + 1, 16, 255] {
+                assert_eq!(refusal(&[no_worker, no_worker]), (8, 0));
+                assert_eq!(refusal(&[no_worker, 0]), (8, 0));
+                assert_eq!(refusal(&[0, 0, 0, no_worker]), (8, 1));
+                assert_eq!(refusal(&[0, 0, last, no_worker]), (8, 1));
+                let refusal = |trace: &[u8]| replay_refusal_of(policy, workers, &s(), trace);
+                assert_eq!(refusal(&[no_worker, 0, 1, 0]), (8, 0));
+                assert_eq!(refusal(&[0, no_worker, 1, 0]), (8, 0));
+                assert_eq!(refusal(&[no_worker, no_worker, 1, 0]), (8, 0));
+                assert_eq!(refusal(&[last, no_worker, 9, 9]), (8, 0));
+            }
+            // Worker 0 holds a step, all others are idle.
+            assert_eq!(refusal(&[last, last]), if last == 0 { (0, 0) } else { (9, 0) });
+            let steal = [0, 0, last, 0];
+            assert_eq!(refusal(&steal), (0, 0));
+            let read = replay_refusal_of(policy, workers, &s(), &[last, 0, 1, 0]);
+            assert_eq!(read, if last == 0 { (13, 0) } else { (0, 0) });
+        }
+    }
 }
 
 #[test]
@@ -313,7 +389,7 @@ fn refusal_12() {
 
 #[test]
 fn refused_single_events_change_nothing() {
-    let mut run = Run::start(1, &s()).unwrap();
+    let mut run = Run::start(1, 16, &s()).unwrap();
     run.event(0, 0).unwrap();
     run.event(1, 0).unwrap();
     for (event, number) in

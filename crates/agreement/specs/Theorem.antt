@@ -1,11 +1,12 @@
--- Demand 3: for every tree and policy that start accepts, and every list of events.
+-- Demand 3: for every worker count, policy and tree that start accepts, and every list of events.
 use Prim.Native.Nat.{ℕ}
 use mathlib.Core.Path.{_≡_}
 use mathlib.Core.List.{List}
 use Rattle.run_state.specs.Contract.{startAnswer}
 use Rattle.run_spec.specs.declared.Event.{Event}
-use Rattle.agreement.specs.Agreement.{Agreement}
+use Rattle.agreement.specs.Agreement.{entries, Agreement}
 use Rattle.agreement.specs.Laws.Whole.{agrees}
 
-pub same-phases : (p : ℕ) (tree : List ℕ) → startAnswer p tree .number ≡ 0 → (es : List Event) → Agreement p tree es
+pub same-phases : (w p : ℕ) (tree : List ℕ) → startAnswer w p tree .number ≡ 0 → (es : List Event)
+    → Agreement (entries w p tree) tree es
 same-phases = agrees

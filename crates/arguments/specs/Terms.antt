@@ -1,5 +1,5 @@
--- What is answered of what a call is given, before its records are walked: the policy and the tree of each call, the events of a
--- record call and the trace of a replay call, the room of the lent outputs.
+-- What is answered of what a call is given, before its records are walked: the policy, the worker count and the tree of each call,
+-- the events of a record call and the trace of a replay call, the room of the lent outputs.
 use Prim.Native.Nat.{ℕ, _-_, _*_}
 use mathlib.Core.Bool.{Bool, cond, not, _||_}
 use mathlib.Core.List.{List, [], _∷_}
@@ -10,23 +10,23 @@ use Rattle.rules.specs.Tree.{kinds}
 use Rattle.rules.specs.Calls.{mostEvents, mostTraceRecords, startVerdict}
 use Rattle.tree.specs.declared.Accepted.{Accepted}
 
--- The refusal and position of a policy and a tree, or the tree's count of steps; what is not answered is 0.
-unfoldable pub startJudged : ℕ → List ℕ → Accepted
-startJudged p tree =
+-- The refusal and position of a policy, a worker count and a tree, or the tree's count of steps; what is not answered is 0.
+unfoldable pub startJudged : ℕ → ℕ → List ℕ → Accepted
+startJudged w p tree =
     record {
-      number = startVerdict p tree .number;
-      position = startVerdict p tree .position;
-      steps = cond (eqb (startVerdict p tree .number) 0) (length (kinds tree)) 0;
+      number = startVerdict w p tree .number;
+      position = startVerdict w p tree .position;
+      steps = cond (eqb (startVerdict w p tree .number) 0) (length (kinds tree)) 0;
     }
 
--- Refusals 1 to 7 of a call, by whether its records are whole and not too many, and whether a lent output is short.
-unfoldable pub givenVerdict : ℕ → List ℕ → Bool → Bool → Verdict
-givenVerdict p tree whole short = firstRefused (startVerdict p tree ∷ refusedIf (not whole) 6 0 ∷ refusedIf short 7 0 ∷ [])
+-- Refusals 1 to 7 and 16 of a call, by whether its records are whole and not too many, and whether a lent output is short.
+unfoldable pub givenVerdict : ℕ → ℕ → List ℕ → Bool → Bool → Verdict
+givenVerdict w p tree whole short = firstRefused (startVerdict w p tree ∷ refusedIf (not whole) 6 0 ∷ refusedIf short 7 0 ∷ [])
 
 -- The refusal and position, or the tree's count of steps; what is not answered is 0.
-unfoldable pub givenJudged : ℕ → List ℕ → Bool → Bool → Accepted
-givenJudged p tree whole short =
-    let v = givenVerdict p tree whole short in
+unfoldable pub givenJudged : ℕ → ℕ → List ℕ → Bool → Bool → Accepted
+givenJudged w p tree whole short =
+    let v = givenVerdict w p tree whole short in
     record { number = v .number; position = v .position; steps = cond (eqb (v .number) 0) (length (kinds tree)) 0 }
 
 -- "A lent output is short: 4 × n bytes for log or run list, 2 × (n - 1) for a trace", by the lengths of log and trace.
@@ -34,17 +34,18 @@ unfoldable pub tooShort : ℕ → ℕ → ℕ → Bool
 tooShort n log trace = ltb log (4 * n) || ltb trace (2 * (n - 1))
 
 -- What is answered of a record call whose lent log and trace have so many bytes,
-unfoldable pub recordJudged : ℕ → List ℕ → List ℕ → ℕ → ℕ → Accepted
-recordJudged p tree events log trace =
-    givenJudged p tree (wholeRecords 2 mostEvents events) (tooShort (length (kinds tree)) log trace)
+unfoldable pub recordJudged : ℕ → ℕ → List ℕ → List ℕ → ℕ → ℕ → Accepted
+recordJudged w p tree events log trace =
+    givenJudged w p tree (wholeRecords 2 mostEvents events) (tooShort (length (kinds tree)) log trace)
 
 -- and of a replay call whose lent run list has so many.
-unfoldable pub replayJudged : ℕ → List ℕ → List ℕ → ℕ → Accepted
-replayJudged p tree trace list = givenJudged p tree (wholeRecords 4 mostTraceRecords trace) (ltb list (4 * length (kinds tree)))
+unfoldable pub replayJudged : ℕ → ℕ → List ℕ → List ℕ → ℕ → Accepted
+replayJudged w p tree trace list = givenJudged w p tree (wholeRecords 4 mostTraceRecords trace) (ltb list (4 * length (kinds tree)))
 
--- Refusals 6 and 7 behind the answer on policy and tree.
+-- A refusal that names no position.
+abbrev pub refusal : ℕ → Accepted
+refusal number = record { number = number; position = 0; steps = 0 }
+
+-- Refusals 6 and 7 behind the answer on policy, count and tree.
 unfoldable pub judged : Accepted → Bool → Bool → Accepted
-judged start whole short =
-    let six : Accepted = record { number = 6; position = 0; steps = 0 } in
-    let seven : Accepted = record { number = 7; position = 0; steps = 0 } in
-    cond (eqb (start .number) 0) (cond whole (cond short seven start) six) start
+judged start whole short = cond (eqb (start .number) 0) (cond whole (cond short (refusal 7) start) (refusal 6)) start

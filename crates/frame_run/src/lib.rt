@@ -7,14 +7,19 @@ use frame_answers::FrameEvent;
 use frame_answers::FrameIdle;
 use frame_answers::FrameOutcome;
 use frame_answers::FrameStart;
+use policy::Setup;
 use run_state::RunState;
 
-// Starts a run of a tree with a policy.
+// Starts a run of a tree with a policy and a count of workers.
 #[no_mangle]
-pub extern "C" fn frame_start(tree: &[u8], policy: u8) -> FrameStart
-    ensures { λ r. ⌜ r ≡ flatStart (startAnswer policy (now (tree .entry))) ⌝ }
+pub extern "C" fn frame_start(tree: &[u8], policy: u8, workers: u8) -> FrameStart
+    ensures { λ r. ⌜ r ≡ flatStart (startAnswer workers policy (now (tree .entry))) ⌝ }
 {
-    frame_answers::flat_start(run_state::start::start(tree, policy))
+    let setup = Setup {
+        policy,
+        workers: workers as u16,
+    };
+    frame_answers::flat_start(run_state::start::start(tree, setup))
 }
 
 // One event: with equal bytes that worker runs its step, with different ones the first steals from the second.

@@ -4,7 +4,6 @@ use mathlib.Core.Bool.{cond}
 use mathlib.Core.List.{List, []}
 use lib.Dec.{ltb}
 use Rattle.rules.specs.Tree.{mostSteps}
-use Rattle.rules.specs.Scheduling.{mostWorkers}
 use Rattle.rules.specs.Program.{printed}
 
 -- No line has more bytes: three numbers of five digits, and a byte behind each. The heading has as many.
@@ -17,4 +16,4 @@ mostText = mostLine + mostLine * mostSteps
 
 -- What is written of an input to a buffer of so many bytes. What is printed is never empty, so nothing says that the buffer is short.
 unfoldable pub textFor : ℕ → List ℕ → List ℕ
-textFor room input = cond (ltb room mostText) [] (printed mostWorkers input)
+textFor room input = cond (ltb room mostText) [] (printed input)

@@ -8,10 +8,10 @@ pub mod report;
 ghost use mathlib.Core.Path.{_≡_};
 ghost use Prim.Native.Nat.{_≤_, _<_};
 ghost use lib.ListN.{length};
-ghost use Rattle.rules.specs.Scheduling.{mostWorkers};
 ghost use Rattle.rules.specs.Calls.{written};
 ghost use Rattle.rules.specs.Program.{phasesText};
 ghost use Rattle.phases_text.specs.Contract.{mostText, textFor};
+use policy::Setup;
 use report::put_listing;
 use report::put_refusal;
 
@@ -24,11 +24,12 @@ const LINE_BYTES: usize = 18;
 // Bytes of the longest text: the heading and a line for each step.
 pub const TEXT_BYTES: usize = LINE_BYTES + LINE_BYTES * tree::MOST_STEPS;
 
-// Replays the tree and the trace of an input, and writes the text. Gives its length. There is room for the longest text.
+// Replays the tree and the trace of an input, as those of a run with the most workers, and writes the text. Gives its length. There
+// is room for the longest text.
 fn put_text(input: &[u8], text: &mut [u8]) -> usize
     requires { ⌜ mostText ≤ length (now text) ⌝ }
-    ensures counts { λ r. ⌜ r ≡ length (phasesText mostWorkers (now (input .entry))) ⌝ }
-    ensures text { λ r. ⌜ now (text .exit) ≡ written (phasesText mostWorkers (now (input .entry))) (now (text .entry)) ⌝ }
+    ensures counts { λ r. ⌜ r ≡ length (phasesText (now (input .entry))) ⌝ }
+    ensures text { λ r. ⌜ now (text .exit) ≡ written (phasesText (now (input .entry))) (now (text .entry)) ⌝ }
 {
     let parts = input::parts_of(input);
     let policy = parts.policy;
@@ -37,7 +38,8 @@ fn put_text(input: &[u8], text: &mut [u8]) -> usize
     let mut list: [u8; LIST_BYTES] = [0; LIST_BYTES];
     let tree = &input[start..end];
     let trace = &input[end..];
-    let replayed = replay::replay(tree, policy, trace, &mut list);
+    let workers = policy::WORKERS as u16;
+    let replayed = replay::replay(tree, Setup { policy, workers }, trace, &mut list);
     if replayed.number != 0 {
         return put_refusal(text, replayed.number as usize, replayed.position);
     }

@@ -5,8 +5,8 @@ ghost use Prim.Native.Nat.{_<_};
 ghost use lib.ListN.{length};
 ghost use lib.Dec.{leb};
 ghost use Rattle.rules.specs.Tree.{kinds};
-ghost use Rattle.rules.specs.Scheduling.{mostWorkers, pushesChild, holds, pushes};
-ghost use Rattle.policy.specs.Contract.{runningOf};
+ghost use Rattle.rules.specs.Scheduling.{pushesChild, holds, pushes};
+ghost use Rattle.policy.specs.Contract.{workerLimit, runningOf};
 ghost use Rattle.tree_tables.specs.Terms.{Ends};
 use tree::ASYNC;
 use tree::END;
@@ -14,13 +14,14 @@ use tree::Step;
 use tree::TREE_RECORD;
 use tree::kind;
 use tree_tables::lookup::cont_by;
+use tree_tables::wide;
 
 // Policies.
 pub const WORK_FIRST: u8 = 1;
 
 pub const HELP_FIRST: u8 = 2;
 
-// Workers of a run.
+// The most workers of a run.
 pub const WORKERS: usize = 16;
 
 // The most steals of a run: one for each task that a step opens.
@@ -29,17 +30,34 @@ pub const MOST_STEALS: usize = 2047;
 // The most phases of a run: one for the start, and one for each steal.
 pub const MOST_PHASES: usize = 2048;
 
+// What a run is set up with: its policy, and how many workers it has.
+pub struct Setup {
+    pub policy: u8,
+    pub workers: u16,
+}
+
 // What running a step does to its worker: it holds a step and pushes one, or it pops.
 pub enum Running {
     Opens { hold: Step, push: Step },
     Ends,
 }
 
-// Whether a byte names no worker of a run.
-pub fn no_worker(worker: u8) -> bool
-    ensures { λ r. ⌜ r ≡ leb mostWorkers worker ⌝ }
+// How many workers a run with this count has: never more than the most, whatever a state may say.
+pub fn limit(workers: u16) -> usize
+    ensures { λ r. ⌜ r ≡ workerLimit workers ⌝ }
 {
-    WORKERS <= worker as usize
+    let count = wide(workers);
+    if count < WORKERS {
+        return count;
+    }
+    WORKERS
+}
+
+// Whether a byte names no worker of a run with this count.
+pub fn no_worker(workers: u16, worker: u8) -> bool
+    ensures { λ r. ⌜ r ≡ leb (workerLimit workers) worker ⌝ }
+{
+    limit(workers) <= worker as usize
 }
 
 // Whether running an opening step of this kind pushes the child and goes on with the parent.

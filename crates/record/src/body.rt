@@ -9,6 +9,7 @@ ghost use Rattle.record_walk.specs.Terms.{Walks};
 ghost use Rattle.record.specs.Body.Terms.{Admitted, Result};
 use buffers::RECORD;
 use policy::MOST_STEALS;
+use policy::Setup;
 use record_walk::Ended;
 use tree::MOST_STEPS;
 use tree_tables::sums::SUMS;
@@ -19,10 +20,11 @@ const LOG_BYTES: usize = RECORD * MOST_STEPS;
 const TRACE_BYTES: usize = RECORD * MOST_STEALS;
 
 // Fills the tables of an accepted tree, and walks the events.
-fn walk_events(tree: &[u8], policy: u8, events: &[u8], log: &mut [u8], trace: &mut [u8]) -> Ended
-    requires { ⌜ startVerdict policy (now tree) .number ≡ 0 ⌝ }
+fn walk_events(tree: &[u8], setup: Setup, events: &[u8], log: &mut [u8], trace: &mut [u8]) -> Ended
+    requires { ⌜ startVerdict (setup .workers) (setup .policy) (now tree) .number ≡ 0 ⌝ }
     requires { ⌜ (length (now log) ≡ 4 * mostSteps) × (length (now trace) ≡ 4 * mostTraceRecords) ⌝ }
-    ensures { λ r. ⌜ Walks policy (now (tree .entry)) (now (events .entry)) r (now (log .exit)) (now (trace .exit)) ⌝ }
+    ensures { λ r.
+        ⌜ Walks (setup .workers) (setup .policy) (now (tree .entry)) (now (events .entry)) r (now (log .exit)) (now (trace .exit)) ⌝ }
 {
     let n = tree::steps(tree);
     let mut ends: [u16; MOST_STEPS] = [0; MOST_STEPS];
@@ -35,7 +37,7 @@ fn walk_events(tree: &[u8], policy: u8, events: &[u8], log: &mut [u8], trace: &m
         &ends[..n],
         &openers[..n],
         &sums,
-        policy,
+        setup,
         events,
         log,
         trace,
@@ -43,15 +45,15 @@ fn walk_events(tree: &[u8], policy: u8, events: &[u8], log: &mut [u8], trace: &m
 }
 
 // Walks the events. The lent log and trace are written where no event is refused.
-pub fn run(tree: &[u8], policy: u8, events: &[u8], log: &mut [u8], trace: &mut [u8]) -> Ended
-    requires { ⌜ Admitted policy (now tree) (now log) (now trace) ⌝ }
+pub fn run(tree: &[u8], setup: Setup, events: &[u8], log: &mut [u8], trace: &mut [u8]) -> Ended
+    requires { ⌜ Admitted (setup .workers) (setup .policy) (now tree) (now log) (now trace) ⌝ }
     ensures { λ r.
-        ⌜ Result policy (now (tree .entry)) (now (events .entry)) (now (log .entry)) (now (trace .entry)) r
-        (now (log .exit)) (now (trace .exit)) ⌝ }
+        ⌜ Result (setup .workers) (setup .policy) (now (tree .entry)) (now (events .entry)) (now (log .entry)) (now (trace .entry))
+        r (now (log .exit)) (now (trace .exit)) ⌝ }
 {
     let mut own_log: [u8; LOG_BYTES] = [0; LOG_BYTES];
     let mut own_trace: [u8; TRACE_BYTES] = [0; TRACE_BYTES];
-    let walked = walk_events(tree, policy, events, &mut own_log, &mut own_trace);
+    let walked = walk_events(tree, setup, events, &mut own_log, &mut own_trace);
     if walked.number != 0 {
         return walked;
     }

@@ -4,28 +4,37 @@ pub mod answer;
 pub mod body;
 
 ghost use mathlib.Core.Path.{_≡_};
-ghost use Rattle.rules.specs.Scheduling.{mostWorkers};
 ghost use Rattle.rules.specs.Calls.{recordCall};
 ghost use Rattle.record.specs.Contract.{answers};
 use answer::Recorded;
+use policy::Setup;
 
-// Records a list of events: refusals 1 to 12, or the log and the trace at the front of the lent buffers.
-pub fn record(tree: &[u8], policy: u8, events: &[u8], log: &mut [u8], trace: &mut [u8]) -> Recorded
+// Records a list of events: refusals 1 to 12 and 16, or the log and the trace at the front of the lent buffers.
+pub fn record(
+    tree: &[u8],
+    setup: Setup,
+    events: &[u8],
+    log: &mut [u8],
+    trace: &mut [u8],
+) -> Recorded
     ensures answers { λ r.
-        let call = recordCall mostWorkers policy (now (tree .entry)) (now (events .entry)) (now (log .entry)) (now (trace .entry)) in
+        let call = recordCall (setup .workers) (setup .policy) (now (tree .entry)) (now (events .entry)) (now (log .entry))
+        (now (trace .entry)) in
         ⌜ r ≡ answers call ⌝ }
     ensures log { λ r.
-        let call = recordCall mostWorkers policy (now (tree .entry)) (now (events .entry)) (now (log .entry)) (now (trace .entry)) in
+        let call = recordCall (setup .workers) (setup .policy) (now (tree .entry)) (now (events .entry)) (now (log .entry))
+        (now (trace .entry)) in
         ⌜ now (log .exit) ≡ call .log ⌝ }
     ensures trace { λ r.
-        let call = recordCall mostWorkers policy (now (tree .entry)) (now (events .entry)) (now (log .entry)) (now (trace .entry)) in
+        let call = recordCall (setup .workers) (setup .policy) (now (tree .entry)) (now (events .entry)) (now (log .entry))
+        (now (trace .entry)) in
         ⌜ now (trace .exit) ≡ call .trace ⌝ }
 {
-    let admitted = arguments::judge_record(tree, policy, events, log.len(), trace.len());
+    let admitted = arguments::judge_record(tree, setup, events, log.len(), trace.len());
     if admitted.number != 0 {
         return answer::refused(admitted.number, admitted.position);
     }
-    let walked = body::run(tree, policy, events, log, trace);
+    let walked = body::run(tree, setup, events, log, trace);
     let last = admitted.steps - 1;
     let loads = walked.loads;
     answer::answer(

@@ -1,4 +1,4 @@
--- What the walk over the events comes to.
+-- What the walk over the events comes to, of a run of w workers.
 use Prim.Native.Nat.{ℕ}
 use mathlib.Core.Path.{_≡_}
 use mathlib.Core.List.{List}
@@ -25,7 +25,7 @@ pub record Reached (p : ℕ) (tree : List ℕ) (s : Run) (r : Ended) (log trace 
   pub traced : Front (traceBytes p (kinds tree) (s .steals)) trace
 
 -- The rules' verdict and, where no event is refused, the rules' run.
-pub record Walks (p : ℕ) (tree events : List ℕ) (r : Ended) (log trace : List ℕ) : Type 0 where
-  pub number : r .number ≡ recordWalk mostWorkers p (kinds tree) (records 2 events) .verdict .number
-  pub position : r .position ≡ recordWalk mostWorkers p (kinds tree) (records 2 events) .verdict .position
-  pub reached : r .number ≡ 0 → Reached p tree (recordWalk mostWorkers p (kinds tree) (records 2 events) .state) r log trace
+pub record Walks (w p : ℕ) (tree events : List ℕ) (r : Ended) (log trace : List ℕ) : Type 0 where
+  pub number : r .number ≡ recordWalk w p (kinds tree) (records 2 events) .verdict .number
+  pub position : r .position ≡ recordWalk w p (kinds tree) (records 2 events) .verdict .position
+  pub reached : r .number ≡ 0 → Reached p tree (recordWalk w p (kinds tree) (records 2 events) .state) r log trace

@@ -10,6 +10,7 @@ ghost use Rattle.rules.specs.Calls.{mostTraceRecords, startVerdict};
 ghost use Rattle.tree_tables.specs.Terms.{Ends, Openers, Sums};
 ghost use Rattle.record_walk.specs.Terms.{Walks};
 use buffers::EVENT;
+use policy::Setup;
 use policy::WORKERS;
 use run_deques::NOT_RUN;
 use run_spec::Event;
@@ -47,17 +48,18 @@ pub fn walk(
     ends: &[u16],
     openers: &[u16],
     sums: &[u64],
-    policy: u8,
+    setup: Setup,
     events: &[u8],
     log: &mut [u8],
     trace: &mut [u8],
 ) -> Ended
-    requires { ⌜ startVerdict policy (now tree) .number ≡ 0 ⌝ }
+    requires { ⌜ startVerdict (setup .workers) (setup .policy) (now tree) .number ≡ 0 ⌝ }
     requires { let ks = kinds (now tree) in ⌜ (length (now ends) ≡ length ks) × Ends ks (now ends) (length (now ends)) ⌝ }
     requires { let ks = kinds (now tree) in ⌜ (length (now openers) ≡ length ks) × Openers ks (now openers) (length (now openers)) ⌝ }
     requires { let n = length (kinds (now tree)) in ⌜ (n < length (now sums)) × Sums (weights (now tree)) (now sums) n ⌝ }
     requires { ⌜ (length (now log) ≡ 4 * mostSteps) × (length (now trace) ≡ 4 * mostTraceRecords) ⌝ }
-    ensures { λ r. ⌜ Walks policy (now (tree .entry)) (now (events .entry)) r (now (log .exit)) (now (trace .exit)) ⌝ }
+    ensures { λ r.
+        ⌜ Walks (setup .workers) (setup .policy) (now (tree .entry)) (now (events .entry)) r (now (log .exit)) (now (trace .exit)) ⌝ }
 {
     let n = tree::steps(tree);
     let mut place: [u8; MOST_STEPS] = [NOT_RUN; MOST_STEPS];
@@ -85,7 +87,7 @@ pub fn walk(
             &mut low,
             &mut base,
             steals,
-            policy,
+            setup,
             event,
         );
         let before = wide(steals);

@@ -2,15 +2,18 @@
 // list is written once every record is accepted.
 ghost use Rattle.replay.specs.Body.Terms.{Admitted, Result};
 use policy::MOST_PHASES;
+use policy::Setup;
 use replay_spec::FREE;
 use replay_walk::Ended;
 use tree::MOST_STEPS;
 use tree_tables::sums::SUMS;
 
 // Walks the trace of a tree of n steps. The lent list is written where no record is refused.
-pub fn run(tree: &[u8], policy: u8, trace: &[u8], n: usize, list: &mut [u8]) -> Ended
-    requires { ⌜ Admitted policy (now tree) (now trace) n (now list) ⌝ }
-    ensures { λ r. ⌜ Result policy (now (tree .entry)) (now (trace .entry)) (now (list .entry)) r (now (list .exit)) ⌝ }
+pub fn run(tree: &[u8], setup: Setup, trace: &[u8], n: usize, list: &mut [u8]) -> Ended
+    requires { ⌜ Admitted (setup .workers) (setup .policy) (now tree) (now trace) n (now list) ⌝ }
+    ensures { λ r.
+        let ended = Result (setup .workers) (setup .policy) (now (tree .entry)) (now (trace .entry)) (now (list .entry)) r in
+        ⌜ ended (now (list .exit)) ⌝ }
 {
     let mut ends: [u16; MOST_STEPS] = [0; MOST_STEPS];
     let mut openers: [u16; MOST_STEPS] = [0; MOST_STEPS];
@@ -24,7 +27,7 @@ pub fn run(tree: &[u8], policy: u8, trace: &[u8], n: usize, list: &mut [u8]) -> 
         &ends[..n],
         &openers[..n],
         &sums,
-        policy,
+        setup,
         trace,
         &mut labels[..n],
         &mut firsts,
@@ -37,7 +40,7 @@ pub fn run(tree: &[u8], policy: u8, trace: &[u8], n: usize, list: &mut [u8]) -> 
         &ends[..n],
         &labels[..n],
         &firsts,
-        policy,
+        setup.policy,
         walked.phases,
         list,
     );

@@ -4,25 +4,25 @@ pub mod answer;
 pub mod body;
 
 ghost use mathlib.Core.Path.{_≡_};
-ghost use Rattle.rules.specs.Scheduling.{mostWorkers};
 ghost use Rattle.rules.specs.Calls.{replayCall};
 ghost use Rattle.replay.specs.Contract.{answers};
 use answer::Replayed;
+use policy::Setup;
 
-// Replays a trace: refusals 1 to 8 and 13 to 15, or the run list at the front of the lent buffer.
-pub fn replay(tree: &[u8], policy: u8, trace: &[u8], list: &mut [u8]) -> Replayed
+// Replays a trace: refusals 1 to 8 and 13 to 16, or the run list at the front of the lent buffer.
+pub fn replay(tree: &[u8], setup: Setup, trace: &[u8], list: &mut [u8]) -> Replayed
     ensures answers { λ r.
-        let call = replayCall mostWorkers policy (now (tree .entry)) (now (trace .entry)) (now (list .entry)) in
+        let call = replayCall (setup .workers) (setup .policy) (now (tree .entry)) (now (trace .entry)) (now (list .entry)) in
         ⌜ r ≡ answers call ⌝ }
     ensures list { λ r.
-        let call = replayCall mostWorkers policy (now (tree .entry)) (now (trace .entry)) (now (list .entry)) in
+        let call = replayCall (setup .workers) (setup .policy) (now (tree .entry)) (now (trace .entry)) (now (list .entry)) in
         ⌜ now (list .exit) ≡ call .list ⌝ }
 {
-    let admitted = arguments::judge_replay(tree, policy, trace, list.len());
+    let admitted = arguments::judge_replay(tree, setup, trace, list.len());
     if admitted.number != 0 {
         return answer::refused(admitted.number, admitted.position);
     }
-    let walked = body::run(tree, policy, trace, admitted.steps, list);
+    let walked = body::run(tree, setup, trace, admitted.steps, list);
     let loads = walked.loads;
     answer::answer(walked.number, walked.position, walked.phases, loads)
 }

@@ -7,15 +7,15 @@ use policy::WORKERS;
 use policy::no_worker;
 use replay_spec::NO_PHASE;
 
-// Refusals 8, 13 and 14 of a record, 0 for none.
-pub fn judge_workers(latest: &[u16; WORKERS], thief: u8, victim: u8) -> u8
+// Refusals 8, 13 and 14 of a record in a run with this count of workers, 0 for none.
+pub fn judge_workers(latest: &[u16; WORKERS], workers: u16, thief: u8, victim: u8) -> u8
     requires { ⌜ length (now latest) ≡ mostWorkers ⌝ }
-    ensures { λ r. ⌜ r ≡ judgedWorkers (now (latest .entry)) thief victim ⌝ }
+    ensures { λ r. ⌜ r ≡ judgedWorkers workers (now (latest .entry)) thief victim ⌝ }
 {
-    if no_worker(thief) {
+    if no_worker(workers, thief) {
         return 8;
     }
-    if no_worker(victim) {
+    if no_worker(workers, victim) {
         return 8;
     }
     if thief == victim {

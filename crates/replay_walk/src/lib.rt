@@ -14,6 +14,7 @@ ghost use Rattle.replay_invariant.specs.Terms.{free};
 ghost use Rattle.policy.specs.Contract.{mostPhases};
 ghost use Rattle.replay_walk.specs.Terms.{Retraced};
 use policy::MOST_PHASES;
+use policy::Setup;
 use policy::WORKERS;
 use replay_spec::Begun;
 use replay_spec::NO_PHASE;
@@ -48,12 +49,13 @@ pub fn walk(
     ends: &[u16],
     openers: &[u16],
     sums: &[u64],
-    policy: u8,
+    setup: Setup,
     trace: &[u8],
     labels: &mut [u16],
     firsts: &mut [u16; MOST_PHASES],
 ) -> Ended
-    requires { ⌜ (startVerdict policy (now tree) .number ≡ 0) × (wholeRecords 4 mostTraceRecords (now trace) ≡ true) ⌝ }
+    requires { let start = startVerdict (setup .workers) (setup .policy) (now tree) in
+        ⌜ (start .number ≡ 0) × (wholeRecords 4 mostTraceRecords (now trace) ≡ true) ⌝ }
     requires { let ks = kinds (now tree) in
         ⌜ (length (now ends) ≡ length ks) × Ends ks (now ends) (length (now ends)) ⌝ }
     requires { let ks = kinds (now tree) in
@@ -61,7 +63,9 @@ pub fn walk(
     requires { let n = length (kinds (now tree)) in
         ⌜ (n < length (now sums)) × Sums (weights (now tree)) (now sums) n ⌝ }
     requires { ⌜ (now labels ≡ replicate (length (kinds (now tree))) free) × (length (now firsts) ≡ mostPhases) ⌝ }
-    ensures { λ r. ⌜ Retraced policy (now (tree .entry)) (now (trace .entry)) r (now (labels .exit)) (now (firsts .exit)) ⌝ }
+    ensures { λ r.
+        let ended = Retraced (setup .workers) (setup .policy) (now (tree .entry)) (now (trace .entry)) r in
+        ⌜ ended (now (labels .exit)) (now (firsts .exit)) ⌝ }
 {
     let mut bases: [u16; MOST_PHASES] = [0; MOST_PHASES];
     let mut ordinals: [u16; MOST_PHASES] = [0; MOST_PHASES];
@@ -74,7 +78,12 @@ pub fn walk(
         let at = k;
         k += 1;
         let steal = trace::record_at(trace, at);
-        let refusal = replay_steal::workers::judge_workers(&latest, steal.thief, steal.victim);
+        let refusal = replay_steal::workers::judge_workers(
+            &latest,
+            setup.workers,
+            steal.thief,
+            steal.victim,
+        );
         if refusal != 0 {
             return refused(refusal, at);
         }
@@ -82,7 +91,7 @@ pub fn walk(
         let victim = steal.victim as usize;
         // The victim's latest phase. The record begins phase k.
         let phase = Phase(wide(latest[victim]));
-        let number = trace::number::decode_number(policy, steal.number);
+        let number = trace::number::decode_number(setup.policy, steal.number);
         match replay_steal::read_steal(
             tree,
             ends,

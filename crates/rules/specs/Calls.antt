@@ -1,14 +1,14 @@
--- Document 01, "Refusals": what whole calls answer and write, from their arguments alone. `w` is the number of workers,
--- `mostWorkers` so far; `p` the policy's byte. "A refused call returns the number and the position (0 where none is named), all
--- other results 0, and changes no buffer."
+-- Document 01, "Refusals": what whole calls answer and write, from their arguments alone. `w` is the run's count of workers,
+-- which is document 02's, #101; `p` the policy's byte. "A refused call returns the number and the position (0 where none is named),
+-- all other results 0, and changes no buffer."
 use Prim.Native.Nat.{ℕ, _-_, _*_}
-use mathlib.Core.Bool.{Bool, false, cond, _||_, not}
+use mathlib.Core.Bool.{Bool, false, cond, _&&_, _||_, not}
 use mathlib.Core.List.{List, [], _∷_, _++_}
 use lib.ListN.{length, drop, replicate}
-use lib.Dec.{eqb, ltb}
+use lib.Dec.{eqb, ltb, leb}
 use Rattle.rules.specs.Bytes.{records, wholeRecords, count, all, Verdict, accepted, refusedIf, firstRefused, Walked, walk}
 use Rattle.rules.specs.Tree.{kinds, weights, treeVerdict}
-use Rattle.rules.specs.Scheduling.{workFirst, helpFirst, Phase, Run, start, hasRun, judgeEvent, nextRun}
+use Rattle.rules.specs.Scheduling.{workFirst, helpFirst, mostWorkers, Phase, Run, start, hasRun, judgeEvent, nextRun}
 use Rattle.rules.specs.Traces.{traceBytes, entryBytes, replayWalk, runList, loads, heaviest}
 
 abbrev pub mostEvents : ℕ
@@ -18,9 +18,16 @@ abbrev pub mostTraceRecords : ℕ
 mostTraceRecords = 2047
 
 --     1  "The policy is neither 1 (work-first) nor 2 (help-first)."
+unfoldable pub policyVerdict : ℕ → Verdict
+policyVerdict p = refusedIf (not (eqb p workFirst || eqb p helpFirst)) 1 0
+
+--    16  "A count outside 1 to 16, judged directly after 1."
+unfoldable pub countVerdict : ℕ → Verdict
+countVerdict w = refusedIf (not (leb 1 w && leb w mostWorkers)) 16 0
+
 --     2 to 5  by the tree.
-unfoldable pub startVerdict : ℕ → List ℕ → Verdict
-startVerdict p tree = firstRefused (refusedIf (not (eqb p workFirst || eqb p helpFirst)) 1 0 ∷ treeVerdict tree ∷ [])
+unfoldable pub startVerdict : ℕ → ℕ → List ℕ → Verdict
+startVerdict w p tree = firstRefused (policyVerdict p ∷ countVerdict w ∷ treeVerdict tree ∷ [])
 
 -- ---- single events
 
@@ -71,7 +78,7 @@ recordWalk w p ks es = walk (judgeEvent ks) (nextRun p ks) 0 (start w) es
 unfoldable pub recordVerdict : ℕ → ℕ → List ℕ → List ℕ → List ℕ → List ℕ → Verdict
 recordVerdict w p tree events log trace =
     firstRefused
-    (startVerdict p tree
+    (startVerdict w p tree
     ∷ refusedIf (not (wholeRecords 2 mostEvents events)) 6 0
     ∷ refusedIf (ltb (length log) (4 * length (kinds tree)) || ltb (length trace) (2 * (length (kinds tree) - 1))) 7 0
     ∷ recordWalk w p (kinds tree) (records 2 events) .verdict
@@ -81,10 +88,11 @@ recordVerdict w p tree events log trace =
 unfoldable pub finished : List ℕ → Run → Bool
 finished ks s = all (hasRun (s .log)) (count 0 (length ks))
 
-unfoldable pub recordOf : ℕ → ℕ → List ℕ → Run → List ℕ → List ℕ → Recorded
-recordOf w p tree s log trace =
+-- Sixteen loads, whatever the count: a worker that the run does not have has no phase, and its load is 0.
+unfoldable pub recordOf : ℕ → List ℕ → Run → List ℕ → List ℕ → Recorded
+recordOf p tree s log trace =
     let ks = kinds tree in
-    let ls = loads w ks (weights tree) (s .phases) in
+    let ls = loads mostWorkers ks (weights tree) (s .phases) in
     record {
       verdict = accepted;
       logCount = length (s .log);
@@ -96,14 +104,14 @@ recordOf w p tree s log trace =
       trace = written (traceBytes p ks (s .steals)) trace;
     }
 
-unfoldable pub recordRefused : ℕ → Verdict → List ℕ → List ℕ → Recorded
-recordRefused w refusal log trace =
+unfoldable pub recordRefused : Verdict → List ℕ → List ℕ → Recorded
+recordRefused refusal log trace =
     record {
       verdict = refusal;
       logCount = 0;
       traceCount = 0;
       finished = false;
-      loads = replicate w 0;
+      loads = replicate mostWorkers 0;
       heaviest = 0;
       log = log;
       trace = trace;
@@ -111,9 +119,9 @@ recordRefused w refusal log trace =
 
 unfoldable pub recordCall : ℕ → ℕ → List ℕ → List ℕ → List ℕ → List ℕ → Recorded
 recordCall w p tree events log trace =
-    let answer = recordOf w p tree (recordWalk w p (kinds tree) (records 2 events) .state) log trace in
+    let answer = recordOf p tree (recordWalk w p (kinds tree) (records 2 events) .state) log trace in
     let refusal = recordVerdict w p tree events log trace in
-    cond (eqb (refusal .number) 0) answer (recordRefused w refusal log trace)
+    cond (eqb (refusal .number) 0) answer (recordRefused refusal log trace)
 
 -- ---- replay
 
@@ -131,16 +139,16 @@ pub record Replayed : Type 0 where
 unfoldable pub replayVerdict : ℕ → ℕ → List ℕ → List ℕ → List ℕ → Verdict
 replayVerdict w p tree trace list =
     firstRefused
-    (startVerdict p tree
+    (startVerdict w p tree
     ∷ refusedIf (not (wholeRecords 4 mostTraceRecords trace)) 6 0
     ∷ refusedIf (ltb (length list) (4 * length (kinds tree))) 7 0
     ∷ replayWalk w p (kinds tree) (records 4 trace) .verdict
     ∷ [])
 
-unfoldable pub replayOf : ℕ → ℕ → List ℕ → List Phase → List ℕ → Replayed
-replayOf w p tree phs list =
+unfoldable pub replayOf : ℕ → List ℕ → List Phase → List ℕ → Replayed
+replayOf p tree phs list =
     let ks = kinds tree in
-    let ls = loads w ks (weights tree) phs in
+    let ls = loads mostWorkers ks (weights tree) phs in
     record {
       verdict = accepted;
       phaseCount = length phs;
@@ -149,12 +157,12 @@ replayOf w p tree phs list =
       list = written (entryBytes (runList p ks phs)) list;
     }
 
-unfoldable pub replayRefused : ℕ → Verdict → List ℕ → Replayed
-replayRefused w refusal list =
-    record { verdict = refusal; phaseCount = 0; loads = replicate w 0; heaviest = 0; list = list }
+unfoldable pub replayRefused : Verdict → List ℕ → Replayed
+replayRefused refusal list =
+    record { verdict = refusal; phaseCount = 0; loads = replicate mostWorkers 0; heaviest = 0; list = list }
 
 unfoldable pub replayCall : ℕ → ℕ → List ℕ → List ℕ → List ℕ → Replayed
 replayCall w p tree trace list =
-    let answer = replayOf w p tree (replayWalk w p (kinds tree) (records 4 trace) .state) list in
+    let answer = replayOf p tree (replayWalk w p (kinds tree) (records 4 trace) .state) list in
     let refusal = replayVerdict w p tree trace list in
-    cond (eqb (refusal .number) 0) answer (replayRefused w refusal list)
+    cond (eqb (refusal .number) 0) answer (replayRefused refusal list)

@@ -21,8 +21,9 @@ use Rattle.rules.specs.Traces.{traceNumber, traceBytes, entryBytes, from
 use Rattle.rules.specs.Traces.{childCount, taskStep, ordinalAllowed, startsAsync, followsFinish, serialAllowed}
 use Rattle.rules.specs.Traces.{numberAllowed, stolenStep, recordNumber, judgeRead, judgeTraceRecord, nextPhases, replayWalk}
 use Rattle.rules.specs.Traces.{runAlone, runningOrder, runList, phaseLoad, workerLoad, loads, largest, firstAt, heaviest}
-use Rattle.rules.specs.Calls.{startVerdict, eventCall, written, Recorded, recordWalk, recordVerdict, finished, recordOf}
-use Rattle.rules.specs.Calls.{recordRefused, recordCall, Replayed, replayVerdict, replayOf, replayRefused, replayCall}
+use Rattle.rules.specs.Calls.{policyVerdict, countVerdict, startVerdict, eventCall, written, Recorded, recordWalk}
+use Rattle.rules.specs.Calls.{recordVerdict, finished, recordOf, recordRefused, recordCall, Replayed, replayVerdict}
+use Rattle.rules.specs.Calls.{replayOf, replayRefused, replayCall}
 
 -- ---- cases and answers
 
@@ -60,8 +61,8 @@ replayAnswer r = ifAccepted (r .verdict) (phases (map (λ k. stepsOf k (records 
 unfoldable pub idleAnswer : List ℕ → Run → Answer
 idleAnswer ks s = idle (finished ks s) (idleSet (s .workers)) (idleCount (s .workers)) (idleLowest 0 (s .workers))
 
--- Whoever unfolds it unfolds all the rules.
-unfoldable pub answer : Case → Answer
+-- What a run of w workers answers. Whoever unfolds it unfolds all the rules.
+unfoldable pub answerWith : ℕ → Case → Answer
 unfolding idleAnswer replayAnswer recordAnswer stepsOf ifAccepted littleEndian twoBytes cut records wholeRecords count all any
     sum accepted refusedIf firstRefused walk treeRecords kind isAsync isFinish isEnd weight kinds weights kindAt root
     innermost leave enter openTasks taskAt task ordinal openAfter afterEnds taskEnd cont finishChild finishBefore wellFormed
@@ -69,14 +70,19 @@ unfolding idleAnswer replayAnswer recordAnswer stepsOf ifAccepted littleEndian t
     idleWorker start workerAt hasRun waits isRun judgeRun runStep holdsStep judgeSteal oldest steal judgeEvent nextRun idleSet
     idleCount idleLowest traceNumber traceBytes entryBytes fromStep covers latestPhase lastStolen frontier childCount taskStep
     ordinalAllowed startsAsync followsFinish serialAllowed numberAllowed stolenStep recordNumber judgeRead judgeTraceRecord
-    nextPhases replayWalk runAlone runningOrder runList phaseLoad workerLoad loads largest firstAt heaviest startVerdict
-    eventCall written recordWalk recordVerdict finished recordOf recordRefused recordCall replayVerdict replayOf replayRefused
-    replayCall flatten zipWith
-answer (recording p tree events) =
+    nextPhases replayWalk runAlone runningOrder runList phaseLoad workerLoad loads largest firstAt heaviest policyVerdict
+    countVerdict startVerdict eventCall written recordWalk recordVerdict finished recordOf recordRefused recordCall
+    replayVerdict replayOf replayRefused replayCall flatten zipWith
+answerWith w (recording p tree events) =
     recordAnswer
-    (recordCall mostWorkers p tree events (replicate (4 * length (kinds tree)) 0) (replicate (2 * (length (kinds tree) - 1)) 0))
-answer (replaying p tree trace) = replayAnswer (replayCall mostWorkers p tree trace (replicate (4 * length (kinds tree)) 0))
-answer (idling p tree events) = idleAnswer (kinds tree) (recordWalk mostWorkers p (kinds tree) (records 2 events) .state)
+    (recordCall w p tree events (replicate (4 * length (kinds tree)) 0) (replicate (2 * (length (kinds tree) - 1)) 0))
+answerWith w (replaying p tree trace) = replayAnswer (replayCall w p tree trace (replicate (4 * length (kinds tree)) 0))
+answerWith w (idling p tree events) = idleAnswer (kinds tree) (recordWalk w p (kinds tree) (records 2 events) .state)
+
+-- With sixteen.
+unfoldable pub answer : Case → Answer
+unfolding answerWith
+answer c = answerWith mostWorkers c
 
 -- A case and what is said of it.
 pub record Row : Type 0 where
@@ -108,7 +114,7 @@ oneEnd = ofKinds (3 ∷ [])
 -- ---- the table
 
 -- The first seven events of P1.
-unfoldable seven : List ℕ
+unfoldable pub seven : List ℕ
 seven = bytes 14 0x0000_0100_0101_0201_0101_0000_0001
 
 unfoldable one : Case → Answer → List Row

@@ -4,7 +4,6 @@ use Prim.Native.Nat.{ℕ}
 use mathlib.Core.Path.{_≡_, refl}
 use mathlib.Core.List.{List, [], _∷_, _++_, map, flatten}
 use lib.ListN.{take}
-use Rattle.rules.specs.Scheduling.{mostWorkers}
 use Rattle.rules.specs.Program.{inputPolicy, inputCount, inputTree, inputTrace, digits, decimal, line, heading, phaseLines}
 use Rattle.rules.specs.Program.{refusedLine, phasesText, printed}
 use Rattle.rules.specs.Cases.{answer, bytes, ofKinds, S, oneEnd}
@@ -48,7 +47,7 @@ texts =
     ∷ bytes 12 0x7265_6675_7365_6420_3520_350a
     ∷ []
 
-printed-as-shown : map (printed mostWorkers) inputs ≡ texts
+printed-as-shown : map printed inputs ≡ texts
 unfolding answer bytes ofKinds S oneEnd fed inputs texts inputPolicy inputCount inputTree inputTrace digits decimal line heading
     phaseLines refusedLine phasesText printed flatten
 printed-as-shown = refl
@@ -59,7 +58,7 @@ unfolding bytes inputCount
 count-258 = refl
 
 -- Of an input it reads the first 49,152 bytes.
-printed-of-longer : (input : List ℕ) → printed mostWorkers input ≡ phasesText mostWorkers (take 49152 input)
+printed-of-longer : (input : List ℕ) → printed input ≡ phasesText (take 49152 input)
 unfolding printed
 printed-of-longer input = refl
 

@@ -42,11 +42,11 @@ unfoldable around : List ℕ
 around = ofKinds (1 ∷ 2 ∷ 3 ∷ 3 ∷ 3 ∷ [])
 
 -- Fifteen asyncs in the root, one after the other.
-unfoldable flat : List ℕ
+unfoldable pub flat : List ℕ
 flat = ofKinds (flatten (replicate 15 (1 ∷ 3 ∷ [])) ++ (3 ∷ []))
 
 -- Each other worker steals once from worker 0.
-unfoldable allSteal : List ℕ
+unfoldable pub allSteal : List ℕ
 allSteal = flatten (map (λ w. w ∷ 0 ∷ []) (count 1 15))
 
 -- Recordings, and idle workers.
@@ -214,7 +214,7 @@ events-in-turn = refl
 
 -- ---- trees
 
-unfoldable bad : ℕ → ℕ → Verdict
+unfoldable pub bad : ℕ → ℕ → Verdict
 bad number position = record { number = number; position = position }
 
 record TreeRow : Type 0 where
@@ -320,7 +320,7 @@ unfoldable weighted : List ℕ
 weighted = bytes 24 0x0100_0000_0100_0000_0300_0000_0200_0000_0300_0000_0001_0000
 
 -- Sixteen loads, of which these are the first.
-unfoldable sixteenLoads : List ℕ → List ℕ
+unfoldable pub sixteenLoads : List ℕ → List ℕ
 sixteenLoads ls = take 16 (ls ++ replicate 16 0)
 
 -- A record call on `weighted`: policy, events, log, trace; and what it answers.
@@ -336,11 +336,10 @@ recordRow policy events log trace says =
     record { policy = policy; events = events; log = log; trace = trace; says = says }
 
 -- A refused recording: the number and the position, the other answers 0, the buffers as they were.
-unfoldable recordRefusal : ℕ → List ℕ → List ℕ → List ℕ → ℕ → ℕ → RecordRow
-recordRefusal policy events log trace number position =
-    recordRow policy events log trace
-    (record {
-      verdict = bad number position;
+unfoldable pub notRecorded : Verdict → List ℕ → List ℕ → Recorded
+notRecorded v log trace =
+    record {
+      verdict = v;
       logCount = 0;
       traceCount = 0;
       finished = false;
@@ -348,7 +347,11 @@ recordRefusal policy events log trace number position =
       heaviest = 0;
       log = log;
       trace = trace;
-    })
+    }
+
+unfoldable recordRefusal : ℕ → List ℕ → List ℕ → List ℕ → ℕ → ℕ → RecordRow
+recordRefusal policy events log trace number position =
+    recordRow policy events log trace (notRecorded (bad number position) log trace)
 
 -- An accepted recording in which worker 5 takes step 2: how many steps have run, whether all have, and the buffers.
 unfoldable recordTaken : List ℕ → List ℕ → List ℕ → ℕ → Bool → List ℕ → List ℕ → RecordRow
@@ -387,7 +390,7 @@ recordings =
 
 recordings-as-stated :
     map (λ r. recordCall mostWorkers (r .policy) weighted (r .events) (r .log) (r .trace)) recordings ≡ map (λ r. r .says) recordings
-unfolding answer bytes recordings recordRow recordRefusal recordTaken weighted sixteenLoads bad
+unfolding answer bytes recordings recordRow notRecorded recordRefusal recordTaken weighted sixteenLoads bad
 recordings-as-stated = refl
 
 -- A replay call under work-first on a tree: trace, list; and what it answers.
@@ -551,20 +554,17 @@ phases-replayed = refl
 
 -- ---- whole calls: the longest lists, by their length alone
 
--- What start, recording and replay say of a tree, where the events or the trace have one byte and the buffers none.
-unfoldable saidOf : List ℕ → List Verdict
-saidOf t =
-    startVerdict workFirst t
-    ∷ recordVerdict mostWorkers workFirst t (0 ∷ []) [] []
-    ∷ replayVerdict mostWorkers workFirst t (0 ∷ []) []
-    ∷ []
+-- What start, recording and replay say of a count, a policy and a tree, where the events or the trace have one byte and the
+-- buffers none.
+unfoldable pub saidOf : ℕ → ℕ → List ℕ → List Verdict
+saidOf w p t = startVerdict w p t ∷ recordVerdict w p t (0 ∷ []) [] [] ∷ replayVerdict w p t (0 ∷ []) [] ∷ []
 
 -- As the tree's own verdict, with 4,095 records and with 4,096.
-said-of-4095 : (t : List ℕ) → length t ≡ 32752 → saidOf (replicate 8 0 ++ t) ≡ replicate 3 (bad 3 0)
+said-of-4095 : (t : List ℕ) → length t ≡ 32752 → saidOf mostWorkers workFirst (replicate 8 0 ++ t) ≡ replicate 3 (bad 3 0)
 unfolding answer bad saidOf
 said-of-4095 t e = rw e refl
 
-said-of-4096 : (t : List ℕ) → length t ≡ 32760 → saidOf (replicate 8 0 ++ t) ≡ replicate 3 (bad 2 0)
+said-of-4096 : (t : List ℕ) → length t ≡ 32760 → saidOf mostWorkers workFirst (replicate 8 0 ++ t) ≡ replicate 3 (bad 2 0)
 unfolding answer bad saidOf
 said-of-4096 t e = rw e refl
 

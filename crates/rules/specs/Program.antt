@@ -6,7 +6,7 @@ use lib.ListN.{length, take, drop, getD, replicate}
 use lib.Dec.{eqb, ltb}
 use Rattle.rules.specs.Bytes.{records, Verdict}
 use Rattle.rules.specs.Tree.{kinds}
-use Rattle.rules.specs.Scheduling.{Phase, phaseAt, Entry}
+use Rattle.rules.specs.Scheduling.{mostWorkers, Phase, phaseAt, Entry}
 use Rattle.rules.specs.Traces.{replayWalk, runList}
 use Rattle.rules.specs.Calls.{replayVerdict}
 
@@ -57,16 +57,16 @@ phaseLines phs entries = flatten (map (λ e. line (e .phase ∷ phaseAt phs (e .
 unfoldable pub refusedLine : Verdict → List ℕ
 refusedLine v = 114 ∷ 101 ∷ 102 ∷ 117 ∷ 115 ∷ 101 ∷ 100 ∷ 32 ∷ line (v .number ∷ v .position ∷ [])
 
--- What it prints for the bytes that it reads, where the run has w workers. Its own run list is never short.
-unfoldable pub phasesText : ℕ → List ℕ → List ℕ
-phasesText w input =
+-- What it prints for the bytes that it reads. "The program `phases` uses 16" workers. Its own run list is never short.
+unfoldable pub phasesText : List ℕ → List ℕ
+phasesText input =
     let p = inputPolicy input in
     let tree = inputTree input in
-    let refusal = replayVerdict w p tree (inputTrace input) (replicate (4 * length (kinds tree)) 0) in
-    let phs = replayWalk w p (kinds tree) (records 4 (inputTrace input)) .state in
+    let refusal = replayVerdict mostWorkers p tree (inputTrace input) (replicate (4 * length (kinds tree)) 0) in
+    let phs = replayWalk mostWorkers p (kinds tree) (records 4 (inputTrace input)) .state in
     let lines = phaseLines phs (runList p (kinds tree) phs) in
     cond (eqb (refusal .number) 0) (heading ++ lines) (refusedLine refusal)
 
 -- What it prints for all that standard input holds.
-unfoldable pub printed : ℕ → List ℕ → List ℕ
-printed w input = phasesText w (take mostInput input)
+unfoldable pub printed : List ℕ → List ℕ
+printed input = phasesText (take mostInput input)

@@ -15,7 +15,7 @@ workFirst = 1
 abbrev pub helpFirst : ℕ
 helpFirst = 2
 
--- There are sixteen workers. The rules take the count as an argument, so that a run may have fewer.
+-- A run has at most sixteen workers. How many it has is its own count.
 abbrev pub mostWorkers : ℕ
 mostWorkers = 16
 
@@ -101,7 +101,8 @@ pub record Run : Type 0 where
 unfoldable pub idleWorker : Worker
 idleWorker = record { hand = record { held = none; deque = [] }; phase = 0 }
 
--- "Worker 0 holds step 0 and that begins phase 0. The other 15 workers are idle: they hold no step." Here of w workers.
+-- "Worker 0 holds step 0 and that begins phase 0. The other 15 workers are idle: they hold no step." Here of w workers: the run
+-- keeps its count as the length of its list.
 unfoldable pub start : ℕ → Run
 start w =
     record {
@@ -183,7 +184,7 @@ steal s thief victim =
     }
 
 -- An event's refusal, 0 for none.
---     8  "A record names worker 16 or higher": one that the run does not have.
+--     8  "A record names worker 16 or higher", which "now means a worker at or above that count".
 unfoldable pub judgeEvent : List ℕ → Run → List ℕ → ℕ
 judgeEvent ks s e =
     cond (leb (length (s .workers)) (getD e 0 0) || leb (length (s .workers)) (getD e 1 0)) 8
@@ -195,7 +196,7 @@ nextRun p ks s e = cond (isRun e) (runStep p ks s (getD e 0 0)) (steal s (getD e
 
 -- ---- the idle workers
 
--- "The set of idle workers as sixteen bits (worker w is bit w)."
+-- "The set of idle workers as sixteen bits (worker w is bit w)", which "has bits only below" the run's count.
 unfoldable pub idleSet : List Worker → ℕ
 idleSet [] = 0
 idleSet (w ∷ ws) = cond (holdsStep w) 0 1 + 2 * idleSet ws
@@ -205,7 +206,7 @@ unfoldable pub idleCount : List Worker → ℕ
 idleCount [] = 0
 idleCount (w ∷ ws) = cond (holdsStep w) 0 1 + idleCount ws
 
--- "The lowest, which is 16 if there are none", of those from worker i on.
+-- "The lowest, which is 16 if there are none", of those from worker i on: "16 still when it is empty", whatever the count.
 unfoldable pub idleLowest : ℕ → List Worker → ℕ
 idleLowest i [] = mostWorkers
 idleLowest i (w ∷ ws) = cond (holdsStep w) (idleLowest (suc i) ws) i

@@ -104,7 +104,7 @@ judgeRead p ks phs victim number =
     elim (latestPhase victim 0 phs) [ none ↦ 14 | some k ↦ cond (numberAllowed p ks (phaseAt phs k) number) 0 15 ]
 
 -- A trace record, where the run has w workers.
---     8  "A record names worker 16 or higher": one that the run does not have.
+--     8  "A record names worker 16 or higher", which "now means a worker at or above that count".
 --    13  "In a trace, thief and victim are equal."
 unfoldable pub judgeTraceRecord : ℕ → ℕ → List ℕ → List Phase → List ℕ → ℕ
 judgeTraceRecord w p ks phs r =

@@ -16,6 +16,7 @@ ghost use Rattle.run_spec.specs.declared.Outcome.the-variants.{Refused};
 ghost use Rattle.run_spec.specs.Moves.{fieldsOf, moveOf, runMove, stealMove, eventMove};
 ghost use Rattle.run_spec.specs.Terms.{Hints};
 use policy::MOST_PHASES;
+use policy::Setup;
 use policy::WORKERS;
 use run_spec::Event;
 use run_spec::Outcome;
@@ -41,24 +42,24 @@ pub fn run_on(
     held: &mut [u16; WORKERS],
     phase: &[u16; WORKERS],
     low: &[u16; WORKERS],
-    policy: u8,
+    setup: Setup,
     worker: u8,
 ) -> Outcome
     requires { ⌜ Hints (now tree) (now ends) (now openers) (now place) (now held) (now low) ⌝ }
     ensures { λ r.
         ⌜ ((base : List ℕ) → (steals : ℕ) →
-        let before = fieldsOf (now (place .entry)) (now (held .entry)) (now (phase .entry)) (now (low .entry)) base steals policy in
-        let after = fieldsOf (now (place .exit)) (now (held .exit)) (now (phase .entry)) (now (low .entry)) base steals policy in
+        let before = fieldsOf (now (place .entry)) (now (held .entry)) (now (phase .entry)) (now (low .entry)) base steals setup in
+        let after = fieldsOf (now (place .exit)) (now (held .exit)) (now (phase .entry)) (now (low .entry)) base steals setup in
         moveOf r after ≡ runMove before (now (tree .entry)) worker) ⌝ }
 {
-    let refusal = run::judge_run(tree, openers, place, held, low, worker);
+    let refusal = run::judge_run(tree, openers, place, held, low, setup.workers, worker);
     if refusal != 0 {
         return Outcome::Refused(refusal);
     }
     let w = worker as usize;
     let step = Step(wide(held[w]));
     let from = Step(wide(low[w]));
-    held[w] = run::advance(tree, ends, openers, place, policy, worker, from, step);
+    held[w] = run::advance(tree, ends, openers, place, setup.policy, worker, from, step);
     Outcome::Ran {
         phase: Phase(wide(phase[w])),
         step,
@@ -85,26 +86,26 @@ pub fn steal_on(
     low: &mut [u16; WORKERS],
     base: &mut [u16; WORKERS],
     steals: u16,
-    policy: u8,
+    setup: Setup,
     thief: u8,
     victim: u8,
 ) -> Moved
     requires { ⌜ Ends (kinds (now tree)) (now ends) (length (now ends)) ⌝ }
     ensures { λ r.
         let before =
-        fieldsOf (now (place .entry)) (now (held .entry)) (now (phase .entry)) (now (low .entry)) (now (base .entry)) steals policy in
+        fieldsOf (now (place .entry)) (now (held .entry)) (now (phase .entry)) (now (low .entry)) (now (base .entry)) steals setup in
         let after =
-        fieldsOf (now (place .exit)) (now (held .exit)) (now (phase .exit)) (now (low .exit)) (now (base .exit)) (r .steals) policy in
+        fieldsOf (now (place .exit)) (now (held .exit)) (now (phase .exit)) (now (low .exit)) (now (base .exit)) (r .steals) setup in
         ⌜ moveOf (r .outcome) after ≡ stealMove before (now (tree .entry)) thief victim ⌝ }
 {
-    let refusal = steal::judge_steal(tree, held, thief, victim);
+    let refusal = steal::judge_steal(tree, held, setup.workers, thief, victim);
     if refusal != 0 {
         return refused(refusal, steals);
     }
     let v = victim as usize;
     let from = Step(wide(low[v]));
     let ordinal = Ordinal(wide(base[v]));
-    match steal::take_step(tree, ends, place, policy, victim, from, ordinal) {
+    match steal::take_step(tree, ends, place, setup.policy, victim, from, ordinal) {
         Taken::Of(stolen) => {
             let begun = steals % MOST_PHASES as u16 + 1;
             steal::settle(
@@ -119,7 +120,7 @@ pub fn steal_on(
             );
             Moved {
                 outcome: Outcome::Stole(trace::number::trace_number(
-                    policy,
+                    setup.policy,
                     stolen.ordinal,
                     stolen.step,
                 )),
@@ -141,15 +142,15 @@ pub fn event_on(
     low: &mut [u16; WORKERS],
     base: &mut [u16; WORKERS],
     steals: u16,
-    policy: u8,
+    setup: Setup,
     event: Event,
 ) -> Moved
     requires { ⌜ Hints (now tree) (now ends) (now openers) (now place) (now held) (now low) ⌝ }
     ensures { λ r.
         let before =
-        fieldsOf (now (place .entry)) (now (held .entry)) (now (phase .entry)) (now (low .entry)) (now (base .entry)) steals policy in
+        fieldsOf (now (place .entry)) (now (held .entry)) (now (phase .entry)) (now (low .entry)) (now (base .entry)) steals setup in
         let after =
-        fieldsOf (now (place .exit)) (now (held .exit)) (now (phase .exit)) (now (low .exit)) (now (base .exit)) (r .steals) policy in
+        fieldsOf (now (place .exit)) (now (held .exit)) (now (phase .exit)) (now (low .exit)) (now (base .exit)) (r .steals) setup in
         ⌜ moveOf (r .outcome) after ≡ eventMove before (now (tree .entry)) (event .first) (event .second) ⌝ }
 {
     if event.first == event.second {
@@ -161,7 +162,7 @@ pub fn event_on(
             held,
             phase,
             low,
-            policy,
+            setup,
             event.first,
         );
         return Moved { outcome, steals };
@@ -175,7 +176,7 @@ pub fn event_on(
         low,
         base,
         steals,
-        policy,
+        setup,
         event.first,
         event.second,
     )

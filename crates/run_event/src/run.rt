@@ -63,20 +63,21 @@ fn may_wait(openers: &[u16], step: Step, low: Step) -> bool
     i == from
 }
 
-// The refusal of a worker's run: 8, 9 or 10, or 2 for a tree that is too long; 0 for none.
+// The refusal of a worker's run in a run of so many workers: 8, 9 or 10, or 2 for a tree that is too long; 0 for none.
 pub fn judge_run(
     tree: &[u8],
     openers: &[u16],
     place: &[u8; MOST_STEPS],
     held: &[u16; WORKERS],
     low: &[u16; WORKERS],
+    workers: u16,
     worker: u8,
 ) -> u8
     requires { ⌜ Openers (kinds (now tree)) (now openers) (length (now openers)) ⌝ }
     requires { ⌜ (worker < mostWorkers → WaitsAtLow (kinds (now tree)) (now openers) (now place) (now held) (now low) worker) ⌝ }
-    ensures { λ r. ⌜ r ≡ runNumber (kinds (now (tree .entry))) (now (place .entry)) (now (held .entry)) worker ⌝ }
+    ensures { λ r. ⌜ r ≡ runNumber workers (kinds (now (tree .entry))) (now (place .entry)) (now (held .entry)) worker ⌝ }
 {
-    if policy::no_worker(worker) {
+    if policy::no_worker(workers, worker) {
         return 8;
     }
     let n = tree::steps(tree);

@@ -20,14 +20,14 @@ use tree::Phase;
 use tree::Step;
 use tree_tables::wide;
 
-// The refusal of a steal, but for an empty deque: 8 or 11, or 2 for a tree that is too long; 0 for none.
-pub fn judge_steal(tree: &[u8], held: &[u16; WORKERS], thief: u8, victim: u8) -> u8
-    ensures { λ r. ⌜ r ≡ stealNumber (kinds (now (tree .entry))) (now (held .entry)) thief victim ⌝ }
+// The refusal of a steal in a run of so many workers, but for an empty deque: 8 or 11, or 2 for a tree that is too long; 0 for none.
+pub fn judge_steal(tree: &[u8], held: &[u16; WORKERS], workers: u16, thief: u8, victim: u8) -> u8
+    ensures { λ r. ⌜ r ≡ stealNumber workers (kinds (now (tree .entry))) (now (held .entry)) thief victim ⌝ }
 {
-    if policy::no_worker(thief) {
+    if policy::no_worker(workers, thief) {
         return 8;
     }
-    if policy::no_worker(victim) {
+    if policy::no_worker(workers, victim) {
         return 8;
     }
     let n = tree::steps(tree);

@@ -1,4 +1,4 @@
--- Single events are the rules: for every tree and policy that start accepts, and every list of events.
+-- Single events are the rules: for every worker count, policy and tree that start accepts, and every list of events.
 use Prim.Native.Nat.{ℕ}
 use mathlib.Core.Path.{_≡_}
 use mathlib.Core.List.{List}
@@ -6,5 +6,5 @@ use Rattle.rules.specs.Calls.{startVerdict}
 use Rattle.run_refinement.specs.Follows.{Follows}
 use Rattle.run_refinement.specs.Laws.Follows.{follows}
 
-pub events-follow-rules : (p : ℕ) (tree : List ℕ) → startVerdict p tree .number ≡ 0 → (es : List (List ℕ)) → Follows p tree es
+pub events-follow-rules : (w p : ℕ) (tree : List ℕ) → startVerdict w p tree .number ≡ 0 → (es : List (List ℕ)) → Follows w p tree es
 events-follow-rules = follows

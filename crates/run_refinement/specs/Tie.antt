@@ -78,13 +78,16 @@ AllReady p ks lows r =
 -- ---- the state
 
 pub record Shows (p : ℕ) (ks : List ℕ) (s : Fields) (r : Run) : Type 0 where
-  pub policy : s .policy ≡ p
+  pub policy : s .setup .policy ≡ p
+  -- The state keeps the run's count.
+  pub workers : length (r .workers) ≡ s .setup .workers
+  pub most : s .setup .workers ≤ mostWorkers
   pub places : length (s .place) ≡ mostSteps
   pub helds : length (s .held) ≡ mostWorkers
   pub phases : length (s .phase) ≡ mostWorkers
   pub lows : length (s .low) ≡ mostWorkers
   pub bases : length (s .base) ≡ mostWorkers
-  pub workers : length (r .workers) ≡ mostWorkers
+  -- A worker that the run does not have is idle here and there.
   pub hands : (w : ℕ) → w < mostWorkers
       → HandShown p ks (s .place) w (getD (s .held) w 0) (getD (s .low) w 0) (getD (s .base) w 0)
       (getD (s .phase) w 0) (workerAt r w)

@@ -7,7 +7,8 @@ use lib.ListN.{length, getD, set}
 use lib.Dec.{eqb, leb, ltb}
 use Rattle.rules.specs.Bytes.{count, all}
 use Rattle.rules.specs.Tree.{kindAt, isEnd, finishBefore, mostSteps}
-use Rattle.rules.specs.Scheduling.{mostWorkers, holds, pushes}
+use Rattle.rules.specs.Scheduling.{holds, pushes}
+use Rattle.policy.specs.Contract.{workerLimit}
 use Rattle.run_spec.specs.Deques.{unrunMark, newestMark, popped}
 
 -- ---- waiting
@@ -22,11 +23,12 @@ waitsFor ks place i = elim (finishBefore ks i) [ none ↦ false | some first ↦
 
 -- ---- refusals
 
--- The refusal of worker w's run, 0 for none: 8, 9 and 10 of document 01, and 2 for a tree that is too long to have been started.
-unfoldable pub runNumber : List ℕ → List ℕ → List ℕ → ℕ → ℕ
-runNumber ks place held w =
+-- The refusal of worker w's run in a run of c workers, 0 for none: 8, 9 and 10 of document 01, and 2 for a tree that is too long to
+-- have been started.
+unfoldable pub runNumber : ℕ → List ℕ → List ℕ → List ℕ → ℕ → ℕ
+runNumber c ks place held w =
     let i = getD held w 0 in
-    cond (leb mostWorkers w) 8
+    cond (leb (workerLimit c) w) 8
     (cond (ltb mostSteps (length ks)) 2 (cond (leb (length ks) i) 9 (cond (waitsFor ks place i) 10 0)))
 
 -- ---- what a run leaves

@@ -6,18 +6,19 @@ use mathlib.Core.Option.{Option, none, some}
 use lib.ListN.{length, getD}
 use lib.Dec.{leb, ltb}
 use Rattle.rules.specs.Tree.{mostSteps}
-use Rattle.rules.specs.Scheduling.{mostWorkers, pushes}
+use Rattle.rules.specs.Scheduling.{pushes}
+use Rattle.policy.specs.Contract.{workerLimit}
 use Rattle.run_spec.specs.Ordinals.{ordinalFrom}
 use Rattle.run_spec.specs.declared.Taken.{Taken}
 use Rattle.run_spec.specs.declared.Taken.the-variants.{Of, Nothing}
 
 -- ---- refusals
 
--- The refusal of a steal by t from v, 0 for none, but for an empty deque: 8 and 11 of document 01, and 2 for a tree that is too
--- long to have been started.
-unfoldable pub stealNumber : List ℕ → List ℕ → ℕ → ℕ → ℕ
-stealNumber ks held t v =
-    cond (leb mostWorkers t || leb mostWorkers v) 8
+-- The refusal of a steal by t from v in a run of c workers, 0 for none, but for an empty deque: 8 and 11 of document 01, and 2 for a
+-- tree that is too long to have been started.
+unfoldable pub stealNumber : ℕ → List ℕ → List ℕ → ℕ → ℕ → ℕ
+stealNumber c ks held t v =
+    cond (leb (workerLimit c) t || leb (workerLimit c) v) 8
     (cond (ltb mostSteps (length ks)) 2 (cond (ltb (getD held t 0) (length ks)) 11 0))
 
 -- ---- what is taken

@@ -8,6 +8,7 @@ use lib.Dec.{eqb}
 use Rattle.rules.specs.Tree.{mostSteps}
 use Rattle.rules.specs.Scheduling.{mostWorkers}
 use Rattle.rules.specs.Calls.{startVerdict}
+use Rattle.policy.specs.Contract.{workerLimit}
 use Rattle.run_spec.specs.Moves.{Fields, Move, fresh, runMove, stealMove, eventMove}
 use Rattle.run_spec.specs.Idle.{idleBits, idleNumber, idleFirst}
 use Rattle.run_state.specs.declared.RunState.{RunState}
@@ -25,7 +26,7 @@ fields s =
       low = s .low;
       base = s .base;
       steals = s .steals;
-      policy = s .policy;
+      setup = record { policy = s .policy; workers = s .workers };
     }
 
 -- a state of such fields,
@@ -33,12 +34,13 @@ abbrev pub stateOf : Fields → RunState
 stateOf f =
     record {
       place = f .place;
+      policy = f .setup .policy;
       held = f .held;
       phase = f .phase;
       low = f .low;
       base = f .base;
       steals = f .steals;
-      policy = f .policy;
+      workers = f .setup .workers;
     }
 
 -- and the answer of an event that did such a move.
@@ -52,22 +54,23 @@ unfoldable pub zeros : RunState
 zeros =
     record {
       place = replicate mostSteps 0;
+      policy = 0;
       held = replicate mostWorkers 0;
       phase = replicate mostWorkers 0;
       low = replicate mostWorkers 0;
       base = replicate mostWorkers 0;
       steals = 0;
-      policy = 0;
+      workers = 0;
     }
 
--- Refusals 1 to 5 with their position, or the first state.
-unfoldable pub startAnswer : ℕ → List ℕ → Started
-startAnswer p tree =
-    let refusal = startVerdict p tree in
+-- Refusals 1 to 5 and 16 with their position, or the first state, which keeps the count for the events.
+unfoldable pub startAnswer : ℕ → ℕ → List ℕ → Started
+startAnswer w p tree =
+    let refusal = startVerdict w p tree in
     record {
       number = refusal .number;
       position = refusal .position;
-      state = cond (eqb (refusal .number) 0) (stateOf (fresh p)) zeros;
+      state = cond (eqb (refusal .number) 0) (stateOf (fresh (record { policy = p; workers = w }))) zeros;
     }
 
 -- ---- events
@@ -83,11 +86,12 @@ eventAnswer s tree a b = answerOf (eventMove (fields s) tree a b)
 
 -- ---- the idle workers
 
+-- Those below the count.
 unfoldable pub idleAnswer : RunState → Idle
 idleAnswer s =
     record {
-      set = idleBits (s .held) 0 mostWorkers;
-      count = idleNumber (s .held) 0 mostWorkers;
-      lowest = idleFirst (s .held) 0 mostWorkers;
+      set = idleBits (s .held) 0 (workerLimit (s .workers));
+      count = idleNumber (s .held) 0 (workerLimit (s .workers));
+      lowest = idleFirst (s .held) 0 (workerLimit (s .workers));
       state = s;
     }

@@ -1,13 +1,14 @@
-// A run by value, event by event (document 01, "Scheduling"). `start::start` judges tree and policy and gives the first state;
-// `run`, `steal` and `event` take a state and hand back the next with the event's outcome; `idle` tells the idle workers.
+// A run by value, event by event (document 01, "Scheduling"). `start::start` judges policy, worker count and tree and gives the
+// first state; `run`, `steal` and `event` take a state and hand back the next with the event's outcome; `idle` tells the idle workers.
 // Nothing is kept elsewhere: a host may copy a state, keep it or go back to it. Any state and any bytes are safe: a held step
 // beyond the tree is none, and a tree with more records than a tree may have is refused with 2.
 pub mod start;
 
 ghost use mathlib.Core.Path.{_≡_};
-ghost use Rattle.rules.specs.Scheduling.{mostWorkers};
+ghost use Rattle.policy.specs.Contract.{workerLimit};
 ghost use Rattle.run_spec.specs.Idle.{idleBits};
 ghost use Rattle.run_state.specs.Contract.{runAnswer, stealAnswer, eventAnswer, idleAnswer};
+use policy::Setup;
 use policy::WORKERS;
 use run_spec::Outcome;
 use tree::MOST_STEPS;
@@ -18,6 +19,7 @@ use tree_tables::wide;
 pub struct RunState {
     // for each step NOT_RUN, RUN, or the worker in whose deque the step is that it pushed
     pub place: [u8; MOST_STEPS],
+    pub policy: u8,
     // for each worker the step that it holds, or NO_STEP
     pub held: [u16; WORKERS],
     // for each worker its latest phase
@@ -28,7 +30,8 @@ pub struct RunState {
     pub base: [u16; WORKERS],
     // how many steals there were
     pub steals: u16,
-    pub policy: u8,
+    // how many workers the run has; of two bytes, so that no byte of a state is padding
+    pub workers: u16,
 }
 
 // An event's outcome with the next state.
@@ -52,11 +55,11 @@ pub struct Idle {
     pub state: RunState,
 }
 
-// The workers that hold no step as a set: worker w is bit w.
-fn idle_set(held: &[u16; WORKERS]) -> u16
-    ensures { λ r. ⌜ r ≡ idleBits (now (held .entry)) 0 mostWorkers ⌝ }
+// The workers that hold no step as a set, of a run of so many workers: worker w is bit w.
+fn idle_set(held: &[u16; WORKERS], workers: u16) -> u16
+    ensures { λ r. ⌜ r ≡ idleBits (now (held .entry)) 0 (workerLimit workers) ⌝ }
 {
-    let mut w = WORKERS;
+    let mut w = policy::limit(workers);
     let mut set: u16 = 0;
     while 0 < w {
         w -= 1;
@@ -78,7 +81,10 @@ impl RunState {
         let mut held = next.held;
         let phase = next.phase;
         let low = next.low;
-        let policy = next.policy;
+        let setup = Setup {
+            policy: next.policy,
+            workers: next.workers,
+        };
         let outcome = run_event::run_on(
             tree,
             &[],
@@ -87,7 +93,7 @@ impl RunState {
             &mut held,
             &phase,
             &low,
-            policy,
+            setup,
             worker,
         );
         next.held = held;
@@ -107,7 +113,10 @@ impl RunState {
         let mut low = next.low;
         let mut base = next.base;
         let steals = next.steals;
-        let policy = next.policy;
+        let setup = Setup {
+            policy: next.policy,
+            workers: next.workers,
+        };
         let moved = run_event::steal_on(
             tree,
             &[],
@@ -117,7 +126,7 @@ impl RunState {
             &mut low,
             &mut base,
             steals,
-            policy,
+            setup,
             thief,
             victim,
         );
@@ -144,12 +153,12 @@ impl RunState {
         self.steal(tree, first, second)
     }
 
-    // The idle workers: those that hold no step. One that waits is not idle.
+    // The idle workers: those of the run that hold no step. One that waits is not idle.
     pub fn idle(self) -> Idle
         ensures { λ r. ⌜ r ≡ idleAnswer self ⌝ }
     {
         let held = self.held;
-        let set = idle_set(&held);
+        let set = idle_set(&held, self.workers);
         Idle {
             set,
             count: u16::count_ones(set),

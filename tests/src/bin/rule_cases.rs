@@ -3,8 +3,11 @@
 
 use std::fmt::Write;
 
-use frame_tests::random::{accepted_bytes, damaged_tree, drive, trace, tree, Plan, Rng};
+use frame_tests::cover::WORKERS;
 use frame_tests::phases::phases;
+use frame_tests::random::{
+    accepted_bytes, any_count, damaged_tree, drive, nearest_count, trace, tree, worker_at_the_edge, Plan, Rng,
+};
 use frame_tests::{record, replay, Policy, Run, Tree};
 
 /// How many rows a theorem has. antt computes each theorem within a fixed count of steps.
@@ -13,7 +16,7 @@ const ROWS: u64 = 10;
 /// A damaged tree is at most so long here: antt computes with lists of tens of records.
 const LONGEST: usize = 600;
 
-/// The rules' names of what program `phases` prints. `answer` of their table of cases has all others.
+/// The rules' names of what program `phases` prints. `answerWith` of their table of cases has all others.
 const PROGRAM: &str = "inputPolicy inputCount inputTree inputTrace digits decimal line heading phaseLines refusedLine phasesText printed";
 
 /// Bytes as the rules' tables write them: a hexadecimal numeral.
@@ -45,15 +48,17 @@ fn lent(rng: &mut Rng, asked: usize) -> Vec<u8> {
     (0..len).map(|_| rng.next() as u8).collect()
 }
 
-/// A few events for the scene, some of them bad, sometimes cut in a record.
-fn events(rng: &mut Rng, policy: u8, tree: &[u8]) -> Vec<u8> {
-    let mut list = match Run::start(policy, tree) {
+/// A few events of so many workers for the scene, some of them bad, sometimes cut in a record.
+fn events(rng: &mut Rng, policy: u8, workers: usize, tree: &[u8]) -> Vec<u8> {
+    let mut list = match Run::start(policy, workers as u8, tree) {
         Err(_) => vec![0, 0],
         Ok(mut run) => {
-            let plan = Plan { workers: rng.between(1, 5), events: rng.below(24), bad: 0, steals: rng.pick(&[20, 60, 90]) };
+            let taking_part = rng.between(1, workers.min(5));
+            let plan = Plan { workers: taking_part, events: rng.below(24), bad: 0, steals: rng.pick(&[20, 60, 90]) };
             let mut list = accepted_bytes(&drive(rng, &mut run, &plan));
             if rng.percent(30) {
-                list.extend([rng.below(18) as u8, rng.below(18) as u8]);
+                let mut any = || if rng.percent(50) { rng.below(18) as u8 } else { worker_at_the_edge(rng, workers) };
+                list.extend([any(), any()]);
             }
             list
         }
@@ -67,12 +72,13 @@ fn events(rng: &mut Rng, policy: u8, tree: &[u8]) -> Vec<u8> {
 fn record_row(out: &mut String, seed: u64) {
     let mut rng = Rng::new(seed);
     let (policy, tree) = scene(&mut rng);
-    let events = events(&mut rng, policy, &tree);
+    let workers = any_count(&mut rng);
+    let events = events(&mut rng, policy, nearest_count(workers), &tree);
     let n = tree.len() / 8;
     let mut log = lent(&mut rng, 4 * n);
     let mut trace = lent(&mut rng, 2 * n.saturating_sub(1));
-    let call = format!("recordCall 16 {policy} {} {} {} {}", bytes(&tree), bytes(&events), bytes(&log), bytes(&trace));
-    let answer = record(policy, &tree, &events, &mut log, &mut trace);
+    let call = format!("recordCall {workers} {policy} {} {} {} {}", bytes(&tree), bytes(&events), bytes(&log), bytes(&trace));
+    let answer = record(policy, workers, &tree, &events, &mut log, &mut trace);
     write!(
         out,
         "record {{ got = {call}; says = record {{ verdict = record {{ number = {}; position = {} }}; logCount = {}; \
@@ -90,12 +96,12 @@ fn record_row(out: &mut String, seed: u64) {
     .expect("a string takes all");
 }
 
-/// A few trace records for the scene, some of them bad.
-fn steals(rng: &mut Rng, policy: u8, tree: &[u8]) -> Vec<u8> {
+/// A few trace records between so many workers for the scene, some of them bad.
+fn steals(rng: &mut Rng, policy: u8, workers: usize, tree: &[u8]) -> Vec<u8> {
     match (Policy::parse(policy), Tree::parse(tree)) {
         (Ok(policy), Ok(tree)) => {
             let (most, bad) = (rng.below(6), rng.pick(&[0, 0, 10, 40]));
-            trace(rng, policy, &tree, most, bad)
+            trace(rng, policy, workers, &tree, most, bad)
         }
         _ => vec![1, 0, 1, 0],
     }
@@ -104,11 +110,12 @@ fn steals(rng: &mut Rng, policy: u8, tree: &[u8]) -> Vec<u8> {
 fn replay_row(out: &mut String, seed: u64) {
     let mut rng = Rng::new(seed);
     let (policy, bytes_of_tree) = scene(&mut rng);
-    let records = steals(&mut rng, policy, &bytes_of_tree);
+    let workers = any_count(&mut rng);
+    let records = steals(&mut rng, policy, nearest_count(workers), &bytes_of_tree);
     let n = bytes_of_tree.len() / 8;
     let mut list = lent(&mut rng, 4 * n);
-    let call = format!("replayCall 16 {policy} {} {} {}", bytes(&bytes_of_tree), bytes(&records), bytes(&list));
-    let answer = replay(policy, &bytes_of_tree, &records, &mut list);
+    let call = format!("replayCall {workers} {policy} {} {} {}", bytes(&bytes_of_tree), bytes(&records), bytes(&list));
+    let answer = replay(policy, workers, &bytes_of_tree, &records, &mut list);
     write!(
         out,
         "record {{ got = {call}; says = record {{ verdict = record {{ number = {}; position = {} }}; phaseCount = {}; \
@@ -131,11 +138,11 @@ fn print_row(out: &mut String, seed: u64) {
     let mut input = vec![policy];
     input.extend((n as u16).to_le_bytes());
     input.extend(&tree);
-    input.extend(steals(&mut rng, policy, &tree));
+    input.extend(steals(&mut rng, policy, WORKERS, &tree));
     if rng.percent(15) {
         input.truncate(rng.below(input.len()));
     }
-    write!(out, "record {{ got = printed 16 {}; says = {} }} ∷ ", bytes(&input), bytes(&phases(&input))).expect("a string takes all");
+    write!(out, "record {{ got = printed {}; says = {} }} ∷ ", bytes(&input), bytes(&phases(&input))).expect("a string takes all");
 }
 
 /// The idle workers after some accepted events, against the simulator's.
@@ -144,12 +151,13 @@ fn idle_row(out: &mut String, seed: u64) {
     let policy = rng.pick(&[1, 2]);
     let tasks = rng.below(7);
     let tree = tree(&mut rng, tasks);
-    let mut run = Run::start(policy, &tree).expect("the tree is accepted");
-    let plan = Plan { workers: rng.between(1, 16), events: rng.below(24), bad: 0, steals: rng.pick(&[20, 60, 90]) };
+    let workers = rng.between(1, WORKERS);
+    let mut run = Run::start(policy, workers as u8, &tree).expect("the tree is accepted");
+    let plan = Plan { workers: rng.between(1, workers), events: rng.below(24), bad: 0, steals: rng.pick(&[20, 60, 90]) };
     let events = accepted_bytes(&drive(&mut rng, &mut run, &plan));
     write!(
         out,
-        "record {{ got = answer (idling {policy} {} {}); says = idle {} {} {} {} }} ∷ ",
+        "record {{ got = answerWith {workers} (idling {policy} {} {}); says = idle {} {} {} {} }} ∷ ",
         bytes(&tree),
         bytes(&events),
         run.finished(),
@@ -168,7 +176,7 @@ fn tables(out: &mut String, name: &str, row: &str, from: u64, theorems: u64, wri
         }
         writeln!(out, "unfoldable {name}-{t} : List {row}\n{name}-{t} = {rows}[]\n").expect("a string takes all");
         writeln!(out, "{name}-{t}-holds : map (λ r. r .got) {name}-{t} ≡ map (λ r. r .says) {name}-{t}").expect("a string takes all");
-        writeln!(out, "unfolding answer bytes {PROGRAM} {name}-{t}\n{name}-{t}-holds = refl\n").expect("a string takes all");
+        writeln!(out, "unfolding answerWith bytes {PROGRAM} {name}-{t}\n{name}-{t}-holds = refl\n").expect("a string takes all");
     }
 }
 
@@ -184,7 +192,7 @@ fn main() {
          use mathlib.Core.List.{List, [], _∷_, map}\n\
          use Rattle.rules.specs.Calls.{Recorded, recordCall, Replayed, replayCall}\n\
          use Rattle.rules.specs.Program.{NAMES}\n\
-         use Rattle.rules.specs.Cases.{idling, Answer, idle, answer, bytes}\n\n\
+         use Rattle.rules.specs.Cases.{idling, Answer, idle, answerWith, bytes}\n\n\
          record RecordRow : Type 0 where\n  got : Recorded\n  says : Recorded\n\n\
          record ReplayRow : Type 0 where\n  got : Replayed\n  says : Replayed\n\n\
          record IdleRow : Type 0 where\n  got : Answer\n  says : Answer\n\n\

@@ -40,12 +40,13 @@ pub const NOT_RUN: u8 = 17;
 #[derive(Clone, Copy, PartialEq, Eq)]
 pub struct RunState {
     pub place: [u8; 4095],
+    pub policy: u8,
     pub held: [u16; 16],
     pub phase: [u16; 16],
     pub low: [u16; 16],
     pub base: [u16; 16],
     pub steals: u16,
-    pub policy: u8,
+    pub workers: u16,
 }
 
 #[repr(C)]
@@ -146,7 +147,7 @@ mod c {
         pub fn frame_task(tree: *const u8, len: usize, step: usize) -> FrameTask;
         pub fn frame_finish_before(tree: *const u8, len: usize, step: usize) -> usize;
         pub fn frame_running(tree: *const u8, len: usize, policy: u8, step: usize) -> FrameRunning;
-        pub fn frame_start(tree: *const u8, len: usize, policy: u8) -> FrameStart;
+        pub fn frame_start(tree: *const u8, len: usize, policy: u8, workers: u8) -> FrameStart;
         pub fn frame_event(state: RunState, tree: *const u8, len: usize, first: u8, second: u8) -> FrameEvent;
         pub fn frame_event_in_place(state: *mut RunState, tree: *const u8, len: usize, first: u8, second: u8) -> FrameOutcome;
         pub fn frame_idle(state: RunState) -> FrameIdle;
@@ -154,6 +155,7 @@ mod c {
             tree: *const u8,
             tree_len: usize,
             policy: u8,
+            workers: u8,
             events: *const u8,
             events_len: usize,
             log: *mut u8,
@@ -165,6 +167,7 @@ mod c {
             tree: *const u8,
             tree_len: usize,
             policy: u8,
+            workers: u8,
             trace: *const u8,
             trace_len: usize,
             list: *mut u8,
@@ -203,8 +206,8 @@ pub fn running(tree: &[u8], policy: u8, step: usize) -> FrameRunning {
     unsafe { c::frame_running(tree.as_ptr(), tree.len(), policy, step) }
 }
 
-pub fn start(tree: &[u8], policy: u8) -> FrameStart {
-    unsafe { c::frame_start(tree.as_ptr(), tree.len(), policy) }
+pub fn start(tree: &[u8], policy: u8, workers: u8) -> FrameStart {
+    unsafe { c::frame_start(tree.as_ptr(), tree.len(), policy, workers) }
 }
 
 pub fn event(state: RunState, tree: &[u8], first: u8, second: u8) -> FrameEvent {
@@ -219,12 +222,13 @@ pub fn idle(state: RunState) -> FrameIdle {
     unsafe { c::frame_idle(state) }
 }
 
-pub fn record(tree: &[u8], policy: u8, events: &[u8], log: &mut [u8], trace: &mut [u8]) -> FrameRecord {
+pub fn record(tree: &[u8], policy: u8, workers: u8, events: &[u8], log: &mut [u8], trace: &mut [u8]) -> FrameRecord {
     unsafe {
         c::frame_record(
             tree.as_ptr(),
             tree.len(),
             policy,
+            workers,
             events.as_ptr(),
             events.len(),
             log.as_mut_ptr(),
@@ -235,6 +239,17 @@ pub fn record(tree: &[u8], policy: u8, events: &[u8], log: &mut [u8], trace: &mu
     }
 }
 
-pub fn replay(tree: &[u8], policy: u8, trace: &[u8], list: &mut [u8]) -> FrameReplay {
-    unsafe { c::frame_replay(tree.as_ptr(), tree.len(), policy, trace.as_ptr(), trace.len(), list.as_mut_ptr(), list.len()) }
+pub fn replay(tree: &[u8], policy: u8, workers: u8, trace: &[u8], list: &mut [u8]) -> FrameReplay {
+    unsafe {
+        c::frame_replay(
+            tree.as_ptr(),
+            tree.len(),
+            policy,
+            workers,
+            trace.as_ptr(),
+            trace.len(),
+            list.as_mut_ptr(),
+            list.len(),
+        )
+    }
 }

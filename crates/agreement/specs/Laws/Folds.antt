@@ -14,7 +14,7 @@ use Rattle.rules.specs.Tree.{kinds}
 use Rattle.rules.specs.Scheduling.{Run, start, isRun, steal, judgeEvent, nextRun}
 use Rattle.rules.specs.Calls.{eventCall, afterEvents, recordWalk, recordOf, recordVerdict, recordCall}
 use Rattle.tree.specs.Laws.Walks.{walk-on, walk-stop, walk-end}
-use Rattle.tree_scan.specs.Laws.Starts.{start-tree-accepts}
+use Rattle.tree_scan.specs.Laws.Starts.{start-tree-accepts, start-workers}
 use Rattle.tree_scan.specs.Laws.Frames.{accepted-frame}
 use Rattle.run_invariant.specs.Laws.Moves.{ran, run-is, run-held, event-runs}
 use Rattle.run_invariant.specs.Laws.Always.{always}
@@ -143,18 +143,19 @@ folded w p tree events log trace e = walk-folds w p (kinds tree) (records 2 even
 
 -- An accepted call answers what the single events lead to.
 pub record-folds : (w p : ℕ) (tree events log trace : List ℕ) → recordVerdict w p tree events log trace .number ≡ 0
-    → recordCall w p tree events log trace ≡ recordOf w p tree (afterEvents p (kinds tree) (start w) (records 2 events)) log trace
+    → recordCall w p tree events log trace ≡ recordOf p tree (afterEvents p (kinds tree) (start w) (records 2 events)) log trace
 record-folds w p tree events log trace e =
     rw (← by-accepted w p tree events log trace e, folded w p tree events log trace e .0) refl
 
 -- An accepted list has at most n runs and (n - 1) / 2 steals.
-pub accepted-most : (w p : ℕ) (tree events log trace : List ℕ) → 1 ≤ w → recordVerdict w p tree events log trace .number ≡ 0
+pub accepted-most : (w p : ℕ) (tree events log trace : List ℕ) → recordVerdict w p tree events log trace .number ≡ 0
     → length (records 2 events) ≤ length (kinds tree) + (length (kinds tree) - 1) / 2
-accepted-most w p tree events log trace some e =
-    let frame = accepted-frame tree (start-tree-accepts p tree (accepts-both w p tree events log trace e .0)) in
+accepted-most w p tree events log trace e =
+    let starts = accepts-both w p tree events log trace e .0 in
+    let frame = accepted-frame tree (start-tree-accepts w p tree starts) in
     let es = records 2 events in
     let run = afterEvents p (kinds tree) (start w) (take (length es) es) in
-    let inv = always p (kinds tree) (frame .some) (frame .shape) w some (take (length es) es) in
+    let inv = always p (kinds tree) (frame .some) (frame .shape) w (start-workers w p tree starts .0) (take (length es) es) in
     omega (
       arith,
       counts w p (kinds tree) es (length es) (omega arith) (folded w p tree events log trace e .1),

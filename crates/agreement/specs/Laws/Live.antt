@@ -1,28 +1,32 @@
--- The live run by the calls of single events is the rules' run.
+-- The live run by the calls of single events is the rules' run: the entries' calls and the rules' tell the same, event by event, and
+-- of the rules' it is shown by the rules.
 use Prim.Native.Nat.{ℕ, zero, suc, _+_, _/_, _<_}
-use mathlib.Core.Path.{_≡_, refl, ap, _∙_}
+use mathlib.Core.Path.{_≡_, refl, sym, ap, _∙_}
 use mathlib.Core.Bool.{Bool, true, false}
 use mathlib.Core.List.{List, [], _∷_, _++_, map, flatten, append-nil, append-assoc}
+use mathlib.Core.Option.{none, some}
 use native.Mathlib.Decide.{ℕ-discrete}
 use native.Mathlib.Omega.{arith}
 use lib.ListN.{length, take, getD, length-append}
 use borrow.Author.Tests.{eq-eqb, ne-eqb}
 use Rattle.rules.specs.Bytes.{records, cut, sum}
 use Rattle.rules.specs.Tree.{kinds}
-use Rattle.rules.specs.Scheduling.{mostWorkers, Run, start, workerAt, isRun, oldest, steal, judgeEvent, nextRun}
+use Rattle.rules.specs.Scheduling.{Run, start, workerAt, isRun, oldest, steal, judgeEvent, nextRun}
 use Rattle.rules.specs.Calls.{startVerdict, eventCall, afterEvents}
 use Rattle.tree_scan.specs.Laws.Frames.{Frame, accepted-frame}
 use Rattle.run_invariant.specs.Invariant.{Invariant}
 use Rattle.run_invariant.specs.Laws.Moves.{ran, run-is, run-held, event-runs, first-within, enriched, steal-thief}
 use Rattle.run_invariant.specs.Laws.Always.{start-invariant, event-keeps}
+use Rattle.policy.specs.declared.Setup.{Setup}
 use Rattle.run_state.specs.declared.RunState.{RunState}
 use Rattle.run_state.specs.Contract.{fields, startAnswer, eventAnswer}
-use Rattle.tree_scan.specs.Laws.Starts.{start-tree-accepts}
+use Rattle.tree_scan.specs.Laws.Starts.{start-tree-accepts, start-workers}
 use Rattle.run_refinement.specs.Tie.{Shows, told}
 use Rattle.run_refinement.specs.Laws.Events.{start-shows, event-tells, event-shows}
 use Rattle.agreement.specs.Laws.Folds.{AcceptedTo}
 use Rattle.run_spec.specs.declared.Event.{Event}
-use Rattle.agreement.specs.Agreement.{eventBytes, call, refusalOf, stole, stateAfter, liveRun, liveSteals, runsIn}
+use Rattle.agreement.specs.Agreement.{eventBytes, Called, stealBy, stateAfter, liveRun, liveSteals, runsIn, refusalOf}
+use Rattle.agreement.specs.Agreement.{tookOf, entryCall}
 
 -- An event's bytes, as the rules take an event.
 unfoldable pub pair : Event → List ℕ
@@ -64,9 +68,9 @@ module _ (p : ℕ) (ks : List ℕ) (r : Run) (e : Event) where
       by false run j = rw (j, run) refl
 
   module _ (n : number ≡ 0 → ⊥) where
-    refused-told : stole (told p ks r (pair e)) ≡ false
-    unfolding told stole
-    refused-told = rw (ne-eqb number 0 n) refl
+    refused-told : (held : ℕ) → tookOf (told p ks r (pair e)) held ≡ none
+    unfolding told tookOf
+    refused-told held = rw (ne-eqb number 0 n) refl
 
     refused-next : eventCall p ks r (pair e) .state ≡ r
     unfolding eventCall
@@ -77,9 +81,9 @@ module _ (p : ℕ) (ks : List ℕ) (r : Run) (e : Event) where
     refused-after es = ap (λ (x : Run). after p ks x es) refused-next
 
   module _ (j : number ≡ 0) (same : e .first ≡ e .second) where
-    run-told : stole (told p ks r (pair e)) ≡ false
-    unfolding told stole isRun pair
-    run-told = rw (j, eq-eqb (e .first) (e .second) same) refl
+    run-told : (held : ℕ) → tookOf (told p ks r (pair e)) held ≡ none
+    unfolding told tookOf isRun pair
+    run-told held = rw (j, eq-eqb (e .first) (e .second) same) refl
 
     run-next : (length (eventCall p ks r (pair e) .state .log) ≡ suc (length (r .log)))
         × (eventCall p ks r (pair e) .state .steals ≡ r .steals)
@@ -90,9 +94,9 @@ module _ (p : ℕ) (ks : List ℕ) (r : Run) (e : Event) where
         (simp length-append (omega arith), refl)
 
   module _ (j : number ≡ 0) (n : e .first ≡ e .second → ⊥) where
-    steal-told : stole (told p ks r (pair e)) ≡ true
-    unfolding told stole isRun pair
-    steal-told = rw (j, ne-eqb (e .first) (e .second) n) refl
+    steal-told : (held : ℕ) → tookOf (told p ks r (pair e)) held ≡ some held
+    unfolding told tookOf isRun pair
+    steal-told held = rw (j, ne-eqb (e .first) (e .second) n) refl
 
     steal-next : eventCall p ks r (pair e) .state ≡ steal r (e .first) (e .second)
     unfolding eventCall nextRun isRun pair
@@ -102,72 +106,42 @@ module _ (p : ℕ) (ks : List ℕ) (r : Run) (e : Event) where
     unfolding after afterEvents
     steal-after es = ap (λ (x : Run). after p ks x es) steal-next
 
--- ---- from any state that shows a run on
+-- ---- the rules' live run
 
--- The state shows the run, which has the invariant.
-record Tied (p : ℕ) (ks : List ℕ) (s : RunState) (r : Run) : Type 0 where
-  inv : Invariant p ks r
-  shows : Shows p ks (fields s) r
+-- An event's call by the rules.
+unfoldable ruledCall : ℕ → List ℕ → Run → Event → Called Run
+ruledCall p ks r e =
+    record {
+      number = judgeEvent ks r (pair e);
+      took = tookOf (told p ks r (pair e)) (oldest (workerAt r (e .second) .hand .deque));
+      state = eventCall p ks r (pair e) .state;
+    }
 
-module _ (p : ℕ) (tree : List ℕ) (frame : Frame tree) where
-  abbrev ks : List ℕ
-  ks = kinds tree
+module _ (p : ℕ) (ks : List ℕ) where
+  abbrev ruledRun : Run → List Event → List Event
+  ruledRun = liveRun (ruledCall p ks)
 
-  module _ (s : RunState) (r : Run) (tied : Tied p ks s r) (e : Event) where
-    call-told : call tree s e .outcome ≡ told p ks r (pair e)
-    unfolding call pair eventAnswer
-    call-told = event-tells p tree frame (fields s) r (tied .inv) (tied .shows) (pair e)
+  module _ (r : Run) (e : Event) (es : List Event) where
+    live-on : judgeEvent ks r (pair e) ≡ 0 → ruledRun r (e ∷ es) ≡ e ∷ ruledRun (eventCall p ks r (pair e) .state) es
+    unfolding liveRun ruledCall
+    live-on j = rw j refl
 
-    call-judged : refusalOf (call tree s e .outcome) ≡ judgeEvent ks r (pair e)
-    call-judged = rw call-told (told-number p ks r e)
+    live-off : (judgeEvent ks r (pair e) ≡ 0 → ⊥) → ruledRun r (e ∷ es) ≡ ruledRun r es
+    unfolding liveRun ruledCall
+    live-off n = rw (ne-eqb (judgeEvent ks r (pair e)) 0 n, refused-next p ks r e n) refl
 
-    call-tied : Tied p ks (call tree s e .state) (eventCall p ks r (pair e) .state)
-    unfolding call pair eventAnswer
-    call-tied =
-        record {
-          inv = event-keeps p ks (frame .some) (frame .shape) r (tied .inv) (pair e);
-          shows = event-shows p tree frame (fields s) r (tied .inv) (tied .shows) (pair e);
-        }
+  ruled-after : (es : List Event) (r : Run) → stateAfter (ruledCall p ks) r es ≡ after p ks r es
+  unfolding stateAfter ruledCall after afterEvents
+  ruled-after [] r = refl
+  ruled-after (e ∷ es) r = ruled-after es (eventCall p ks r (pair e) .state)
 
-    live-on : judgeEvent ks r (pair e) ≡ 0 → (es : List Event)
-        → liveRun tree s (e ∷ es) ≡ e ∷ liveRun tree (call tree s e .state) es
-    unfolding liveRun
-    live-on j es = rw (call-judged, j) refl
-
-    module _ (n : judgeEvent ks r (pair e) ≡ 0 → ⊥) where
-      live-off : (es : List Event) → liveRun tree s (e ∷ es) ≡ liveRun tree (call tree s e .state) es
-      unfolding liveRun
-      live-off es = rw (call-judged, ne-eqb (judgeEvent ks r (pair e)) 0 n) refl
-
-      refused-tied : Tied p ks (call tree s e .state) r
-      refused-tied = rw (refused-next p ks r e n) at call-tied
-
-    module _ (j : judgeEvent ks r (pair e) ≡ 0) (n : e .first ≡ e .second → ⊥) where
-      steal-tied : Tied p ks (call tree s e .state) (steal r (e .first) (e .second))
-      steal-tied = rw (steal-next p ks r e j n) at call-tied
-
-      -- The thief holds the step taken.
-      steal-held : getD (call tree s e .state .held) (e .first) 0 ≡ oldest (workerAt r (e .second) .hand .deque)
-      unfolding pair enriched
-      steal-held =
-          let first = first-within ks r (pair e) j in
-          rw (steal-thief r (e .first) (e .second) first) at
-          (steal-tied .shows .hands (e .first) (omega (arith, tied .shows .workers)) .holding) .0
-
-  after-tied : (es : List Event) (s : RunState) (r : Run) → Tied p ks s r → Tied p ks (stateAfter tree s es) (after p ks r es)
-  unfolding stateAfter after afterEvents
-  after-tied [] s r tied = tied
-  after-tied (e ∷ es) s r tied =
-      after-tied es (call tree s e .state) (eventCall p ks r (pair e) .state) (call-tied s r tied e)
-
-  same-from : (es : List Event) (s : RunState) (r : Run) → Tied p ks s r → after p ks r (liveRun tree s es) ≡ after p ks r es
+  same-from : (es : List Event) (r : Run) → after p ks r (ruledRun r es) ≡ after p ks r es
   unfolding liveRun after afterEvents
-  same-from [] s r tied = refl
-  same-from (e ∷ es) s r tied =
-      let state = call tree s e .state in
+  same-from [] r = refl
+  same-from (e ∷ es) r =
       elim (ℕ-discrete (judgeEvent ks r (pair e)) 0) [
-        | yes j ↦ rw (live-on s r tied e j es) (same-from es state (eventCall p ks r (pair e) .state) (call-tied s r tied e))
-        | no n ↦ rw (live-off s r tied e n es, refused-after p ks r e n es) (same-from es state r (refused-tied s r tied e n))
+        | yes j ↦ rw (live-on r e es j) (same-from es (eventCall p ks r (pair e) .state))
+        | no n ↦ rw (live-off r e es n, refused-after p ks r e n es) (same-from es r)
       ]
 
   -- The rules accept each of some events where it stands.
@@ -181,100 +155,177 @@ module _ (p : ℕ) (tree : List ℕ) (frame : Frame tree) where
   accepted-one r e es j rest zero l = j
   accepted-one r e es j rest (suc i) l = rest i (omega arith)
 
-  accepted-from : (es : List Event) (s : RunState) (r : Run) → Tied p ks s r → Accepted r (liveRun tree s es)
+  accepted-from : (es : List Event) (r : Run) → Accepted r (ruledRun r es)
   unfolding liveRun
-  accepted-from [] s r tied = λ i l. absurd (omega arith)
-  accepted-from (e ∷ es) s r tied =
-      let state = call tree s e .state in
+  accepted-from [] r = λ i l. absurd (omega arith)
+  accepted-from (e ∷ es) r =
+      let next = eventCall p ks r (pair e) .state in
       elim (ℕ-discrete (judgeEvent ks r (pair e)) 0) [
-        | yes j ↦ rw (live-on s r tied e j es)
-            (accepted-one r e (liveRun tree state es) j
-            (accepted-from es state (eventCall p ks r (pair e) .state) (call-tied s r tied e)))
-        | no n ↦ rw (live-off s r tied e n es) (accepted-from es state r (refused-tied s r tied e n))
+        | yes j ↦ rw (live-on r e es j) (accepted-one r e (ruledRun next es) j (accepted-from es next))
+        | no n ↦ rw (live-off r e es n) (accepted-from es r)
       ]
 
-  runs-from : (es : List Event) (s : RunState) (r : Run) → Tied p ks s r
-      → length (r .log) + runsIn (liveRun tree s es) ≡ length (after p ks r es .log)
+  runs-from : (es : List Event) (r : Run) → length (r .log) + runsIn (ruledRun r es) ≡ length (after p ks r es .log)
   unfolding liveRun after afterEvents runsIn sum steal
-  runs-from [] s r tied = omega arith
-  runs-from (e ∷ es) s r tied =
-      let state = call tree s e .state in
+  runs-from [] r = omega arith
+  runs-from (e ∷ es) r =
       elim (ℕ-discrete (judgeEvent ks r (pair e)) 0) [
         | yes j ↦ elim (ℕ-discrete (e .first) (e .second)) [
           | yes same ↦
-              let rest = runs-from es state (eventCall p ks r (pair e) .state) (call-tied s r tied e) in
-              rw (live-on s r tied e j es, eq-eqb (e .first) (e .second) same) (omega (arith, run-next p ks r e j same .0))
+              let rest = runs-from es (eventCall p ks r (pair e) .state) in
+              rw (live-on r e es j, eq-eqb (e .first) (e .second) same) (omega (arith, run-next p ks r e j same .0))
           | no n ↦
-              let rest = runs-from es state (steal r (e .first) (e .second)) (steal-tied s r tied e j n) in
-              rw (live-on s r tied e j es, ne-eqb (e .first) (e .second) n, steal-after p ks r e j n es) (omega arith)
+              let rest = runs-from es (steal r (e .first) (e .second)) in
+              rw (live-on r e es j, steal-next p ks r e j n, ne-eqb (e .first) (e .second) n, steal-after p ks r e j n es) (omega arith)
         ]
-        | no n ↦ rw (live-off s r tied e n es, refused-after p ks r e n es) (runs-from es state r (refused-tied s r tied e n))
+        | no n ↦ rw (live-off r e es n, refused-after p ks r e n es) (runs-from es r)
       ]
 
-  steals-from : (es : List Event) (s : RunState) (r : Run) → Tied p ks s r
-      → r .steals ++ liveSteals tree s es ≡ after p ks r es .steals
-  unfolding liveSteals after afterEvents steal
-  steals-from [] s r tied = append-nil (r .steals)
-  steals-from (e ∷ es) s r tied =
-      let state = call tree s e .state in
-      let said = call-told s r tied e in
+  steals-from : (es : List Event) (r : Run) → r .steals ++ liveSteals (ruledCall p ks) r es ≡ after p ks r es .steals
+  unfolding liveSteals stealBy ruledCall after afterEvents steal
+  steals-from [] r = append-nil (r .steals)
+  steals-from (e ∷ es) r =
       elim (ℕ-discrete (judgeEvent ks r (pair e)) 0) [
         | yes j ↦ elim (ℕ-discrete (e .first) (e .second)) [
           | yes same ↦
-              let rest = steals-from es state (eventCall p ks r (pair e) .state) (call-tied s r tied e) in
-              rw (said, run-told p ks r e j same) (rw (run-next p ks r e j same .1) at rest)
+              let rest = steals-from es (eventCall p ks r (pair e) .state) in
+              rw (run-told p ks r e j same) (rw (run-next p ks r e j same .1) at rest)
           | no n ↦
-              let rest = steals-from es state (steal r (e .first) (e .second)) (steal-tied s r tied e j n) in
-              rw (said, steal-told p ks r e j n, steal-held s r tied e j n, steal-after p ks r e j n es)
-              (rw append-assoc at rest)
+              let rest = steals-from es (steal r (e .first) (e .second)) in
+              rw (steal-told p ks r e j n, steal-next p ks r e j n, steal-after p ks r e j n es) (rw append-assoc at rest)
         ]
-        | no n ↦ rw (said, refused-told p ks r e n, refused-after p ks r e n es)
-            (steals-from es state r (refused-tied s r tied e n))
+        | no n ↦ rw (refused-told p ks r e n, refused-next p ks r e n, refused-after p ks r e n es) (steals-from es r)
       ]
+
+-- ---- two ways to call
+
+-- States of two kinds are tied so that the calls tell the same and tie what they hand back: then the live runs are the same.
+module _ {S T : Type 0} (one : S → Event → Called S) (two : T → Event → Called T) (Tied : S → T → Type 0)
+    (numbers : (s : S) (t : T) → Tied s t → (e : Event) → one s e .number ≡ two t e .number)
+    (takes : (s : S) (t : T) → Tied s t → (e : Event) → one s e .took ≡ two t e .took)
+    (nexts : (s : S) (t : T) → Tied s t → (e : Event) → Tied (one s e .state) (two t e .state)) where
+  run-alike : (es : List Event) (s : S) (t : T) → Tied s t → liveRun one s es ≡ liveRun two t es
+  unfolding liveRun
+  run-alike [] s t tied = refl
+  run-alike (e ∷ es) s t tied = rw (numbers s t tied e, run-alike es _ _ (nexts s t tied e)) refl
+
+  steals-alike : (es : List Event) (s : S) (t : T) → Tied s t → liveSteals one s es ≡ liveSteals two t es
+  unfolding liveSteals
+  steals-alike [] s t tied = refl
+  steals-alike (e ∷ es) s t tied = rw (takes s t tied e, steals-alike es _ _ (nexts s t tied e)) refl
+
+  state-tied : (es : List Event) (s : S) (t : T) → Tied s t → Tied (stateAfter one s es) (stateAfter two t es)
+  unfolding stateAfter
+  state-tied [] s t tied = tied
+  state-tied (e ∷ es) s t tied = state-tied es _ _ (nexts s t tied e)
+
+-- ---- the entries' calls and the rules'
+
+-- The state shows the run, which has the invariant.
+record Tied (p : ℕ) (ks : List ℕ) (s : RunState) (r : Run) : Type 0 where
+  inv : Invariant p ks r
+  shows : Shows p ks (fields s) r
+
+module _ (p : ℕ) (tree : List ℕ) (frame : Frame tree) where
+  abbrev ks : List ℕ
+  ks = kinds tree
+
+  module _ (s : RunState) (r : Run) (tied : Tied p ks s r) (e : Event) where
+    call-told : eventAnswer s tree (e .first) (e .second) .outcome ≡ told p ks r (pair e)
+    unfolding pair eventAnswer
+    call-told = event-tells p tree frame (fields s) r (tied .inv) (tied .shows) (pair e)
+
+    call-judged : entryCall tree s e .number ≡ ruledCall p ks r e .number
+    unfolding entryCall ruledCall
+    call-judged = rw call-told (told-number p ks r e)
+
+    call-tied : Tied p ks (entryCall tree s e .state) (ruledCall p ks r e .state)
+    unfolding entryCall ruledCall pair eventAnswer
+    call-tied =
+        record {
+          inv = event-keeps p ks (frame .some) (frame .shape) r (tied .inv) (pair e);
+          shows = event-shows p tree frame (fields s) r (tied .inv) (tied .shows) (pair e);
+        }
+
+    -- The thief holds the step taken.
+    steal-held : judgeEvent ks r (pair e) ≡ 0 → (e .first ≡ e .second → ⊥)
+        → getD (entryCall tree s e .state .held) (e .first) 0 ≡ oldest (workerAt r (e .second) .hand .deque)
+    unfolding ruledCall pair enriched
+    steal-held j n =
+        let here = first-within ks r (pair e) j in
+        let shows = rw (steal-next p ks r e j n) at (call-tied .shows) in
+        rw (steal-thief r (e .first) (e .second) here) at
+        (shows .hands (e .first) (omega (arith, tied .shows .workers, tied .shows .most)) .holding) .0
+
+    call-took : entryCall tree s e .took ≡ ruledCall p ks r e .took
+    unfolding entryCall ruledCall
+    call-took =
+        rw call-told (elim (ℕ-discrete (judgeEvent ks r (pair e)) 0) [
+          | yes j ↦ elim (ℕ-discrete (e .first) (e .second)) [
+            | yes same ↦ run-told p ks r e j same _ ∙ sym (run-told p ks r e j same _)
+            | no n ↦ ap (tookOf (told p ks r (pair e))) (steal-held j n)
+          ]
+          | no n ↦ refused-told p ks r e n _ ∙ sym (refused-told p ks r e n _)
+        ])
 
 -- ---- from the start
 
-module _ (p : ℕ) (tree : List ℕ) (accepts : startVerdict p tree .number ≡ 0) where
+module _ (w p : ℕ) (tree : List ℕ) (accepts : startVerdict w p tree .number ≡ 0) where
   -- The rules' state after some events: of all of them, and of the accepted ones alone.
   unfoldable pub runAfter : List Event → Run
-  runAfter es = afterEvents p (kinds tree) (start mostWorkers) (map pair es)
+  runAfter es = afterEvents p (kinds tree) (start w) (map pair es)
 
   frame : Frame tree
-  frame = accepted-frame tree (start-tree-accepts p tree accepts)
+  frame = accepted-frame tree (start-tree-accepts w p tree accepts)
 
-  start-tied : Tied p (kinds tree) (startAnswer p tree .state) (start mostWorkers)
+  abbrev first : RunState
+  first = startAnswer w p tree .state
+
+  start-tied : Tied p (kinds tree) first (start w)
   unfolding startAnswer
   start-tied =
+      let few = start-workers w p tree accepts in
+      let setup : Setup = record { policy = p; workers = w } in
       rw accepts (record {
-        inv = start-invariant p (kinds tree) (frame .some) (frame .shape) mostWorkers (omega arith);
-        shows = start-shows p (kinds tree) (frame .some) (frame .most);
+        inv = start-invariant p (kinds tree) (frame .some) (frame .shape) w (few .0);
+        shows = start-shows setup (kinds tree) (frame .some) (frame .most) (few .0) (few .1);
       })
+
+  runs-alike : (es : List Event) → liveRun (entryCall tree) first es ≡ ruledRun p (kinds tree) (start w) es
+  runs-alike es =
+      run-alike (entryCall tree) (ruledCall p (kinds tree)) (Tied p (kinds tree)) (call-judged p tree frame) (call-took p tree frame)
+      (call-tied p tree frame) es first (start w) start-tied
 
   -- An event's call refuses it with the rules' number.
   pub call-number : (before : List Event) (e : Event)
-      → refusalOf (call tree (stateAfter tree (startAnswer p tree .state) before) e .outcome)
-      ≡ judgeEvent (kinds tree) (runAfter before) (pair e)
-  unfolding runAfter after
+      → entryCall tree (stateAfter (entryCall tree) first before) e .number ≡ judgeEvent (kinds tree) (runAfter before) (pair e)
+  unfolding runAfter after ruledCall
   call-number before e =
-      call-judged p tree frame (stateAfter tree (startAnswer p tree .state) before) (runAfter before)
-      (after-tied p tree frame before (startAnswer p tree .state) (start mostWorkers) start-tied) e
+      let tied =
+      state-tied (entryCall tree) (ruledCall p (kinds tree)) (Tied p (kinds tree)) (call-judged p tree frame) (call-took p tree frame)
+      (call-tied p tree frame) before first (start w) start-tied
+      in
+      call-judged p tree frame (stateAfter (entryCall tree) first before) (runAfter before)
+      (rw (ruled-after p (kinds tree) before (start w)) at tied) e
 
   -- Refused events change nothing.
-  pub live-same : (es : List Event) → runAfter (liveRun tree (startAnswer p tree .state) es) ≡ runAfter es
+  pub live-same : (es : List Event) → runAfter (liveRun (entryCall tree) first es) ≡ runAfter es
   unfolding runAfter after
-  live-same es = same-from p tree frame es (startAnswer p tree .state) (start mostWorkers) start-tied
+  live-same es = rw (runs-alike es) (same-from p (kinds tree) es (start w))
 
   -- The rules accept each event of the live run where it stands.
   pub live-accepted : (es : List Event)
-      → AcceptedTo mostWorkers p (kinds tree) (map pair (liveRun tree (startAnswer p tree .state) es))
-      (length (map pair (liveRun tree (startAnswer p tree .state) es)))
-  live-accepted es = accepted-from p tree frame es (startAnswer p tree .state) (start mostWorkers) start-tied
+      → AcceptedTo w p (kinds tree) (map pair (liveRun (entryCall tree) first es)) (length (map pair (liveRun (entryCall tree) first es)))
+  live-accepted es = rw (runs-alike es) (accepted-from p (kinds tree) es (start w))
 
   -- Its runs are the log's, its steals the rules'.
-  pub live-runs : (es : List Event) → runsIn (liveRun tree (startAnswer p tree .state) es) ≡ length (runAfter es .log)
+  pub live-runs : (es : List Event) → runsIn (liveRun (entryCall tree) first es) ≡ length (runAfter es .log)
   unfolding runAfter after start
-  live-runs es = omega (arith, runs-from p tree frame es (startAnswer p tree .state) (start mostWorkers) start-tied)
+  live-runs es = rw (runs-alike es) (omega (arith, runs-from p (kinds tree) es (start w)))
 
-  pub live-steals : (es : List Event) → liveSteals tree (startAnswer p tree .state) es ≡ runAfter es .steals
+  pub live-steals : (es : List Event) → liveSteals (entryCall tree) first es ≡ runAfter es .steals
   unfolding runAfter after start
-  live-steals es = steals-from p tree frame es (startAnswer p tree .state) (start mostWorkers) start-tied
+  live-steals es =
+      steals-alike (entryCall tree) (ruledCall p (kinds tree)) (Tied p (kinds tree)) (call-judged p tree frame) (call-took p tree frame)
+      (call-tied p tree frame) es first (start w) start-tied
+      ∙ steals-from p (kinds tree) es (start w)

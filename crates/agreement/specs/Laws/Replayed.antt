@@ -9,11 +9,11 @@ use lib.Dec.{eqb}
 use borrow.Author.Tests.{eq-eqb, le-leb}
 use Rattle.rules.specs.Bytes.{records, wholeRecords, accepted, refusedIf, firstRefused}
 use Rattle.rules.specs.Tree.{kinds}
-use Rattle.rules.specs.Scheduling.{mostWorkers, Phase, Steal, Run, start}
+use Rattle.rules.specs.Scheduling.{Phase, Steal, Run, start}
 use Rattle.rules.specs.Traces.{traceBytes, replayWalk}
 use Rattle.rules.specs.Calls.{startVerdict, afterEvents, Replayed, replayVerdict, replayOf, replayRefused, replayCall}
 use Rattle.rules.specs.Calls.{mostTraceRecords}
-use Rattle.tree_scan.specs.Laws.Starts.{start-tree-accepts, admitted-policy}
+use Rattle.tree_scan.specs.Laws.Starts.{start-tree-accepts, start-workers, admitted-policy}
 use Rattle.tree_scan.specs.Laws.Frames.{Frame, accepted-frame}
 use Rattle.run_invariant.specs.Laws.Always.{always}
 use Rattle.run_invariant.specs.Laws.Consequences.{steals-most}
@@ -33,52 +33,52 @@ bytes-whole p ks steals h =
 
 -- ---- the call
 
-module _ (p : ℕ) (tree trace list : List ℕ) (starts : startVerdict p tree .number ≡ 0)
+module _ (w p : ℕ) (tree trace list : List ℕ) (starts : startVerdict w p tree .number ≡ 0)
     (listed : wholeRecords 4 mostTraceRecords trace ≡ true) where
-  fine : eqb (startVerdict p tree .number) 0 ≡ true
-  fine = eq-eqb (startVerdict p tree .number) 0 starts
+  fine : eqb (startVerdict w p tree .number) 0 ≡ true
+  fine = eq-eqb (startVerdict w p tree .number) 0 starts
 
-  call-short : shortList tree list ≡ true → replayCall mostWorkers p tree trace list .verdict .number ≡ 7
+  call-short : shortList tree list ≡ true → replayCall w p tree trace list .verdict .number ≡ 7
   unfolding replayCall replayVerdict replayRefused firstRefused refusedIf accepted shortList
   call-short short = rw (fine, listed, short) refl
 
   call-is : shortList tree list ≡ false → (phs : List Phase)
-      → replayWalk mostWorkers p (kinds tree) (records 4 trace) ≡ record { verdict = accepted; state = phs }
-      → replayCall mostWorkers p tree trace list ≡ replayOf mostWorkers p tree phs list
+      → replayWalk w p (kinds tree) (records 4 trace) ≡ record { verdict = accepted; state = phs }
+      → replayCall w p tree trace list ≡ replayOf p tree phs list
   unfolding replayCall replayVerdict firstRefused refusedIf accepted shortList
   call-is room phs e = rw (fine, listed, room, e) refl
 
 -- ---- the trace of a run
 
-module _ (p : ℕ) (tree : List ℕ) (starts : startVerdict p tree .number ≡ 0) (es : List (List ℕ)) (list : List ℕ) where
+module _ (w p : ℕ) (tree : List ℕ) (starts : startVerdict w p tree .number ≡ 0) (es : List (List ℕ)) (list : List ℕ) where
   -- The state after some events, and the trace of its steals.
   abbrev run : Run
-  run = afterEvents p (kinds tree) (start mostWorkers) es
+  run = afterEvents p (kinds tree) (start w) es
 
   abbrev trace : List ℕ
   trace = traceBytes p (kinds tree) (run .steals)
 
   frame : Frame tree
-  frame = accepted-frame tree (start-tree-accepts p tree starts)
+  frame = accepted-frame tree (start-tree-accepts w p tree starts)
 
   listed : wholeRecords 4 mostTraceRecords trace ≡ true
   listed =
-      let inv = always p (kinds tree) (frame .some) (frame .shape) mostWorkers (omega arith) es in
+      let inv = always p (kinds tree) (frame .some) (frame .shape) w (start-workers w p tree starts .0) es in
       bytes-whole p (kinds tree) (run .steals)
       (omega (arith, steals-most p (kinds tree) (frame .some) (frame .shape) run inv, frame .most))
 
   -- What replaying it answers.
   pub replayed-is : shortList tree list ≡ false
-      → replayCall mostWorkers p tree trace list ≡ replayOf mostWorkers p tree (run .phases) list
+      → replayCall w p tree trace list ≡ replayOf p tree (run .phases) list
   replayed-is room =
-      call-is p tree trace list starts listed room (run .phases)
-      (trace-replays p (admitted-policy p tree starts) (kinds tree) (frame .some) (frame .most) (frame .shape) (frame .kind)
-      mostWorkers (omega arith) es)
+      call-is w p tree trace list starts listed room (run .phases)
+      (trace-replays p (admitted-policy w p tree starts) (kinds tree) (frame .some) (frame .most) (frame .shape) (frame .kind)
+      w (start-workers w p tree starts .0) es)
 
-  pub replayed-number : replayCall mostWorkers p tree trace list .verdict .number ≡ cond (shortList tree list) 7 0
+  pub replayed-number : replayCall w p tree trace list .verdict .number ≡ cond (shortList tree list) 7 0
   unfolding replayOf accepted
   replayed-number = by (shortList tree list) refl
     where
-      by : (b : Bool) → shortList tree list ≡ b → replayCall mostWorkers p tree trace list .verdict .number ≡ cond b 7 0
-      by true short = call-short p tree trace list starts listed short
+      by : (b : Bool) → shortList tree list ≡ b → replayCall w p tree trace list .verdict .number ≡ cond b 7 0
+      by true short = call-short w p tree trace list starts listed short
       by false room = ap (λ (x : Replayed). x .verdict .number) (replayed-is room)

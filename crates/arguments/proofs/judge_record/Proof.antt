@@ -17,7 +17,7 @@ whole-records-requires c κs = search needs
 too-short-requires : tie.Need-too-short-requires
 too-short-requires c κs =
     let a = c .before .before .before .before .args in
-    few-steps (a .policy) (a .tree .now) (c .before .judge-start .result) (c .before .judge-start .ensures)
+    few-steps _ _ (a .tree .now) (c .before .judge-start .result) (c .before .judge-start .ensures)
 
 judge-call-requires : tie.Need-judge-call-requires
 judge-call-requires c κs = search needs
@@ -29,7 +29,7 @@ returns c =
     let whole = short .before in
     let start = whole .before in
     let a = start .before .before .before .args in
-    let judged = judged-is (a .policy) (a .tree .now) (start .judge-start .result) (start .judge-start .ensures) in
+    let judged = judged-is _ _ (a .tree .now) (start .judge-start .result) (start .judge-start .ensures) in
     let is = judged _ (λ (n : ℕ). tooShort n (a .log) (a .trace)) in
     c .judge-call .ensures ∙ rw (short .too-short .ensures, whole .whole-records .ensures) is
 

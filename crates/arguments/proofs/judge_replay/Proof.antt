@@ -20,7 +20,7 @@ mul-short : tie.Need-mul-short
 mul-short c =
     let start = c .before .before in
     let a = start .before .before .before .args in
-    omega (arith, few-steps (a .policy) (a .tree .now) (start .judge-start .result) (start .judge-start .ensures))
+    omega (arith, few-steps _ _ (a .tree .now) (start .judge-start .result) (start .judge-start .ensures))
 
 judge-call-requires : tie.Need-judge-call-requires
 judge-call-requires c κs = search needs
@@ -33,7 +33,7 @@ returns c =
     let a = start .before .before .before .args in
     c .judge-call .ensures
     ∙ rw (whole .whole-records .ensures)
-    (judged-is (a .policy) (a .tree .now) (start .judge-start .result) (start .judge-start .ensures) _ (λ (n : ℕ). ltb (a .list) (4 * n)))
+    (judged-is _ _ (a .tree .now) (start .judge-start .result) (start .judge-start .ensures) _ (λ (n : ℕ). ltb (a .list) (4 * n)))
 
 pub judge-replay-spec : {M : Type 1} → statement M
 judge-replay-spec = tie.close (tie.spec judge-start-requires whole-records-requires mul-short judge-call-requires returns)

@@ -21,43 +21,43 @@ use Rattle.arguments.specs.Terms.{givenVerdict, givenJudged, judged}
 
 -- ---- the code's answer
 
-module _ (p : ℕ) (tree : List ℕ) where
+module _ (w p : ℕ) (tree : List ℕ) where
   -- The start is accepted.
-  past-start : startVerdict p tree .number ≡ 0 → (whole short : Bool)
-      → judged (startJudged p tree) whole short ≡ givenJudged p tree whole short
+  past-start : startVerdict w p tree .number ≡ 0 → (whole short : Bool)
+      → judged (startJudged w p tree) whole short ≡ givenJudged w p tree whole short
   unfolding judged startJudged givenJudged givenVerdict firstRefused refusedIf accepted
-  past-start z true true = rw (eq-eqb (startVerdict p tree .number) 0 z) refl
-  past-start z true false = rw (eq-eqb (startVerdict p tree .number) 0 z, z, admitted-position p tree z) refl
-  past-start z false short = rw (eq-eqb (startVerdict p tree .number) 0 z) refl
+  past-start z true true = rw (eq-eqb (startVerdict w p tree .number) 0 z) refl
+  past-start z true false = rw (eq-eqb (startVerdict w p tree .number) 0 z, z, admitted-position w p tree z) refl
+  past-start z false short = rw (eq-eqb (startVerdict w p tree .number) 0 z) refl
 
   -- It is refused, whatever the other tests say.
-  at-start : (startVerdict p tree .number ≡ 0 → ⊥) → (whole short other : Bool)
-      → judged (startJudged p tree) whole short ≡ givenJudged p tree whole other
+  at-start : (startVerdict w p tree .number ≡ 0 → ⊥) → (whole short other : Bool)
+      → judged (startJudged w p tree) whole short ≡ givenJudged w p tree whole other
   unfolding judged startJudged givenJudged givenVerdict firstRefused
   at-start n whole short other =
-      let no = ne-eqb (startVerdict p tree .number) 0 n in
+      let no = ne-eqb (startVerdict w p tree .number) 0 n in
       rw (no, no) refl
 
-  module _ (a : Accepted) (is : a ≡ startJudged p tree) where
-    numbered : startVerdict p tree .number ≡ a .number
-    numbered = sym (ap (λ (v : Verdict). v .number) (start-judged p tree a is))
+  module _ (a : Accepted) (is : a ≡ startJudged w p tree) where
+    numbered : startVerdict w p tree .number ≡ a .number
+    numbered = sym (ap (λ (v : Verdict). v .number) (start-judged w p tree a is))
 
     -- Not too many steps: none where the start is refused.
     pub few-steps : a .steps ≤ 4095
     unfolding startJudged
     few-steps =
         elim (ℕ-discrete (a .number) 0) [
-          | yes z ↦ begun-steps (start-begins p tree a is z) .1
+          | yes z ↦ begun-steps (start-begins w p tree a is z) .1
           | no n ↦ omega (arith, rw (numbered, ne-eqb (a .number) 0 n) at (ap (λ (x : Accepted). x .steps) is))
         ]
 
     -- The answer, where the lent outputs are judged by the count of steps.
     pub judged-is : (whole : Bool) (short : ℕ → Bool)
-        → judged a whole (short (a .steps)) ≡ givenJudged p tree whole (short (length (kinds tree)))
+        → judged a whole (short (a .steps)) ≡ givenJudged w p tree whole (short (length (kinds tree)))
     judged-is whole short =
         elim (ℕ-discrete (a .number) 0) [
           | yes z ↦
-              let begun = start-begins p tree a is z in
+              let begun = start-begins w p tree a is z in
               ap (λ (n : ℕ). judged a whole (short n)) (begun .steps) ∙ rw is (past-start (begun .fine) whole _)
           | no n ↦ rw is (at-start (λ z. n (sym numbered ∙ z)) whole _ _)
         ]
@@ -65,60 +65,60 @@ module _ (p : ℕ) (tree : List ℕ) where
 -- ---- the whole call
 
 -- The verdict on a whole call: on what it is given, then on its records.
-abbrev pub callVerdict : ℕ → List ℕ → Bool → Bool → Verdict → Verdict
-callVerdict p tree whole short last =
-    firstRefused (startVerdict p tree ∷ refusedIf (not whole) 6 0 ∷ refusedIf short 7 0 ∷ last ∷ [])
+abbrev pub callVerdict : ℕ → ℕ → List ℕ → Bool → Bool → Verdict → Verdict
+callVerdict w p tree whole short last =
+    firstRefused (startVerdict w p tree ∷ refusedIf (not whole) 6 0 ∷ refusedIf short 7 0 ∷ last ∷ [])
 
 -- What is known where the call is not refused for what it is given.
-pub record Given (p : ℕ) (tree : List ℕ) (whole short : Bool) : Type 0 where
-  pub started : startVerdict p tree .number ≡ 0
+pub record Given (w p : ℕ) (tree : List ℕ) (whole short : Bool) : Type 0 where
+  pub started : startVerdict w p tree .number ≡ 0
   pub listed : whole ≡ true
   pub room : short ≡ false
 
 -- Then the verdict on the records decides.
-pub given-last : {p : ℕ} {tree : List ℕ} {whole short : Bool} → Given p tree whole short → (last : Verdict)
-    → callVerdict p tree whole short last ≡ firstRefused (last ∷ [])
+pub given-last : {w p : ℕ} {tree : List ℕ} {whole short : Bool} → Given w p tree whole short → (last : Verdict)
+    → callVerdict w p tree whole short last ≡ firstRefused (last ∷ [])
 unfolding firstRefused refusedIf accepted
-given-last {p} {tree} g last = rw (eq-eqb (startVerdict p tree .number) 0 (g .started), g .listed, g .room) refl
+given-last {w} {p} {tree} g last = rw (eq-eqb (startVerdict w p tree .number) 0 (g .started), g .listed, g .room) refl
 
 -- Whether one of them refuses.
-module _ (p : ℕ) (tree : List ℕ) where
-  none-refused : (whole short : Bool) → givenVerdict p tree whole short .number ≡ 0 → Given p tree whole short
+module _ (w p : ℕ) (tree : List ℕ) where
+  none-refused : (whole short : Bool) → givenVerdict w p tree whole short .number ≡ 0 → Given w p tree whole short
   unfolding givenVerdict firstRefused refusedIf accepted
-  none-refused true false z = record { started = first-accepts (startVerdict p tree) [] z .0; listed = refl; room = refl }
+  none-refused true false z = record { started = first-accepts (startVerdict w p tree) [] z .0; listed = refl; room = refl }
   none-refused true true z =
-      absurd (omega (arith, first-accepts (startVerdict p tree) (record { number = 7; position = 0 } ∷ []) z .1))
+      absurd (omega (arith, first-accepts (startVerdict w p tree) (record { number = 7; position = 0 } ∷ []) z .1))
   none-refused false short z =
-      absurd (omega (arith, first-accepts (startVerdict p tree) (record { number = 6; position = 0 } ∷ []) z .1))
+      absurd (omega (arith, first-accepts (startVerdict w p tree) (record { number = 6; position = 0 } ∷ []) z .1))
 
-  one-refused : (whole short : Bool) → (givenVerdict p tree whole short .number ≡ 0 → ⊥) → (last : Verdict)
-      → callVerdict p tree whole short last ≡ givenVerdict p tree whole short
+  one-refused : (whole short : Bool) → (givenVerdict w p tree whole short .number ≡ 0 → ⊥) → (last : Verdict)
+      → callVerdict w p tree whole short last ≡ givenVerdict w p tree whole short
   unfolding givenVerdict firstRefused refusedIf accepted
   one-refused true true n last = refl
   one-refused true false n last =
-      elim (ℕ-discrete (startVerdict p tree .number) 0) [
-        | yes z ↦ absurd (n (rw (eq-eqb (startVerdict p tree .number) 0 z) refl))
-        | no m ↦ rw (ne-eqb (startVerdict p tree .number) 0 m) refl
+      elim (ℕ-discrete (startVerdict w p tree .number) 0) [
+        | yes z ↦ absurd (n (rw (eq-eqb (startVerdict w p tree .number) 0 z) refl))
+        | no m ↦ rw (ne-eqb (startVerdict w p tree .number) 0 m) refl
       ]
   one-refused false short n last = refl
 
 -- What the answer says.
-module _ (p : ℕ) (tree : List ℕ) (whole short : Bool) (a : Accepted) (is : a ≡ givenJudged p tree whole short) where
-  told : _≡_ {A = Verdict} (record { number = a .number; position = a .position }) (givenVerdict p tree whole short)
+module _ (w p : ℕ) (tree : List ℕ) (whole short : Bool) (a : Accepted) (is : a ≡ givenJudged w p tree whole short) where
+  told : _≡_ {A = Verdict} (record { number = a .number; position = a .position }) (givenVerdict w p tree whole short)
   unfolding givenJudged
   told = ap {B = Verdict} (λ (x : Accepted). record { number = x .number; position = x .position }) is
 
-  number : givenVerdict p tree whole short .number ≡ a .number
+  number : givenVerdict w p tree whole short .number ≡ a .number
   number = sym (ap (λ (v : Verdict). v .number) told)
 
   pub given-refused : (a .number ≡ 0 → ⊥) → (last : Verdict)
-      → callVerdict p tree whole short last ≡ record { number = a .number; position = a .position }
-  given-refused n last = one-refused p tree whole short (λ z. n (sym number ∙ z)) last ∙ sym told
+      → callVerdict w p tree whole short last ≡ record { number = a .number; position = a .position }
+  given-refused n last = one-refused w p tree whole short (λ z. n (sym number ∙ z)) last ∙ sym told
 
   module _ (z : a .number ≡ 0) where
-    pub given : Given p tree whole short
-    given = none-refused p tree whole short (number ∙ z)
+    pub given : Given w p tree whole short
+    given = none-refused w p tree whole short (number ∙ z)
 
     pub given-steps : a .steps ≡ length (kinds tree)
     unfolding givenJudged
-    given-steps = ap (λ (x : Accepted). x .steps) is ∙ rw (eq-eqb (givenVerdict p tree whole short .number) 0 (number ∙ z)) refl
+    given-steps = ap (λ (x : Accepted). x .steps) is ∙ rw (eq-eqb (givenVerdict w p tree whole short .number) 0 (number ∙ z)) refl

@@ -99,11 +99,11 @@ map-at f (suc n) a (suc i) h =
     let place : a + suc i ≡ suc a + i = omega arith in
     rw place (map-at f n (suc a) i (omega arith))
 
-loads-length : (w : ℕ) (ks ws : List ℕ) (phs : List Phase) → length (loads w ks ws phs) ≡ w
+pub loads-length : (w : ℕ) (ks ws : List ℕ) (phs : List Phase) → length (loads w ks ws phs) ≡ w
 unfolding loads
 loads-length w ks ws phs = length-map (count 0 w) (workerLoad ks ws phs) ∙ length-count w 0
 
-loads-at : (w : ℕ) (ks ws : List ℕ) (phs : List Phase) (u : ℕ) → u < w → getD (loads w ks ws phs) u 0 ≡ workerLoad ks ws phs u
+pub loads-at : (w : ℕ) (ks ws : List ℕ) (phs : List Phase) (u : ℕ) → u < w → getD (loads w ks ws phs) u 0 ≡ workerLoad ks ws phs u
 unfolding loads
 loads-at w ks ws phs u h = map-at (workerLoad ks ws phs) w 0 u h ∙ rw zero-add refl
 

@@ -1,6 +1,6 @@
--- `phases_text::put_text` meets its contract: the parts that it cuts an input into are the rules' policy, tree and trace; its own
--- run list has room for every tree, so replay's verdict is the one that the rules print; and either text, of a refusal or of a run
--- list, is the rules' text. Assumes nothing.
+-- `phases_text::put_text` meets its contract: the parts that it cuts an input into are the rules' policy, tree and trace, and its
+-- count of workers is the rules' sixteen; its own run list has room for every tree, so replay's verdict is the one that the rules
+-- print; and either text, of a refusal or of a run list, is the rules' text. Assumes nothing.
 use Prim.Native.Nat.{ℕ}
 use mathlib.Core.Path.{_≡_, refl, ap, _∙_}
 use mathlib.Core.List.{List}
@@ -65,6 +65,9 @@ part-trace-start c = search needs
 part-trace-end : tie.Need-part-trace-end
 part-trace-end c = search needs
 
+cast-workers : tie.Need-cast-workers
+cast-workers c = search needs
+
 slice-aggregate-replay : tie.Need-slice-aggregate-replay
 slice-aggregate-replay c = search needs
 
@@ -126,6 +129,7 @@ put-text-spec =
     sub-trace
     part-trace-start
     part-trace-end
+    cast-workers
     slice-aggregate-replay
     replay-requires
     cast-put-refusal

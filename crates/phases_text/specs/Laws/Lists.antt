@@ -69,7 +69,7 @@ module _ (w p : ℕ) (tree trace list : List ℕ) (e : replayVerdict w p tree tr
 
   step-within : (i : ℕ) → i < length run → entryAt run i .step < 65536
   step-within i h =
-      omega (arith, start-steps p tree (accepted-start w p tree trace list e), entry-step w p tree trace split i h)
+      omega (arith, start-steps w p tree (accepted-start w p tree trace list e), entry-step w p tree trace split i h)
 
   worker-by : (i : ℕ) → i < length run → phaseAt phases (entryAt run i .phase) .worker ≡ workerBy trace (entryAt run i .phase)
   unfolding phasesOf

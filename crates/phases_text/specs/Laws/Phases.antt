@@ -67,23 +67,23 @@ module _ {input : List ℕ} {r : Replayed} {out : List ℕ} (called : Called inp
   same =
       same-verdict mostWorkers p tree trace (replicate (4 * length (kinds tree)) 0) list
       (λ z. omega (arith, length-replicate {A = ℕ} (4 * length (kinds tree)) 0))
-      (λ z. omega (arith, start-steps p tree z, called .room))
+      (λ z. omega (arith, start-steps mostWorkers p tree z, called .room))
 
   number : r .number ≡ verdict .number
   unfolding answers verdict
   number = ap (λ (x : Replayed). x .number) (called .answered) ∙ call-number mostWorkers p tree trace list
 
-  text-refused : (verdict .number ≡ 0 → ⊥) → phasesText mostWorkers input ≡ refusedLine verdict
+  text-refused : (verdict .number ≡ 0 → ⊥) → phasesText input ≡ refusedLine verdict
   unfolding phasesText
   text-refused n = rw (same, ne-eqb (verdict .number) 0 n) refl
 
   text-accepted : verdict .number ≡ 0
-      → phasesText mostWorkers input ≡ heading ++ phaseLines (phasesOf mostWorkers p tree trace) (runOf mostWorkers p tree trace)
+      → phasesText input ≡ heading ++ phaseLines (phasesOf mostWorkers p tree trace) (runOf mostWorkers p tree trace)
   unfolding phasesText phasesOf
   text-accepted z = rw (same, eq-eqb (verdict .number) 0 z) refl
 
   -- A refused replay's text.
-  pub called-refused : (r .number ≡ 0 → ⊥) → refusalText (r .number) (r .position) ≡ phasesText mostWorkers input
+  pub called-refused : (r .number ≡ 0 → ⊥) → refusalText (r .number) (r .position) ≡ phasesText input
   unfolding refusalText answers replayRefused verdict
   called-refused n =
       let refused : verdict .number ≡ 0 → ⊥ = λ z. n (number ∙ z) in
@@ -101,7 +101,7 @@ module _ {input : List ℕ} {r : Replayed} {out : List ℕ} (called : Called inp
 
     pub called-steps : length (kinds (inputTree input)) ≤ mostSteps
     unfolding verdict
-    called-steps = start-steps p tree (accepted-start mostWorkers p tree trace list fine)
+    called-steps = start-steps mostWorkers p tree (accepted-start mostWorkers p tree trace list fine)
 
     pub called-room : 4 * length (kinds (inputTree input)) ≤ length out
     unfolding verdict
@@ -111,7 +111,7 @@ module _ {input : List ℕ} {r : Replayed} {out : List ℕ} (called : Called inp
     unfolding verdict
     called-phases = rw out-is (listed-phases mostWorkers p tree trace list fine)
 
-    pub called-listed : heading ++ linesOf (inputTrace input) out (length (kinds (inputTree input))) ≡ phasesText mostWorkers input
+    pub called-listed : heading ++ linesOf (inputTrace input) out (length (kinds (inputTree input))) ≡ phasesText input
     unfolding verdict
     called-listed =
         rw out-is (ap (λ (l : List ℕ). heading ++ l) (listed-lines mostWorkers p tree trace list fine)) ∙ sym (text-accepted fine)
@@ -133,7 +133,7 @@ first-bytes most end input e =
     ]
 
 pub text-whole : (room end : ℕ) (input : List ℕ) → mostText ≤ room → end ≡ min mostInput (length input)
-    → phasesText mostWorkers (take end input) ≡ textFor room input
+    → phasesText (take end input) ≡ textFor room input
 unfolding textFor printed
 text-whole room end input h e = rw (le-ltb room mostText h, first-bytes mostInput end input e) refl
 
@@ -143,13 +143,13 @@ unfolding heading refusedLine
 some true lines refusal = omega arith
 some false lines refusal = omega arith
 
-printed-some : (w : ℕ) (input : List ℕ) → 0 < length (phasesText w input)
+printed-some : (input : List ℕ) → 0 < length (phasesText input)
 unfolding phasesText
-printed-some w input =
+printed-some input =
     let tree = inputTree input in
-    let refusal = replayVerdict w (inputPolicy input) tree (inputTrace input) (replicate (4 * length (kinds tree)) 0) in
+    let refusal = replayVerdict mostWorkers (inputPolicy input) tree (inputTrace input) (replicate (4 * length (kinds tree)) 0) in
     some (eqb (refusal .number) 0) _ refusal
 
 pub text-some : (room : ℕ) (input : List ℕ) → mostText ≤ room → 0 < length (textFor room input)
 unfolding textFor printed
-text-some room input h = rw (le-ltb room mostText h) (printed-some mostWorkers (take mostInput input))
+text-some room input h = rw (le-ltb room mostText h) (printed-some (take mostInput input))

@@ -19,8 +19,8 @@ use Rattle.tree_scan.specs.Laws.Frames.{accepted-frame}
 use Rattle.run_invariant.specs.Laws.Counts.{and-both}
 
 -- The tree of an accepted start has at most the limit of steps.
-pub start-steps : (p : ℕ) (tree : List ℕ) → startVerdict p tree .number ≡ 0 → length (kinds tree) ≤ mostSteps
-start-steps p tree e = accepted-frame tree (start-tree-accepts p tree e) .most
+pub start-steps : (w p : ℕ) (tree : List ℕ) → startVerdict w p tree .number ≡ 0 → length (kinds tree) ≤ mostSteps
+start-steps w p tree e = accepted-frame tree (start-tree-accepts w p tree e) .most
 
 not-refused : (b : Bool) (k : ℕ) → refusedIf (not b) (1 + k) 0 .number ≡ 0 → b ≡ true
 unfolding refusedIf accepted
@@ -29,26 +29,26 @@ not-refused false k e = absurd (omega arith)
 
 module _ (w p : ℕ) (tree trace : List ℕ) where
   -- Run lists with room for all records are alike.
-  pub same-verdict : (one two : List ℕ) → (startVerdict p tree .number ≡ 0 → 4 * length (kinds tree) ≤ length one)
-      → (startVerdict p tree .number ≡ 0 → 4 * length (kinds tree) ≤ length two)
+  pub same-verdict : (one two : List ℕ) → (startVerdict w p tree .number ≡ 0 → 4 * length (kinds tree) ≤ length one)
+      → (startVerdict w p tree .number ≡ 0 → 4 * length (kinds tree) ≤ length two)
       → replayVerdict w p tree trace one ≡ replayVerdict w p tree trace two
   unfolding replayVerdict firstRefused
   same-verdict one two f g =
-      elim (ℕ-discrete (startVerdict p tree .number) 0) [
+      elim (ℕ-discrete (startVerdict w p tree .number) 0) [
         | yes z ↦
             let n = length (kinds tree) in
             rw (le-ltb (length one) (4 * n) (f z), le-ltb (length two) (4 * n) (g z)) refl
-        | no n ↦ rw (ne-eqb (startVerdict p tree .number) 0 n) refl
+        | no n ↦ rw (ne-eqb (startVerdict w p tree .number) 0 n) refl
       ]
 
   module _ (list : List ℕ) where
     pub call-accepted : replayVerdict w p tree trace list .number ≡ 0
-        → replayCall w p tree trace list ≡ replayOf w p tree (replayWalk w p (kinds tree) (records 4 trace) .state) list
+        → replayCall w p tree trace list ≡ replayOf p tree (replayWalk w p (kinds tree) (records 4 trace) .state) list
     unfolding replayCall
     call-accepted e = rw (eq-eqb (replayVerdict w p tree trace list .number) 0 e) refl
 
     pub call-refused : (replayVerdict w p tree trace list .number ≡ 0 → ⊥)
-        → replayCall w p tree trace list ≡ replayRefused w (replayVerdict w p tree trace list) list
+        → replayCall w p tree trace list ≡ replayRefused (replayVerdict w p tree trace list) list
     unfolding replayCall
     call-refused n = rw (ne-eqb (replayVerdict w p tree trace list .number) 0 n) refl
 
@@ -62,7 +62,7 @@ module _ (w p : ℕ) (tree trace : List ℕ) where
         ]
 
     module _ (e : replayVerdict w p tree trace list .number ≡ 0) where
-      pub accepted-start : startVerdict p tree .number ≡ 0
+      pub accepted-start : startVerdict w p tree .number ≡ 0
       unfolding replayVerdict
       accepted-start = first-accepts _ _ e .0
 

@@ -15,7 +15,8 @@ entry c = c .before .before .before .before .before
 
 judged : (c : tie.After-judge-record)
     → let a = entry c .args in
-    c .judge-record .result ≡ recordJudged (a .policy) (a .tree .now) (a .events .now) (length (a .log .now)) (length (a .trace .now))
+    c .judge-record .result
+    ≡ recordJudged (a .setup .workers) (a .setup .policy) (a .tree .now) (a .events .now) (length (a .log .now)) (length (a .trace .now))
 judged c = c .judge-record .ensures
 
 -- The events have been walked.
@@ -32,7 +33,7 @@ returns : tie.Need-returns
 returns c =
     let at = c .before .before .before in
     let a = entry at .args in
-    given-refusal (a .policy) (a .tree .now) (a .events .now) (a .log .now) (a .trace .now) (at .judge-record .result) (judged at)
+    given-refusal _ _ (a .tree .now) (a .events .now) (a .log .now) (a .trace .now) (at .judge-record .result) (judged at)
     (c .before .if1 .taken) (c .refused .result) (c .refused .ensures)
 
 run-requires : tie.Need-run-requires
@@ -41,7 +42,7 @@ run-requires c κs =
     let at = one .before .before in
     let a = entry at .args in
     ready-admitted (a .events .now)
-    (record-ready (a .policy) (a .tree .now) (a .events .now) (a .log .now) (a .trace .now) (at .judge-record .result) (judged at)
+    (record-ready _ _ (a .tree .now) (a .events .now) (a .log .now) (a .trace .now) (at .judge-record .result) (judged at)
     (one .if1 .left))
 
 sub-last : tie.Need-sub-last
@@ -49,7 +50,7 @@ sub-last c =
     let one = given c in
     let at = one .before .before in
     let a = entry at .args in
-    some-steps (a .policy) (a .tree .now) (a .events .now) (a .log .now) (a .trace .now) (at .judge-record .result) (judged at)
+    some-steps _ _ (a .tree .now) (a .events .now) (a .log .now) (a .trace .now) (at .judge-record .result) (judged at)
     (one .if1 .left)
 
 answer-requires : tie.Need-answer-requires
@@ -68,7 +69,7 @@ returns-2 c =
     let one = given walked in
     let at = one .before .before in
     let a = entry at .args in
-    walk-answered (a .policy) (a .tree .now) (a .events .now) (a .log .now) (a .trace .now) (at .judge-record .result) (judged at)
+    walk-answered _ _ (a .tree .now) (a .events .now) (a .log .now) (a .trace .now) (at .judge-record .result) (judged at)
     (one .if1 .left) (run .result) (run .last .1 .1 .1 .0) (run .last .1 .1 .1 .1 .0) (run .ensures) (c .answer .result)
     (c .answer .ensures)
 

@@ -1,4 +1,4 @@
--- What an admitted recording comes to, by the rules.
+-- What an admitted recording comes to, by the rules, of a run of w workers.
 use Prim.Native.Nat.{ℕ, _-_, _*_, _≤_}
 use mathlib.Core.Path.{_≡_}
 use mathlib.Core.List.{List}
@@ -11,9 +11,9 @@ use Rattle.rules.specs.Traces.{traceBytes, entryBytes, loads}
 use Rattle.rules.specs.Calls.{written, startVerdict, recordWalk, finished}
 use Rattle.record_walk.specs.declared.Ended.{Ended}
 
--- The call is not refused for policy and tree, and log and trace have room.
-pub record Admitted (p : ℕ) (tree log trace : List ℕ) : Type 0 where
-  pub started : startVerdict p tree .number ≡ 0
+-- The call is not refused for policy, count and tree, and log and trace have room.
+pub record Admitted (w p : ℕ) (tree log trace : List ℕ) : Type 0 where
+  pub started : startVerdict w p tree .number ≡ 0
   pub log-fits : 4 * length (kinds tree) ≤ length log
   pub trace-fits : 2 * (length (kinds tree) - 1) ≤ length trace
 
@@ -28,9 +28,9 @@ pub record Told (p : ℕ) (tree : List ℕ) (s : Run) (log trace : List ℕ) (r 
   pub traced : trace-after ≡ written (traceBytes p (kinds tree) (s .steals)) trace
 
 -- The verdict on the events; then either log and trace are as they were, or the run of the events is answered.
-pub record Result (p : ℕ) (tree events log trace : List ℕ) (r : Ended) (log-after trace-after : List ℕ) : Type 0 where
-  pub number : r .number ≡ recordWalk mostWorkers p (kinds tree) (records 2 events) .verdict .number
-  pub position : r .position ≡ recordWalk mostWorkers p (kinds tree) (records 2 events) .verdict .position
+pub record Result (w p : ℕ) (tree events log trace : List ℕ) (r : Ended) (log-after trace-after : List ℕ) : Type 0 where
+  pub number : r .number ≡ recordWalk w p (kinds tree) (records 2 events) .verdict .number
+  pub position : r .position ≡ recordWalk w p (kinds tree) (records 2 events) .verdict .position
   pub same : (r .number ≡ 0 → ⊥) → (log-after ≡ log) × (trace-after ≡ trace)
   pub told : r .number ≡ 0
-      → Told p tree (recordWalk mostWorkers p (kinds tree) (records 2 events) .state) log trace r log-after trace-after
+      → Told p tree (recordWalk w p (kinds tree) (records 2 events) .state) log trace r log-after trace-after

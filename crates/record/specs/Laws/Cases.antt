@@ -7,7 +7,6 @@ use lib.Dec.{ltb}
 use borrow.Author.Tests.{eq-eqb, ne-eqb, ltb-false}
 use Rattle.rules.specs.Bytes.{records, wholeRecords, Verdict, accepted, firstRefused}
 use Rattle.rules.specs.Tree.{kinds}
-use Rattle.rules.specs.Scheduling.{mostWorkers}
 use Rattle.rules.specs.Calls.{mostEvents, startVerdict, recordWalk, recordVerdict, recordOf, recordRefused, recordCall}
 use Rattle.tree.specs.declared.Accepted.{Accepted}
 use Rattle.tree.specs.Laws.Verdicts.{or-none, first-accepts}
@@ -20,7 +19,7 @@ use Rattle.record.specs.Body.Terms.{Admitted}
 module _ (w p : ℕ) (tree events log trace : List ℕ) where
   -- An accepted call has accepted its start and its events.
   pub accepts-both : recordVerdict w p tree events log trace .number ≡ 0
-      → (startVerdict p tree .number ≡ 0) × (recordWalk w p (kinds tree) (records 2 events) .verdict .number ≡ 0)
+      → (startVerdict w p tree .number ≡ 0) × (recordWalk w p (kinds tree) (records 2 events) .verdict .number ≡ 0)
   unfolding recordVerdict
   accepts-both e =
       let first = first-accepts _ _ e in
@@ -28,20 +27,21 @@ module _ (w p : ℕ) (tree events log trace : List ℕ) where
 
   -- The answer that an accepted call makes.
   pub by-accepted : recordVerdict w p tree events log trace .number ≡ 0
-      → recordOf w p tree (recordWalk w p (kinds tree) (records 2 events) .state) log trace ≡ recordCall w p tree events log trace
+      → recordOf p tree (recordWalk w p (kinds tree) (records 2 events) .state) log trace ≡ recordCall w p tree events log trace
   unfolding recordCall
   by-accepted e = rw (eq-eqb (recordVerdict w p tree events log trace .number) 0 e) refl
 
 -- ---- the answers
 
 -- The call is not refused for what it is given.
-abbrev pub Ready : ℕ → List ℕ → List ℕ → List ℕ → List ℕ → Type 0
-Ready p tree events log trace = Given p tree (wholeRecords 2 mostEvents events) (tooShort (length (kinds tree)) (length log) (length trace))
+abbrev pub Ready : ℕ → ℕ → List ℕ → List ℕ → List ℕ → List ℕ → Type 0
+Ready w p tree events log trace =
+    Given w p tree (wholeRecords 2 mostEvents events) (tooShort (length (kinds tree)) (length log) (length trace))
 
 -- A call that is not refused for what it is given has room in log and trace.
-pub ready-admitted : {p : ℕ} {tree log trace : List ℕ} (events : List ℕ) → Ready p tree events log trace → Admitted p tree log trace
+pub ready-admitted : {w p : ℕ} {tree log trace : List ℕ} (events : List ℕ) → Ready w p tree events log trace → Admitted w p tree log trace
 unfolding tooShort
-ready-admitted {p} {tree} {log} {trace} events ready =
+ready-admitted {w} {p} {tree} {log} {trace} events ready =
     let n = length (kinds tree) in
     let both = or-none (ltb (length log) (4 * n)) (ltb (length trace) (2 * (n - 1))) (ready .room) in
     record {
@@ -50,40 +50,40 @@ ready-admitted {p} {tree} {log} {trace} events ready =
       trace-fits = ltb-false (length trace) (2 * (n - 1)) (both .1);
     }
 
-module _ (p : ℕ) (tree events log trace : List ℕ) where
+module _ (w p : ℕ) (tree events log trace : List ℕ) where
   -- The answer that a refusal makes.
-  by-refused : (v : Verdict) → recordVerdict mostWorkers p tree events log trace ≡ v → (v .number ≡ 0 → ⊥)
-      → recordRefused mostWorkers v log trace ≡ recordCall mostWorkers p tree events log trace
+  by-refused : (v : Verdict) → recordVerdict w p tree events log trace ≡ v → (v .number ≡ 0 → ⊥)
+      → recordRefused v log trace ≡ recordCall w p tree events log trace
   unfolding recordCall
   by-refused v e n = rw (e, ne-eqb (v .number) 0 n) refl
 
-  module _ (a : Accepted) (is : a ≡ recordJudged p tree events (length log) (length trace)) where
+  module _ (a : Accepted) (is : a ≡ recordJudged w p tree events (length log) (length trace)) where
     pub record-given : (a .number ≡ 0 → ⊥)
-        → recordRefused mostWorkers (record { number = a .number; position = a .position }) log trace
-        ≡ recordCall mostWorkers p tree events log trace
+        → recordRefused (record { number = a .number; position = a .position }) log trace
+        ≡ recordCall w p tree events log trace
     unfolding recordVerdict recordJudged tooShort
-    record-given n = by-refused _ (given-refused p tree _ _ a is n _) n
+    record-given n = by-refused _ (given-refused w p tree _ _ a is n _) n
 
-    pub record-ready : a .number ≡ 0 → Ready p tree events log trace
+    pub record-ready : a .number ≡ 0 → Ready w p tree events log trace
     unfolding recordJudged
-    record-ready z = given p tree _ _ a is z
+    record-ready z = given w p tree _ _ a is z
 
-  module _ (ready : Ready p tree events log trace) where
+  module _ (ready : Ready w p tree events log trace) where
     -- The events decide.
-    by-walk : recordVerdict mostWorkers p tree events log trace
-        ≡ firstRefused (recordWalk mostWorkers p (kinds tree) (records 2 events) .verdict ∷ [])
+    by-walk : recordVerdict w p tree events log trace
+        ≡ firstRefused (recordWalk w p (kinds tree) (records 2 events) .verdict ∷ [])
     unfolding recordVerdict tooShort
     by-walk = given-last ready _
 
-    pub record-event : (v : Verdict) → v ≡ recordWalk mostWorkers p (kinds tree) (records 2 events) .verdict → (v .number ≡ 0 → ⊥)
-        → recordRefused mostWorkers v log trace ≡ recordCall mostWorkers p tree events log trace
+    pub record-event : (v : Verdict) → v ≡ recordWalk w p (kinds tree) (records 2 events) .verdict → (v .number ≡ 0 → ⊥)
+        → recordRefused v log trace ≡ recordCall w p tree events log trace
     unfolding firstRefused
     record-event v e n = by-refused v (by-walk ∙ rw (← e, ne-eqb (v .number) 0 n) refl) n
 
-    pub record-all : recordWalk mostWorkers p (kinds tree) (records 2 events) .verdict .number ≡ 0
-        → recordOf mostWorkers p tree (recordWalk mostWorkers p (kinds tree) (records 2 events) .state) log trace
-        ≡ recordCall mostWorkers p tree events log trace
+    pub record-all : recordWalk w p (kinds tree) (records 2 events) .verdict .number ≡ 0
+        → recordOf p tree (recordWalk w p (kinds tree) (records 2 events) .state) log trace
+        ≡ recordCall w p tree events log trace
     unfolding firstRefused accepted
     record-all e =
-        by-accepted mostWorkers p tree events log trace
-        (rw (by-walk, eq-eqb (recordWalk mostWorkers p (kinds tree) (records 2 events) .verdict .number) 0 e) refl)
+        by-accepted w p tree events log trace
+        (rw (by-walk, eq-eqb (recordWalk w p (kinds tree) (records 2 events) .verdict .number) 0 e) refl)

@@ -28,7 +28,7 @@ abbrev pub Meets : Call → Recorded → List ℕ → List ℕ → Type 0
 Meets call r log trace = (r ≡ answers call) × ((log ≡ call .log) × (trace ≡ call .trace))
 
 -- A refusal in the terms of the code: the buffers are as they were.
-refusal-meets : (v : Verdict) (log trace : List ℕ) (call : Call) → recordRefused mostWorkers v log trace ≡ call
+refusal-meets : (v : Verdict) (log trace : List ℕ) (call : Call) → recordRefused v log trace ≡ call
     → (r : Recorded) → r ≡ refusal (v .number) (v .position) → Meets call r log trace
 unfolding recordRefused refusal answers
 refusal-meets v log trace call e r f =
@@ -40,47 +40,48 @@ run-answers : (p : ℕ) (tree : List ℕ) (r : Run) (log trace : List ℕ) (logs
     → ls ≡ loads mostWorkers (kinds tree) (weights tree) (r .phases)
     → _≡_ {A = Recorded}
     (record { number = 0; position = 0; logs = logs; steals = steals; finished = done; loads = ls; heaviest = heaviest ls })
-    (answers (recordOf mostWorkers p tree r log trace))
+    (answers (recordOf p tree r log trace))
 unfolding answers recordOf accepted
 run-answers p tree r log trace logs steals done ls e f g h = rw (e, f, g, h) refl
 
-module _ (p : ℕ) (tree events log trace : List ℕ) (a : Accepted) (is : a ≡ recordJudged p tree events (length log) (length trace)) where
+module _ (w p : ℕ) (tree events log trace : List ℕ) (a : Accepted) (is : a ≡ recordJudged w p tree events (length log) (length trace)) where
   pub given-refusal : (a .number ≡ 0 → ⊥) → (r : Recorded) → r ≡ refusal (a .number) (a .position)
-      → Meets (recordCall mostWorkers p tree events log trace) r log trace
-  given-refusal n = refusal-meets _ log trace _ (record-given p tree events log trace a is n)
+      → Meets (recordCall w p tree events log trace) r log trace
+  given-refusal n = refusal-meets _ log trace _ (record-given w p tree events log trace a is n)
 
   pub some-steps : a .number ≡ 0 → 1 ≤ a .steps
   unfolding recordJudged
   some-steps z =
-      let ready = record-ready p tree events log trace a is z in
-      rw (given-steps p tree _ _ a is z) (accepted-frame tree (start-tree-accepts p tree (ready .started)) .some)
+      let ready = record-ready w p tree events log trace a is z in
+      rw (given-steps w p tree _ _ a is z) (accepted-frame tree (start-tree-accepts w p tree (ready .started)) .some)
 
   -- The walk over the events, and the answer on what it comes to.
-  module _ (z : a .number ≡ 0) (w : Ended) (log-out trace-out : List ℕ) (so : Result p tree events log trace w log-out trace-out)
-      (r : Recorded) (answer : r ≡ answered (w .number) (w .position) (w .logs) (w .steals) (a .steps - 1) (w .loads)) where
-    event-refusal : (w .number ≡ 0 → ⊥) → Meets (recordCall mostWorkers p tree events log trace) r log-out trace-out
+  module _ (z : a .number ≡ 0) (ended : Ended) (log-out trace-out : List ℕ) (so : Result w p tree events log trace ended log-out trace-out)
+      (r : Recorded)
+      (answer : r ≡ answered (ended .number) (ended .position) (ended .logs) (ended .steals) (a .steps - 1) (ended .loads)) where
+    event-refusal : (ended .number ≡ 0 → ⊥) → Meets (recordCall w p tree events log trace) r log-out trace-out
     unfolding answered
     event-refusal n =
-        let v : Verdict = record { number = w .number; position = w .position } in
-        let judged : v ≡ recordWalk mostWorkers p (kinds tree) (records 2 events) .verdict =
+        let v : Verdict = record { number = ended .number; position = ended .position } in
+        let judged : v ≡ recordWalk w p (kinds tree) (records 2 events) .verdict =
         λ k. record { number = so .number k; position = so .position k }
         in
         let kept = so .same n in
-        let call = record-event p tree events log trace (record-ready p tree events log trace a is z) v judged n in
-        rw (kept .0, kept .1) (refusal-meets v log trace _ call r (answer ∙ rw (ne-eqb (w .number) 0 n) refl))
+        let call = record-event w p tree events log trace (record-ready w p tree events log trace a is z) v judged n in
+        rw (kept .0, kept .1) (refusal-meets v log trace _ call r (answer ∙ rw (ne-eqb (ended .number) 0 n) refl))
 
-    all-answered : w .number ≡ 0 → Meets (recordCall mostWorkers p tree events log trace) r log-out trace-out
+    all-answered : ended .number ≡ 0 → Meets (recordCall w p tree events log trace) r log-out trace-out
     unfolding answered recordOf recordJudged
     all-answered none =
         let told = so .told none in
-        let steps = given-steps p tree _ _ a is z in
-        let all = record-all p tree events log trace (record-ready p tree events log trace a is z) (sym (so .number) ∙ none) in (
+        let steps = given-steps w p tree _ _ a is z in
+        let all = record-all w p tree events log trace (record-ready w p tree events log trace a is z) (sym (so .number) ∙ none) in (
           answer
-              ∙ rw (eq-eqb (w .number) 0 none, steps)
+              ∙ rw (eq-eqb (ended .number) 0 none, steps)
               (run-answers p tree _ log trace _ _ _ _ (told .logs) (told .steals) (told .finished) (told .loaded))
               ∙ ap {B = Recorded} answers all,
           (told .logged ∙ ap (λ (c : Call). c .log) all, told .traced ∙ ap (λ (c : Call). c .trace) all),
         )
 
-    pub walk-answered : Meets (recordCall mostWorkers p tree events log trace) r log-out trace-out
-    walk-answered = elim (ℕ-discrete (w .number) 0) [ yes none ↦ all-answered none | no n ↦ event-refusal n ]
+    pub walk-answered : Meets (recordCall w p tree events log trace) r log-out trace-out
+    walk-answered = elim (ℕ-discrete (ended .number) 0) [ yes none ↦ all-answered none | no n ↦ event-refusal n ]

@@ -17,11 +17,12 @@ use Rattle.record_walk.proofs.walk.Statement.{statement}
 use Rattle.record_walk.proofs.walk.Tie as tie
 
 abbrev Inv-loop : tie.InvT-loop
-Inv-loop tree ends openers sums policy events log₀ trace₀ n place₀ held₀ latest₀ low₀ base₀ steals₀ loads₀ logs₀ k₀ log trace place held latest low base steals loads logs k =
-    (k ≤ length events / 2) × Recording policy tree events k (fieldsOf place held latest low base steals policy) log trace loads logs steals
+Inv-loop tree ends openers sums setup events log₀ trace₀ n place₀ held₀ latest₀ low₀ base₀ steals₀ loads₀ logs₀ k₀ log trace place held latest low base steals loads logs k =
+    (k ≤ length events / 2)
+    × Recording (setup .workers) (setup .policy) tree events k (fieldsOf place held latest low base steals setup) log trace loads logs steals
 
 abbrev μ-loop : tie.MeasureT-loop
-μ-loop tree ends openers sums policy events log₀ trace₀ n place₀ held₀ latest₀ low₀ base₀ steals₀ loads₀ logs₀ k₀ log trace place held latest low base steals loads logs k =
+μ-loop tree ends openers sums setup events log₀ trace₀ n place₀ held₀ latest₀ low₀ base₀ steals₀ loads₀ logs₀ k₀ log trace place held latest low base steals loads logs k =
     length events / 2 - k
 
 -- ---- the function's entry
@@ -53,7 +54,7 @@ lent-trace c = c .loop .inv .1 .traceRoom ∙ sym (entry c .pre .1 .1 .1 .1 .1)
 abbrev state : tie.At-loop Inv-loop μ-loop → Fields
 state c =
     let l = c .loop in
-    fieldsOf (l .place) (l .held) (l .latest) (l .low) (l .base) (l .steals) (entry c .args .policy)
+    fieldsOf (l .place) (l .held) (l .latest) (l .low) (l .base) (l .steals) (entry c .args .setup)
 
 -- ---- a turn
 
@@ -68,13 +69,13 @@ top c = read c .before .before
 abbrev next : tie.After-event-on Inv-loop μ-loop → Fields
 next c =
     let r = c .event-on .last .1 .1 .1 in
-    fieldsOf (r .0) (r .1 .0) (r .1 .1 .0) (r .1 .1 .1 .0) (r .1 .1 .1 .1 .0) (c .event-on .result .steals) (entry (top c) .args .policy)
+    fieldsOf (r .0) (r .1 .0) (r .1 .1 .0) (r .1 .1 .1 .0) (r .1 .1 .1 .1 .0) (c .event-on .result .steals) (entry (top c) .args .setup)
 
 turn : (c : tie.After-event-on Inv-loop μ-loop)
     → let at = top c in
     let a = entry at .args in
     let l = at .loop in
-    Turn (a .policy) (a .tree .now) (a .events .now) (l .k) (state at) (l .log) (l .trace) (l .loads) (l .logs)
+    Turn (a .setup .workers) (a .setup .policy) (a .tree .now) (a .events .now) (l .k) (state at) (l .log) (l .trace) (l .loads) (l .logs)
     (read c .event-at .result .first) (read c .event-at .result .second) (c .event-on .result .outcome) (next c)
 turn c =
     record {
@@ -116,8 +117,8 @@ loop-holds c =
     let a = at .args in
     let lent = at .pre .1 .1 .1 in (
       omega arith,
-      turn-start (a .policy) (a .tree .now) (a .events .now) (at .pre .0) (a .sums .now) (lent .0 .1) _ (c .before .steps .ensures)
-          (a .log .now) (a .trace .now) (lent .1 .0) (lent .1 .1) _ (fresh-arrays (a .policy)) _ refl,
+      turn-start _ _ (a .tree .now) (a .events .now) (at .pre .0) (a .sums .now) (lent .0 .1) _ (c .before .steps .ensures)
+          (a .log .now) (a .trace .now) (lent .1 .0) (lent .1 .1) _ (fresh-arrays (a .setup)) _ refl,
     )
 
 add-k : tie.Need-add-k Inv-loop μ-loop
@@ -132,7 +133,7 @@ event-on-requires c κs =
     let a = entry at .args in
     let tables = entry at .pre .1 in
     let so = at .loop .inv .1 in
-    shows-hints (a .policy) (a .tree .now) (start-frame (a .policy) (a .tree .now) (entry at .pre .0)) (state at) (so .run) (so .shows)
+    shows-hints _ (a .tree .now) (start-frame _ _ (a .tree .now) (entry at .pre .0)) (state at) (so .run) (so .shows)
     (a .openers .now) (omega (arith, tables .1 .0 .0)) (a .ends .now) (tables .0 .1) (tables .1 .0 .1)
 
 wide-requires : tie.Need-wide-requires Inv-loop μ-loop

@@ -20,7 +20,7 @@ use Rattle.tree.specs.declared.Phase.{Phase}
 use Rattle.tree.specs.declared.Step.{Step}
 use Rattle.tree.specs.Laws.Records.{length-records, field-at}
 use Rattle.tree.specs.Laws.Walks.{walk-on, walk-stop, walk-end}
-use Rattle.tree_scan.specs.Laws.Starts.{start-tree-accepts}
+use Rattle.tree_scan.specs.Laws.Starts.{start-tree-accepts, start-workers}
 use Rattle.tree_scan.specs.Laws.Frames.{Frame, accepted-frame}
 use Rattle.tree_tables.specs.Terms.{Ends, Sums, weightBefore}
 use Rattle.run_invariant.specs.Invariant.{Invariant}
@@ -37,6 +37,7 @@ use Rattle.run_spec.specs.Moves.{Fields, fresh, eventMove}
 use Rattle.run_refinement.specs.Tie.{Shows, heldStep, told}
 use Rattle.run_refinement.specs.Laws.Follows.{number-traced}
 use Rattle.run_refinement.specs.Laws.Moves.{Known, held-some}
+use Rattle.run_refinement.specs.Laws.AnyState.{event-setup}
 use Rattle.run_refinement.specs.Laws.Events.{start-shows, event-tells, event-shows}
 use Rattle.buffers.specs.Terms.{recordPut}
 use Rattle.buffers.specs.Laws.Records.{length-entries, entries-one, length-trace, trace-one, put-length, put-front}
@@ -45,9 +46,9 @@ use Rattle.loads.specs.Laws.Loads.{partWeight, start-loads, Takes, begin-loads,
 use Rattle.record_walk.specs.Terms.{Front}
 
 -- After the first k events, none of them refused: the rules' run and the state that shows it, and log, trace and loads so far.
-pub record Recording (p : ℕ) (tree events : List ℕ) (k : ℕ) (s : Fields) (log trace ls : List ℕ) (logs steals : ℕ) : Type 0 where
+pub record Recording (w p : ℕ) (tree events : List ℕ) (k : ℕ) (s : Fields) (log trace ls : List ℕ) (logs steals : ℕ) : Type 0 where
   pub run : Run
-  pub walked : recordWalk mostWorkers p (kinds tree) (records 2 events)
+  pub walked : recordWalk w p (kinds tree) (records 2 events)
       ≡ walk (judgeEvent (kinds tree)) (nextRun p (kinds tree)) k run (drop k (records 2 events))
   pub invariant : Invariant p (kinds tree) run
   pub shows : Shows p (kinds tree) s run
@@ -149,23 +150,26 @@ module _ (p : ℕ) (ks : List ℕ) (r : Run) (e : List ℕ) where
 
 -- ---- the loop
 
-module _ (p : ℕ) (tree events : List ℕ) (accepts : startVerdict p tree .number ≡ 0) where
+module _ (w p : ℕ) (tree events : List ℕ) (accepts : startVerdict w p tree .number ≡ 0) where
   frame : Frame tree
-  frame = accepted-frame tree (start-tree-accepts p tree accepts)
+  frame = accepted-frame tree (start-tree-accepts w p tree accepts)
+
+  few-workers : (1 ≤ w) × (w ≤ 16)
+  few-workers = start-workers w p tree accepts
 
   known : (s : Fields) (r : Run) → Invariant p (kinds tree) r → Shows p (kinds tree) s r → Known p (kinds tree) s r
   known s r inv shows = record { some-step = frame .some; most = frame .most; shape = frame .shape; inv = inv; shows = shows }
 
   pub recording-start : (log trace : List ℕ) → length log ≡ 4 * mostSteps → length trace ≡ 4 * mostTraceRecords
-      → Recording p tree events 0 (fresh p) log trace
+      → Recording w p tree events 0 (fresh (record { policy = p; workers = w })) log trace
       (set (replicate mostWorkers 0) 0 (weightBefore (weights tree) (length (kinds tree)))) 0 0
   unfolding recordWalk start entryBytes traceBytes flatten sum
   recording-start log trace h l =
       record {
-        run = start mostWorkers;
+        run = start w;
         walked = refl;
-        invariant = start-invariant p (kinds tree) (frame .some) (frame .shape) mostWorkers (omega arith);
-        shows = start-shows p (kinds tree) (frame .some) (frame .most);
+        invariant = start-invariant p (kinds tree) (frame .some) (frame .shape) w (few-workers .0);
+        shows = start-shows (record { policy = p; workers = w }) (kinds tree) (frame .some) (frame .most) (few-workers .0) (few-workers .1);
         logRoom = h;
         traceRoom = l;
         logCount = refl;
@@ -176,10 +180,11 @@ module _ (p : ℕ) (tree events : List ℕ) (accepts : startVerdict p tree .numb
         whole = omega arith;
       }
 
-  module _ {k : ℕ} {s : Fields} {log trace ls : List ℕ} {logs steals : ℕ} (so : Recording p tree events k s log trace ls logs steals) where
+  module _ {k : ℕ} {s : Fields} {log trace ls : List ℕ} {logs steals : ℕ}
+      (so : Recording w p tree events k s log trace ls logs steals) where
     -- All events are done.
     pub recording-done : length events / 2 ≤ k
-        → recordWalk mostWorkers p (kinds tree) (records 2 events) ≡ record { verdict = accepted; state = so .run }
+        → recordWalk w p (kinds tree) (records 2 events) ≡ record { verdict = accepted; state = so .run }
     recording-done h =
         so .walked
         ∙ walk-end (judgeEvent (kinds tree)) (nextRun p (kinds tree)) (records 2 events) [] k (so .run) (rw (length-records 2 events) h)
@@ -203,17 +208,17 @@ module _ (p : ℕ) (tree events : List ℕ) (accepts : startVerdict p tree .numb
 
       -- The event is refused.
       pub event-refused : (x : ℕ) → eventMove s tree a b .outcome ≡ Refused x
-          → (_≡_ {A = Verdict} (record { number = x; position = k }) (recordWalk mostWorkers p (kinds tree) (records 2 events) .verdict))
+          → (_≡_ {A = Verdict} (record { number = x; position = k }) (recordWalk w p (kinds tree) (records 2 events) .verdict))
           × (x ≡ 0 → ⊥)
       event-refused x e =
           let by = told-refusal p (kinds tree) (so .run) event x (sym tells ∙ e) in
           let left : k < length (records 2 events) = rw (length-records 2 events) more in
           let stop = walk-stop (judgeEvent (kinds tree)) (nextRun p (kinds tree)) (records 2 events) [] k (so .run) left (by .0) in
-          (sym (ap (λ (w : Walked Run). w .verdict) (so .walked ∙ stop) ∙ rw (by .1) refl), λ z. by .0 (by .1 ∙ z))
+          (sym (ap (λ (x : Walked Run). x .verdict) (so .walked ∙ stop) ∙ rw (by .1) refl), λ z. by .0 (by .1 ∙ z))
 
       -- The event is accepted and leads to the run `next`.
       module _ (fine : judgeEvent (kinds tree) (so .run) event ≡ 0) (next : Run) (to : nextRun p (kinds tree) (so .run) event ≡ next) where
-        next-walked : recordWalk mostWorkers p (kinds tree) (records 2 events)
+        next-walked : recordWalk w p (kinds tree) (records 2 events)
             ≡ walk (judgeEvent (kinds tree)) (nextRun p (kinds tree)) (k + 1) next (drop (k + 1) (records 2 events))
         next-walked =
             let left : k < length (records 2 events) = rw (length-records 2 events) more in
@@ -250,7 +255,7 @@ module _ (p : ℕ) (tree events : List ℕ) (accepts : startVerdict p tree .numb
         pub ran-room : logs < length (kinds tree)
         ran-room = omega (arith, ran-count, runs-most p (kinds tree) (frame .some) (frame .shape) ran-run (ran-known .inv))
 
-        pub ran-next : Recording p tree events (k + 1) (eventMove s tree a b .after)
+        pub ran-next : Recording w p tree events (k + 1) (eventMove s tree a b .after)
             (recordPut log logs (phase % 256) (phase / 256 % 256) step) trace ls (logs + 1) steals
         unfolding ranBy
         ran-next =
@@ -278,11 +283,14 @@ module _ (p : ℕ) (tree events : List ℕ) (accepts : startVerdict p tree .numb
         theft : Steals p (kinds tree) (so .run) event a b (numberValue number)
         theft = rw (first-byte, second-byte) at (told-steal p (kinds tree) (so .run) event number (sym tells ∙ stole))
 
+        thief-here : a < s .setup .workers
+        thief-here = rw (so .shows .workers) at (theft .small)
+
         small : a < mostWorkers
-        small = rw (so .shows .workers) at (theft .small)
+        small = omega (arith, thief-here, so .shows .most)
 
         few : b < mostWorkers
-        few = rw (so .shows .workers) at (theft .few)
+        few = omega (arith, rw (so .shows .workers) at (theft .few), so .shows .most)
 
         abbrev taken : ℕ
         taken = oldest (workerAt (so .run) b .hand .deque)
@@ -303,7 +311,7 @@ module _ (p : ℕ) (tree events : List ℕ) (accepts : startVerdict p tree .numb
         unfolding enriched
         taken-held =
             let thief = ap (λ (x : Worker). x .hand .held) (steal-thief (so .run) a b (theft .small)) in
-            let both = held-some stole-known a taken small thief in
+            let both = held-some stole-known a taken (rw (event-setup s tree a b) thief-here) thief in
             (held ∙ both .0, both .1)
 
         pub stole-room : (a < mostWorkers) × (b < mostWorkers) × (a ≡ b → ⊥) × (2 * steals + 2 < length (kinds tree))
@@ -371,7 +379,7 @@ module _ (p : ℕ) (tree events : List ℕ) (accepts : startVerdict p tree .numb
         unfolding steal
         stole-whole = begin-whole (kinds tree) (weights tree) (frame .shape) takes ∙ rw (so .loaded) at (so .whole)
 
-        pub stole-next : Recording p tree events (k + 1) (eventMove s tree a b .after) log
+        pub stole-next : Recording w p tree events (k + 1) (eventMove s tree a b .after) log
             (recordPut trace steals a b (numberValue number))
             (loadMoved ls a b (partWeight (kinds tree) (weights tree) step)) logs (steals + 1)
         unfolding steal

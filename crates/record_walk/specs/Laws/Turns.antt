@@ -9,6 +9,7 @@ use Rattle.rules.specs.Tree.{mostSteps, kinds, weights}
 use Rattle.rules.specs.Scheduling.{mostWorkers, Run}
 use Rattle.rules.specs.Calls.{mostTraceRecords, startVerdict}
 use Rattle.tree_tables.specs.Terms.{Ends, Sums, weightBefore}
+use Rattle.policy.specs.declared.Setup.{Setup}
 use Rattle.trace.specs.declared.number.TraceNumber.{TraceNumber}
 use Rattle.run_spec.specs.declared.Outcome.{Outcome}
 use Rattle.run_spec.specs.declared.Outcome.the-variants.{Ran, Stole, Refused}
@@ -26,37 +27,37 @@ use Rattle.record_walk.specs.Laws.Recording.{Recording, recording-start,
 use Rattle.record_walk.specs.Laws.Recording.{ran-next, stole-room, stole-weight, stole-next}
 
 -- What holds of a state holds of an equal one, and the count of steals is the state's.
-at-state : {p : ℕ} {tree events : List ℕ} {k : ℕ} {s : Fields} {log trace ls : List ℕ} {logs steals : ℕ} (after : Fields) → s ≡ after
-    → Recording p tree events k s log trace ls logs steals → Recording p tree events k after log trace ls logs (after .steals)
-at-state {p} {tree} {events} {k} {s} {log} {trace} {ls} {logs} after e so =
-    subst (λ (x : Fields). Recording p tree events k x log trace ls logs (x .steals)) e
+at-state : {w p : ℕ} {tree events : List ℕ} {k : ℕ} {s : Fields} {log trace ls : List ℕ} {logs steals : ℕ} (after : Fields) → s ≡ after
+    → Recording w p tree events k s log trace ls logs steals → Recording w p tree events k after log trace ls logs (after .steals)
+at-state {w} {p} {tree} {events} {k} {s} {log} {trace} {ls} {logs} after e so =
+    subst (λ (x : Fields). Recording w p tree events k x log trace ls logs (x .steals)) e
     (rw (so .stealCount ∙ sym (so .shows .steals)) at so)
 
 -- The arrays that the walk begins with are those of a start.
-pub fresh-arrays : (p : ℕ)
+pub fresh-arrays : (setup : Setup)
     → (let none : List ℕ = replicate mostWorkers 0 in
-    fieldsOf (replicate mostSteps 17) (set (replicate mostWorkers 65535) 0 0) none none none 0 p ≡ fresh p)
+    fieldsOf (replicate mostSteps 17) (set (replicate mostWorkers 65535) 0 0) none none none 0 setup ≡ fresh setup)
 unfolding fresh
-fresh-arrays p = refl
+fresh-arrays setup = refl
 
 -- The loop begins with all weight in worker 0's load.
-pub turn-start : (p : ℕ) (tree events : List ℕ) → startVerdict p tree .number ≡ 0
+pub turn-start : (w p : ℕ) (tree events : List ℕ) → startVerdict w p tree .number ≡ 0
     → (sums : List ℕ) → Sums (weights tree) sums (length (kinds tree)) → (n : ℕ) → n ≡ length (kinds tree)
     → (log trace : List ℕ) → length log ≡ 4 * mostSteps → length trace ≡ 4 * mostTraceRecords
-    → (s : Fields) → s ≡ fresh p → (ls : List ℕ) → ls ≡ set (replicate mostWorkers 0) 0 (getD sums n 0)
-    → Recording p tree events 0 s log trace ls 0 (s .steals)
-turn-start p tree events accepts sums right n m log trace h l s e ls f =
+    → (s : Fields) → s ≡ fresh (record { policy = p; workers = w }) → (ls : List ℕ) → ls ≡ set (replicate mostWorkers 0) 0 (getD sums n 0)
+    → Recording w p tree events 0 s log trace ls 0 (s .steals)
+turn-start w p tree events accepts sums right n m log trace h l s e ls f =
     rw (f, m, right (length (kinds tree)) (omega arith))
-    (at-state s (sym e) (recording-start p tree events accepts log trace h l))
+    (at-state s (sym e) (recording-start w p tree events accepts log trace h l))
 
 -- All events are done.
-pub turn-done : {p : ℕ} {tree events : List ℕ} {k : ℕ} {s : Fields} {log trace ls : List ℕ} {logs : ℕ}
-    → startVerdict p tree .number ≡ 0 → Recording p tree events k s log trace ls logs (s .steals)
+pub turn-done : {w p : ℕ} {tree events : List ℕ} {k : ℕ} {s : Fields} {log trace ls : List ℕ} {logs : ℕ}
+    → startVerdict w p tree .number ≡ 0 → Recording w p tree events k s log trace ls logs (s .steals)
     → length events / 2 ≤ k
-    → Walks p tree events (record { number = 0; position = 0; logs = logs; steals = s .steals; loads = ls }) log trace
+    → Walks w p tree events (record { number = 0; position = 0; logs = logs; steals = s .steals; loads = ls }) log trace
 unfolding accepted
-turn-done {p} {tree} {events} {k} {s} {log} {trace} {ls} {logs} accepts so l =
-    let done = recording-done p tree events accepts so l in
+turn-done {w} {p} {tree} {events} {k} {s} {log} {trace} {ls} {logs} accepts so l =
+    let done = recording-done w p tree events accepts so l in
     let ended : Ended = record { number = 0; position = 0; logs = logs; steals = s .steals; loads = ls } in
     let reached : Reached p tree (so .run) ended log trace =
     record {
@@ -69,16 +70,16 @@ turn-done {p} {tree} {events} {k} {s} {log} {trace} {ls} {logs} accepts so l =
     }
     in
     record {
-      number = sym (ap (λ (w : Walked Run). w .verdict .number) done);
-      position = sym (ap (λ (w : Walked Run). w .verdict .position) done);
-      reached = λ z. subst (λ (x : Run). Reached p tree x ended log trace) (sym (ap (λ (w : Walked Run). w .state) done)) reached;
+      number = sym (ap (λ (x : Walked Run). x .verdict .number) done);
+      position = sym (ap (λ (x : Walked Run). x .verdict .position) done);
+      reached = λ z. subst (λ (x : Run). Reached p tree x ended log trace) (sym (ap (λ (x : Walked Run). x .state) done)) reached;
     }
 
 -- Event k, of bytes a and b, with outcome o and the state after it.
-pub record Turn (p : ℕ) (tree events : List ℕ) (k : ℕ) (s : Fields) (log trace ls : List ℕ) (logs a b : ℕ) (o : Outcome) (after : Fields)
+pub record Turn (w p : ℕ) (tree events : List ℕ) (k : ℕ) (s : Fields) (log trace ls : List ℕ) (logs a b : ℕ) (o : Outcome) (after : Fields)
     : Type 0 where
-  pub accepts : startVerdict p tree .number ≡ 0
-  pub so : Recording p tree events k s log trace ls logs (s .steals)
+  pub accepts : startVerdict w p tree .number ≡ 0
+  pub so : Recording w p tree events k s log trace ls logs (s .steals)
   pub more : k < length events / 2
   pub first : a ≡ getD events (2 * k) 0
   pub second : b ≡ getD events (2 * k + 1) 0
@@ -92,8 +93,8 @@ pub record Weighed (tree ends sums : List ℕ) : Type 0 where
   pub added : Sums (weights tree) sums (length (kinds tree))
   pub light : weightBefore (weights tree) (length (kinds tree)) < 18446744073709551616
 
-module _ {p : ℕ} {tree events : List ℕ} {k : ℕ} {s : Fields} {log trace ls : List ℕ} {logs a b : ℕ} {o : Outcome} {after : Fields}
-    (turn : Turn p tree events k s log trace ls logs a b o after) where
+module _ {w p : ℕ} {tree events : List ℕ} {k : ℕ} {s : Fields} {log trace ls : List ℕ} {logs a b : ℕ} {o : Outcome} {after : Fields}
+    (turn : Turn w p tree events k s log trace ls logs a b o after) where
   outcome : eventMove s tree a b .outcome ≡ o
   outcome = sym (ap (λ (x : Move). x .outcome) (turn .moved))
 
@@ -102,9 +103,9 @@ module _ {p : ℕ} {tree events : List ℕ} {k : ℕ} {s : Fields} {log trace ls
 
   -- The event is refused.
   pub turn-refused : (x : ℕ) → o ≡ Refused x → (loads : List ℕ) (mine yours : List ℕ)
-      → Walks p tree events (record { number = x; position = k; logs = 0; steals = 0; loads = loads }) mine yours
+      → Walks w p tree events (record { number = x; position = k; logs = 0; steals = 0; loads = loads }) mine yours
   turn-refused x e loads mine yours =
-      let by = event-refused p tree events (turn .accepts) (turn .so) (turn .more) (turn .first) (turn .second) x (outcome ∙ e) in
+      let by = event-refused w p tree events (turn .accepts) (turn .so) (turn .more) (turn .first) (turn .second) x (outcome ∙ e) in
       record {
         number = ap (λ (v : Verdict). v .number) (by .0);
         position = ap (λ (v : Verdict). v .position) (by .0);
@@ -115,17 +116,20 @@ module _ {p : ℕ} {tree events : List ℕ} {k : ℕ} {s : Fields} {log trace ls
   module _ {phase : Phase} {step : Step} (ran : o ≡ Ran phase step) where
     pub ran-fits : (4 * logs + 4 ≤ length log) × (logs < mostSteps)
     ran-fits =
-        let most = start-frame p tree (turn .accepts) .most in
+        let most = start-frame w p tree (turn .accepts) .most in
         let told = outcome ∙ ran in
-        let room = ran-room p tree events (turn .accepts) (turn .so) (turn .more) (turn .first) (turn .second) (phase .0) (step .0) told in
+        let room =
+        ran-room w p tree events (turn .accepts) (turn .so) (turn .more) (turn .first) (turn .second) (phase .0) (step .0) told
+        in
         (omega (arith, room, turn .so .logRoom, most), omega (arith, room, most))
 
     pub ran-turn : (longer : List ℕ) → longer ≡ recordPut log logs (phase .0 % 256) (phase .0 / 256 % 256) (step .0)
-        → Recording p tree events (k + 1) after longer trace ls (logs + 1) (after .steals)
+        → Recording w p tree events (k + 1) after longer trace ls (logs + 1) (after .steals)
     ran-turn longer e =
         rw e
         (at-state after state
-        (ran-next p tree events (turn .accepts) (turn .so) (turn .more) (turn .first) (turn .second) (phase .0) (step .0) (outcome ∙ ran)))
+        (ran-next w p tree events (turn .accepts) (turn .so) (turn .more) (turn .first) (turn .second) (phase .0) (step .0)
+        (outcome ∙ ran)))
 
   -- The event has stolen a step, which the thief holds now.
   module _ {number : TraceNumber} (stole : o ≡ Stole number) (step : ℕ) (held : step ≡ getD (after .held) a 0) where
@@ -136,11 +140,11 @@ module _ {p : ℕ} {tree events : List ℕ} {k : ℕ} {s : Fields} {log trace ls
     taken = held ∙ ap (λ (x : Fields). getD (x .held) a 0) (sym state)
 
     room : (a < mostWorkers) × (b < mostWorkers) × (a ≡ b → ⊥) × (2 * s .steals + 2 < length (kinds tree)) × (step < length (kinds tree))
-    room = stole-room p tree events (turn .accepts) (turn .so) (turn .more) (turn .first) (turn .second) number told step taken
+    room = stole-room w p tree events (turn .accepts) (turn .so) (turn .more) (turn .first) (turn .second) number told step taken
 
     pub stole-fits : (4 * s .steals + 4 ≤ length trace) × (a < mostWorkers) × (b < mostWorkers) × (a ≡ b → ⊥)
     stole-fits =
-        (omega (arith, room, turn .so .traceRoom, start-frame p tree (turn .accepts) .most), room .0, room .1, room .2)
+        (omega (arith, room, turn .so .traceRoom, start-frame w p tree (turn .accepts) .most), room .0, room .1, room .2)
 
     module _ {ends sums : List ℕ} (weighed : Weighed tree ends sums) where
       filled : Ends (kinds tree) ends (length (kinds tree))
@@ -148,14 +152,14 @@ module _ {p : ℕ} {tree events : List ℕ} {k : ℕ} {s : Fields} {log trace ls
 
       pub stole-movable : Movable ends sums ls a b step
       stole-movable =
-          stole-weight p tree events (turn .accepts) (turn .so) (turn .more) (turn .first) (turn .second) number told step taken
+          stole-weight w p tree events (turn .accepts) (turn .so) (turn .more) (turn .first) (turn .second) number told step taken
           ends sums (omega (arith, weighed .sized)) filled (weighed .longer) (weighed .added) (weighed .light)
 
       pub stole-turn : (further : List ℕ) → further ≡ recordPut trace (s .steals) a b (numberValue number)
           → (moved : List ℕ) → moved ≡ loadMoved ls a b (weightBetween ends sums step)
-          → Recording p tree events (k + 1) after log further moved logs (after .steals)
+          → Recording w p tree events (k + 1) after log further moved logs (after .steals)
       stole-turn further e moved f =
-          let frame = start-frame p tree (turn .accepts) in
+          let frame = start-frame w p tree (turn .accepts) in
           rw (e, f, part-between (kinds tree) (weights tree) (frame .shape) ends sums filled (weighed .added) step (room .4))
           (at-state after state
-          (stole-next p tree events (turn .accepts) (turn .so) (turn .more) (turn .first) (turn .second) number told step taken))
+          (stole-next w p tree events (turn .accepts) (turn .so) (turn .more) (turn .first) (turn .second) number told step taken))

@@ -15,7 +15,7 @@ entry c = c .before .before .before .before
 
 judged : (c : tie.After-judge-replay)
     → let a = entry c .args in
-    c .judge-replay .result ≡ replayJudged (a .policy) (a .tree .now) (a .trace .now) (length (a .list .now))
+    c .judge-replay .result ≡ replayJudged (a .setup .workers) (a .setup .policy) (a .tree .now) (a .trace .now) (length (a .list .now))
 judged c = c .judge-replay .ensures
 
 judge-replay-requires : tie.Need-judge-replay-requires
@@ -28,7 +28,7 @@ returns : tie.Need-returns
 returns c =
     let at = c .before .before .before in
     let a = entry at .args in
-    given-refusal (a .policy) (a .tree .now) (a .trace .now) (a .list .now) (at .judge-replay .result) (judged at)
+    given-refusal _ _ (a .tree .now) (a .trace .now) (a .list .now) (at .judge-replay .result) (judged at)
     (c .before .if1 .taken) (c .refused .result) (c .refused .ensures)
 
 run-requires : tie.Need-run-requires
@@ -36,7 +36,7 @@ run-requires c κs =
     let one = c .before in
     let at = one .before .before in
     let a = entry at .args in
-    replay-ready (a .policy) (a .tree .now) (a .trace .now) (a .list .now) (at .judge-replay .result) (judged at) (one .if1 .left)
+    replay-ready _ _ (a .tree .now) (a .trace .now) (a .list .now) (at .judge-replay .result) (judged at) (one .if1 .left)
 
 answer-requires : tie.Need-answer-requires
 answer-requires c κs = search needs
@@ -51,7 +51,7 @@ returns-2 c =
     let one = walked .before .before in
     let at = one .before .before in
     let a = entry at .args in
-    walk-answered (a .policy) (a .tree .now) (a .trace .now) (a .list .now) (at .judge-replay .result) (judged at) (one .if1 .left)
+    walk-answered _ _ (a .tree .now) (a .trace .now) (a .list .now) (at .judge-replay .result) (judged at) (one .if1 .left)
     (run .result) (run .last .1 .1 .1 .1 .0) (run .ensures) (c .answer .result) (c .answer .ensures)
 
 pub replay-spec : {M : Type 1} → statement M

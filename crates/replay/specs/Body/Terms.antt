@@ -12,19 +12,19 @@ use Rattle.rules.specs.Calls.{mostTraceRecords, written, startVerdict}
 use Rattle.replay_walk.specs.declared.Ended.{Ended}
 use Rattle.replay_walk.specs.Terms.{ruled}
 
--- The call is not refused for policy and tree, the trace's length and the room in the lent list; n is the count of steps.
-pub record Admitted (p : ℕ) (tree trace : List ℕ) (n : ℕ) (list : List ℕ) : Type 0 where
-  pub started : startVerdict p tree .number ≡ 0
+-- The call is not refused for policy, worker count and tree, the trace's length and the room in the lent list; n is the count of steps.
+pub record Admitted (w p : ℕ) (tree trace : List ℕ) (n : ℕ) (list : List ℕ) : Type 0 where
+  pub started : startVerdict w p tree .number ≡ 0
   pub traced : wholeRecords 4 mostTraceRecords trace ≡ true
   pub steps : n ≡ length (kinds tree)
   pub fits : 4 * length (kinds tree) ≤ length list
 
 -- The verdict on the trace's records; then either the lent list is as it was, or the phases are answered and their run list
 -- stands at the front of it.
-pub record Result (p : ℕ) (tree trace list : List ℕ) (r : Ended) (after : List ℕ) : Type 0 where
-  pub number : r .number ≡ ruled p tree trace .verdict .number
-  pub position : r .position ≡ ruled p tree trace .verdict .position
+pub record Result (w p : ℕ) (tree trace list : List ℕ) (r : Ended) (after : List ℕ) : Type 0 where
+  pub number : r .number ≡ ruled w p tree trace .verdict .number
+  pub position : r .position ≡ ruled w p tree trace .verdict .position
   pub same : (r .number ≡ 0 → ⊥) → after ≡ list
-  pub phases : r .number ≡ 0 → r .phases ≡ length (ruled p tree trace .state)
-  pub loaded : r .number ≡ 0 → r .loads ≡ loads mostWorkers (kinds tree) (weights tree) (ruled p tree trace .state)
-  pub listed : r .number ≡ 0 → after ≡ written (entryBytes (runList p (kinds tree) (ruled p tree trace .state))) list
+  pub phases : r .number ≡ 0 → r .phases ≡ length (ruled w p tree trace .state)
+  pub loaded : r .number ≡ 0 → r .loads ≡ loads mostWorkers (kinds tree) (weights tree) (ruled w p tree trace .state)
+  pub listed : r .number ≡ 0 → after ≡ written (entryBytes (runList p (kinds tree) (ruled w p tree trace .state))) list

@@ -6,7 +6,6 @@ use lib.ListN.{length}
 use borrow.Author.Tests.{eq-eqb, ne-eqb, ltb-false}
 use Rattle.rules.specs.Bytes.{records, Verdict, accepted, firstRefused}
 use Rattle.rules.specs.Tree.{kinds}
-use Rattle.rules.specs.Scheduling.{mostWorkers}
 use Rattle.rules.specs.Traces.{replayWalk}
 use Rattle.rules.specs.Calls.{replayVerdict, replayOf, replayRefused, replayCall}
 use Rattle.tree.specs.declared.Accepted.{Accepted}
@@ -14,45 +13,45 @@ use Rattle.arguments.specs.Terms.{replayJudged}
 use Rattle.arguments.specs.Laws.Cases.{given-last, given-refused, given, given-steps}
 use Rattle.replay.specs.Body.Terms.{Admitted}
 
-module _ (p : ℕ) (tree trace list : List ℕ) where
+module _ (w p : ℕ) (tree trace list : List ℕ) where
   -- The answer that a refusal makes.
-  by-refused : (v : Verdict) → replayVerdict mostWorkers p tree trace list ≡ v → (v .number ≡ 0 → ⊥)
-      → replayRefused mostWorkers v list ≡ replayCall mostWorkers p tree trace list
+  by-refused : (v : Verdict) → replayVerdict w p tree trace list ≡ v → (v .number ≡ 0 → ⊥)
+      → replayRefused v list ≡ replayCall w p tree trace list
   unfolding replayCall
   by-refused v e n = rw (e, ne-eqb (v .number) 0 n) refl
 
-  module _ (a : Accepted) (is : a ≡ replayJudged p tree trace (length list)) where
+  module _ (a : Accepted) (is : a ≡ replayJudged w p tree trace (length list)) where
     pub replay-given : (a .number ≡ 0 → ⊥)
-        → replayRefused mostWorkers (record { number = a .number; position = a .position }) list ≡ replayCall mostWorkers p tree trace list
+        → replayRefused (record { number = a .number; position = a .position }) list ≡ replayCall w p tree trace list
     unfolding replayVerdict replayJudged
-    replay-given n = by-refused _ (given-refused p tree _ _ a is n _) n
+    replay-given n = by-refused _ (given-refused w p tree _ _ a is n _) n
 
     module _ (z : a .number ≡ 0) where
-      pub replay-ready : Admitted p tree trace (a .steps) list
+      pub replay-ready : Admitted w p tree trace (a .steps) list
       unfolding replayJudged
       replay-ready =
-          let g = given p tree _ _ a is z in
+          let g = given w p tree _ _ a is z in
           record {
             started = g .started;
             traced = g .listed;
-            steps = given-steps p tree _ _ a is z;
+            steps = given-steps w p tree _ _ a is z;
             fits = ltb-false (length list) (4 * length (kinds tree)) (g .room);
           }
 
       -- The trace's records decide.
-      by-walk : replayVerdict mostWorkers p tree trace list
-          ≡ firstRefused (replayWalk mostWorkers p (kinds tree) (records 4 trace) .verdict ∷ [])
+      by-walk : replayVerdict w p tree trace list
+          ≡ firstRefused (replayWalk w p (kinds tree) (records 4 trace) .verdict ∷ [])
       unfolding replayVerdict replayJudged
-      by-walk = given-last (given p tree _ _ a is z) _
+      by-walk = given-last (given w p tree _ _ a is z) _
 
-      pub record-refused : (v : Verdict) → v ≡ replayWalk mostWorkers p (kinds tree) (records 4 trace) .verdict → (v .number ≡ 0 → ⊥)
-          → replayRefused mostWorkers v list ≡ replayCall mostWorkers p tree trace list
+      pub record-refused : (v : Verdict) → v ≡ replayWalk w p (kinds tree) (records 4 trace) .verdict → (v .number ≡ 0 → ⊥)
+          → replayRefused v list ≡ replayCall w p tree trace list
       unfolding firstRefused
       record-refused v e n = by-refused v (by-walk ∙ rw (← e, ne-eqb (v .number) 0 n) refl) n
 
-      pub none-refused : replayWalk mostWorkers p (kinds tree) (records 4 trace) .verdict .number ≡ 0
-          → replayOf mostWorkers p tree (replayWalk mostWorkers p (kinds tree) (records 4 trace) .state) list
-          ≡ replayCall mostWorkers p tree trace list
+      pub none-refused : replayWalk w p (kinds tree) (records 4 trace) .verdict .number ≡ 0
+          → replayOf p tree (replayWalk w p (kinds tree) (records 4 trace) .state) list
+          ≡ replayCall w p tree trace list
       unfolding replayCall firstRefused accepted
       none-refused e =
-          rw (by-walk, eq-eqb (replayWalk mostWorkers p (kinds tree) (records 4 trace) .verdict .number) 0 e) refl
+          rw (by-walk, eq-eqb (replayWalk w p (kinds tree) (records 4 trace) .verdict .number) 0 e) refl

@@ -24,7 +24,7 @@ abbrev pub Meets : Call → Replayed → List ℕ → Type 0
 Meets call r list = (r ≡ answers call) × (list ≡ call .list)
 
 -- A refusal in the terms of the code: the list is as it was.
-refusal-meets : (v : Verdict) (list : List ℕ) (call : Call) → replayRefused 16 v list ≡ call
+refusal-meets : (v : Verdict) (list : List ℕ) (call : Call) → replayRefused v list ≡ call
     → (r : Replayed) → r ≡ refusal (v .number) (v .position) → Meets call r list
 unfolding replayRefused refusal answers
 refusal-meets v list call e r f = (f ∙ ap {B = Replayed} answers e, ap (λ (c : Call). c .list) e)
@@ -33,37 +33,37 @@ refusal-meets v list call e r f = (f ∙ ap {B = Replayed} answers e, ap (λ (c 
 phase-answers : (p : ℕ) (tree : List ℕ) (phs : List Phase) (list : List ℕ) (many : ℕ) (ls : List ℕ) → many ≡ length phs
     → ls ≡ loads 16 (kinds tree) (weights tree) phs
     → _≡_ {A = Replayed} (record { number = 0; position = 0; phases = many; loads = ls; heaviest = heaviest ls })
-    (answers (replayOf 16 p tree phs list))
+    (answers (replayOf p tree phs list))
 unfolding answers replayOf accepted
 phase-answers p tree phs list many ls e f = rw (e, f) refl
 
-module _ (p : ℕ) (tree trace list : List ℕ) (a : Accepted) (is : a ≡ replayJudged p tree trace (length list)) where
+module _ (w p : ℕ) (tree trace list : List ℕ) (a : Accepted) (is : a ≡ replayJudged w p tree trace (length list)) where
   pub given-refusal : (a .number ≡ 0 → ⊥) → (r : Replayed) → r ≡ refusal (a .number) (a .position)
-      → Meets (replayCall 16 p tree trace list) r list
-  given-refusal n = refusal-meets _ list _ (replay-given p tree trace list a is n)
+      → Meets (replayCall w p tree trace list) r list
+  given-refusal n = refusal-meets _ list _ (replay-given w p tree trace list a is n)
 
   -- The walk over the trace's records, and the answer on what it comes to.
-  module _ (z : a .number ≡ 0) (w : Ended) (out : List ℕ) (so : Result p tree trace list w out)
-      (r : Replayed) (answer : r ≡ answered (w .number) (w .position) (w .phases) (w .loads)) where
-    record-refusal : (w .number ≡ 0 → ⊥) → Meets (replayCall 16 p tree trace list) r out
+  module _ (z : a .number ≡ 0) (ended : Ended) (out : List ℕ) (so : Result w p tree trace list ended out)
+      (r : Replayed) (answer : r ≡ answered (ended .number) (ended .position) (ended .phases) (ended .loads)) where
+    record-refusal : (ended .number ≡ 0 → ⊥) → Meets (replayCall w p tree trace list) r out
     unfolding answered
     record-refusal n =
-        let v : Verdict = record { number = w .number; position = w .position } in
-        let judged : v ≡ replayWalk 16 p (kinds tree) (records 4 trace) .verdict =
+        let v : Verdict = record { number = ended .number; position = ended .position } in
+        let judged : v ≡ replayWalk w p (kinds tree) (records 4 trace) .verdict =
         λ k. record { number = so .number k; position = so .position k }
         in
-        let call = record-refused p tree trace list a is z v judged n in
-        rw (so .same n) (refusal-meets v list _ call r (answer ∙ rw (ne-eqb (w .number) 0 n) refl))
+        let call = record-refused w p tree trace list a is z v judged n in
+        rw (so .same n) (refusal-meets v list _ call r (answer ∙ rw (ne-eqb (ended .number) 0 n) refl))
 
-    all-answered : w .number ≡ 0 → Meets (replayCall 16 p tree trace list) r out
+    all-answered : ended .number ≡ 0 → Meets (replayCall w p tree trace list) r out
     unfolding answered replayOf
     all-answered none =
-        let all = none-refused p tree trace list a is z (sym (so .number) ∙ none) in (
+        let all = none-refused w p tree trace list a is z (sym (so .number) ∙ none) in (
           answer
-              ∙ rw (eq-eqb (w .number) 0 none) (phase-answers p tree _ list _ _ (so .phases none) (so .loaded none))
+              ∙ rw (eq-eqb (ended .number) 0 none) (phase-answers p tree _ list _ _ (so .phases none) (so .loaded none))
               ∙ ap {B = Replayed} answers all,
           so .listed none ∙ ap (λ (c : Call). c .list) all,
         )
 
-    pub walk-answered : Meets (replayCall 16 p tree trace list) r out
-    walk-answered = elim (ℕ-discrete (w .number) 0) [ yes none ↦ all-answered none | no n ↦ record-refusal n ]
+    pub walk-answered : Meets (replayCall w p tree trace list) r out
+    walk-answered = elim (ℕ-discrete (ended .number) 0) [ yes none ↦ all-answered none | no n ↦ record-refusal n ]

@@ -178,7 +178,7 @@ module _ (p : ℕ) (ks : List ℕ) (some-step : 1 ≤ length ks) (sh : Shape (le
 -- ---- accepted traces
 
 replay-starts : (w p : ℕ) (tree trace list : List ℕ) → replayVerdict w p tree trace list .number ≡ 0
-    → startVerdict p tree .number ≡ 0
+    → startVerdict w p tree .number ≡ 0
 unfolding replayVerdict
 replay-starts w p tree trace list e = first-accepts _ _ e .0
 
@@ -187,10 +187,10 @@ unfolding phasesOf
 splits w p tree trace list e =
     let starts = replay-starts w p tree trace list e in
     let ks = kinds tree in
-    let frame : Frame tree = accepted-frame tree (start-tree-accepts p tree starts) in
+    let frame : Frame tree = accepted-frame tree (start-tree-accepts w p tree starts) in
     let sh = frame .shape in
     let phs = replayWalk w p ks (records 4 trace) .state in
-    let split : Split p ks phs = always-split p (admitted-policy p tree starts) ks (frame .some) sh w (records 4 trace) in
+    let split : Split p ks phs = always-split p (admitted-policy w p tree starts) ks (frame .some) sh w (records 4 trace) in
     record {
       covered = covered-once ks sh p (frame .some) phs split;
       many = list-length p ks (frame .some) sh phs split;

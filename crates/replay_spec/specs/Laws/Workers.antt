@@ -2,7 +2,7 @@
 -- what the rules say of a record before they look at its number.
 use Prim.Native.Nat.{ℕ, _≤_, _<_}
 use mathlib.Core.Path.{_≡_, refl, sym}
-use mathlib.Core.Bool.{Bool, true, false, cond, _||_, or-true}
+use mathlib.Core.Bool.{Bool, true, false, cond, _||_}
 use mathlib.Core.List.{List}
 use mathlib.Core.Option.{Option, none, some}
 use native.Mathlib.Decide.{ℕ-discrete}
@@ -14,6 +14,8 @@ use borrow.Author.Tests.{leb-false, eqb-true, eqb-false, lt-leb, eq-eqb, ne-eqb}
 use Rattle.rules.specs.Scheduling.{mostWorkers, Phase, phaseAt, begin}
 use Rattle.rules.specs.Traces.{latestPhase, numberAllowed, recordNumber, judgeRead, judgeTraceRecord}
 use Rattle.tree.specs.Laws.Verdicts.{or-none}
+use Rattle.policy.specs.Contract.{workerLimit}
+use Rattle.policy.specs.Laws.Workers.{limit-is, first-far, second-far, far-eight}
 use Rattle.replay_invariant.specs.Terms.{free}
 use Rattle.replay_invariant.specs.Laws.Always.{latest-own, latest-begin}
 use Rattle.replay_spec.specs.Workers.{judgedWorkers}
@@ -29,29 +31,29 @@ Latest phs latest = (w : ℕ) → w < mostWorkers → LatestShown (latestPhase w
 
 -- ---- each answer
 
-module _ (latest : List ℕ) (thief victim : ℕ) where
-  pub thief-refused : leb mostWorkers thief ≡ true → 8 ≡ judgedWorkers latest thief victim
+module _ (c : ℕ) (latest : List ℕ) (thief victim : ℕ) where
+  pub thief-refused : leb (workerLimit c) thief ≡ true → 8 ≡ judgedWorkers c latest thief victim
   unfolding judgedWorkers
-  thief-refused e = rw e refl
+  thief-refused e = far-eight _ _ (first-far c thief victim e)
 
-  pub victim-refused : leb mostWorkers victim ≡ true → 8 ≡ judgedWorkers latest thief victim
+  pub victim-refused : leb (workerLimit c) victim ≡ true → 8 ≡ judgedWorkers c latest thief victim
   unfolding judgedWorkers
-  victim-refused e = rw (e, or-true (leb mostWorkers thief)) refl
+  victim-refused e = far-eight _ _ (second-far c thief victim e)
 
-  module _ (t : leb mostWorkers thief ≡ false) (v : leb mostWorkers victim ≡ false) where
-    pub same-refused : thief ≡ victim → 13 ≡ judgedWorkers latest thief victim
+  module _ (t : leb (workerLimit c) thief ≡ false) (v : leb (workerLimit c) victim ≡ false) where
+    pub same-refused : thief ≡ victim → 13 ≡ judgedWorkers c latest thief victim
     unfolding judgedWorkers
     same-refused e = rw (t, v, eq-eqb thief victim e) refl
 
     -- Two workers: the table decides.
-    by-table : (thief ≡ victim → ⊥) → judgedWorkers latest thief victim ≡ cond (eqb (getD latest victim 0) free) 14 0
+    by-table : (thief ≡ victim → ⊥) → judgedWorkers c latest thief victim ≡ cond (eqb (getD latest victim 0) free) 14 0
     unfolding judgedWorkers
     by-table n = rw (t, v, ne-eqb thief victim n) refl
 
-    pub unseen-refused : (thief ≡ victim → ⊥) → getD latest victim 0 ≡ free → 14 ≡ judgedWorkers latest thief victim
+    pub unseen-refused : (thief ≡ victim → ⊥) → getD latest victim 0 ≡ free → 14 ≡ judgedWorkers c latest thief victim
     unseen-refused n e = rw (by-table n, eq-eqb (getD latest victim 0) free e) refl
 
-    pub none-refused : (thief ≡ victim → ⊥) → (getD latest victim 0 ≡ free → ⊥) → 0 ≡ judgedWorkers latest thief victim
+    pub none-refused : (thief ≡ victim → ⊥) → (getD latest victim 0 ≡ free → ⊥) → 0 ≡ judgedWorkers c latest thief victim
     none-refused n m = rw (by-table n, ne-eqb (getD latest victim 0) free m) refl
 
 -- ---- what no refusal says
@@ -64,13 +66,15 @@ refused-none false false true unseen e = absurd (omega arith)
 refused-none false false false true e = absurd (omega arith)
 refused-none false false false false e = (refl, refl, refl, refl)
 
-pub fine-workers : (latest : List ℕ) (thief victim : ℕ) → judgedWorkers latest thief victim ≡ 0
-    → (thief < mostWorkers) × (victim < mostWorkers) × (thief ≡ victim → ⊥) × (getD latest victim 0 ≡ free → ⊥)
+-- A count up to sixteen, as a start accepts it, is the limit.
+pub fine-workers : (c : ℕ) → c ≤ mostWorkers → (latest : List ℕ) (thief victim : ℕ) → judgedWorkers c latest thief victim ≡ 0
+    → (thief < c) × (victim < c) × (thief ≡ victim → ⊥) × (getD latest victim 0 ≡ free → ⊥)
 unfolding judgedWorkers
-fine-workers latest thief victim e =
-    let by = refused-none (leb mostWorkers thief) (leb mostWorkers victim) (eqb thief victim) (eqb (getD latest victim 0) free) e in (
-      leb-false mostWorkers thief (by .0),
-      leb-false mostWorkers victim (by .1),
+fine-workers c most latest thief victim e =
+    let judged = rw (limit-is c most) at e in
+    let by = refused-none (leb c thief) (leb c victim) (eqb thief victim) (eqb (getD latest victim 0) free) judged in (
+      leb-false c thief (by .0),
+      leb-false c victim (by .1),
       eqb-false thief victim (by .2),
       eqb-false (getD latest victim 0) free (by .3),
     )
@@ -112,26 +116,29 @@ module _ (phs : List Phase) (latest : List ℕ) (shown : Latest phs latest) wher
         | no n ↦ rw (latest-begin w t k s phs h .1 (λ e. n (sym e)), getD-set-other latest t w (length phs) 0 n) (shown w b)
       ]
 
-  module _ (p : ℕ) (ks r : List ℕ) where
-    pub judged-stop : length phs ≤ free → (judgedWorkers latest (getD r 0 0) (getD r 1 0) ≡ 0 → ⊥)
-        → judgeTraceRecord mostWorkers p ks phs r ≡ judgedWorkers latest (getD r 0 0) (getD r 1 0)
+  -- A record of a run with a count up to sixteen.
+  module _ (c p : ℕ) (most : c ≤ mostWorkers) (ks r : List ℕ) where
+    pub judged-stop : length phs ≤ free → (judgedWorkers c latest (getD r 0 0) (getD r 1 0) ≡ 0 → ⊥)
+        → judgeTraceRecord c p ks phs r ≡ judgedWorkers c latest (getD r 0 0) (getD r 1 0)
     unfolding judgeTraceRecord judgedWorkers judgeRead
     judged-stop few n =
         let thief = getD r 0 0 in
         let victim = getD r 1 0 in
-        refused-first (leb mostWorkers thief || leb mostWorkers victim) (eqb thief victim) (eqb (getD latest victim 0) free)
+        rw (limit-is c most)
+        (refused-first (leb c thief || leb c victim) (eqb thief victim) (eqb (getD latest victim 0) free)
         (judgeRead p ks phs victim (recordNumber r)) (λ out unseen.
-        let h = leb-false mostWorkers victim (or-none (leb mostWorkers thief) (leb mostWorkers victim) out .1) in
-        rw (latest-none few victim h (eqb-true (getD latest victim 0) free unseen), judgeRead) refl) n
+        let h = leb-false c victim (or-none (leb c thief) (leb c victim) out .1) in
+        let none = latest-none few victim (omega arith) (eqb-true (getD latest victim 0) free unseen) in
+        rw (none, judgeRead) refl) (rw (limit-is c most) at n))
 
     -- Where the workers are not refused, the number decides.
-    pub judged-on : judgedWorkers latest (getD r 0 0) (getD r 1 0) ≡ 0
-        → judgeTraceRecord mostWorkers p ks phs r
+    pub judged-on : judgedWorkers c latest (getD r 0 0) (getD r 1 0) ≡ 0
+        → judgeTraceRecord c p ks phs r
         ≡ cond (numberAllowed p ks (phaseAt phs (getD latest (getD r 1 0) 0)) (recordNumber r)) 0 15
     unfolding judgeTraceRecord judgeRead
     judged-on e =
         let thief = getD r 0 0 in
         let victim = getD r 1 0 in
-        let f = fine-workers latest thief victim e in
-        let known = latest-some victim (f .1) (f .3) in
-        rw (lt-leb mostWorkers thief (f .0), lt-leb mostWorkers victim (f .1), ne-eqb thief victim (f .2), known, judgeRead) refl
+        let f = fine-workers c most latest thief victim e in
+        let known = latest-some victim (omega (arith, f .1)) (f .3) in
+        rw (lt-leb c thief (f .0), lt-leb c victim (f .1), ne-eqb thief victim (f .2), known, judgeRead) refl

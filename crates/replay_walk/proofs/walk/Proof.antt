@@ -21,11 +21,11 @@ use Rattle.replay_walk.proofs.walk.Statement.{statement}
 use Rattle.replay_walk.proofs.walk.Tie as tie
 
 abbrev Inv-loop : tie.InvT-loop
-Inv-loop tree ends openers sums policy trace labels₀ firsts₀ bases₀ ordinals₀ latest₀ loads₀ weight k₀ labels firsts bases ordinals latest loads k =
-    Retracing policy tree trace k labels firsts bases ordinals latest loads
+Inv-loop tree ends openers sums setup trace labels₀ firsts₀ bases₀ ordinals₀ latest₀ loads₀ weight k₀ labels firsts bases ordinals latest loads k =
+    Retracing (setup .workers) (setup .policy) tree trace k labels firsts bases ordinals latest loads
 
 abbrev μ-loop : tie.MeasureT-loop
-μ-loop tree ends openers sums policy trace labels₀ firsts₀ bases₀ ordinals₀ latest₀ loads₀ weight k₀ labels firsts bases ordinals latest loads k =
+μ-loop tree ends openers sums setup trace labels₀ firsts₀ bases₀ ordinals₀ latest₀ loads₀ weight k₀ labels firsts bases ordinals latest loads k =
     length trace / 4 - k
 
 -- ---- the function's entry
@@ -46,7 +46,7 @@ tables c =
 
 -- The labels have kept their length.
 lent-labels : (c : tie.At-loop Inv-loop μ-loop) → length (c .loop .labels) ≡ length (entry c .args .labels .now)
-lent-labels c = c .loop .inv .labelRoom ∙ sym (label-room _ _ (entry c .pre .0 .0) _ (entry c .pre .1 .1 .1 .1 .0) .0)
+lent-labels c = c .loop .inv .labelRoom ∙ sym (label-room _ _ _ (entry c .pre .0 .0) _ (entry c .pre .1 .1 .1 .1 .0) .0)
 
 -- ---- the places of a turn
 
@@ -100,8 +100,8 @@ from c = getD (start c .loop .latest) (victim c) 0
 judged : (c : tie.Else1 Inv-loop μ-loop)
     → let a = entry (start c) .args in
     let l = start c .loop in
-    Judged (a .policy) (a .tree .now) (a .trace .now) (l .k) (l .labels) (l .firsts) (l .bases) (l .ordinals) (l .latest) (l .loads)
-    (thief c) (victim c) (number c)
+    Judged (a .setup .workers) (a .setup .policy) (a .tree .now) (a .trace .now) (l .k) (l .labels) (l .firsts) (l .bases) (l .ordinals)
+    (l .latest) (l .loads) (thief c) (victim c) (number c)
 judged c =
     record {
       so = start c .loop .inv;
@@ -128,14 +128,14 @@ after c = c .before .read-steal .last .1 .1 .1 .0
 read : (c : tie.After-labels2 Inv-loop μ-loop)
     → let a = entry (start (turn c)) .args in
     let l = start (turn c) .loop in
-    NumberRead (a .policy) (a .tree .now) (a .ends .now) (a .openers .now) (a .sums .now) (l .labels) (l .bases) (l .ordinals)
+    NumberRead (a .setup .policy) (a .tree .now) (a .ends .now) (a .openers .now) (a .sums .now) (l .labels) (l .bases) (l .ordinals)
     (from (turn c)) (number (turn c)) (c .before .read-steal .result) (after c)
 read c =
     let a = entry (start (turn c)) .args in
     let l = start (turn c) .loop in
     record {
       tables = tables (start (turn c));
-      reading = read-as (a .policy) (kinds (a .tree .now)) (a .openers .now) (l .labels) (l .bases) (l .ordinals) (after c)
+      reading = read-as (a .setup .policy) (kinds (a .tree .now)) (a .openers .now) (l .labels) (l .bases) (l .ordinals) (after c)
           (c .before .read-steal .result) (number (turn c)) (latest (decoded c)) (decoded c .decode-number .ensures)
           (c .before .read-steal .ensures);
       kept = c .labels2 .given;
@@ -159,11 +159,11 @@ movable c = part-movable (judged (turn (told c))) (read (told c)) (c .before .st
 -- The ordinal that is kept has two bytes, and work-first it is the number.
 own-ordinal : (c : tie.After-ordinal-in Inv-loop μ-loop)
     → let t = turn (told (naming c)) in
-    (c .ordinal-in .result .0 < 65536) × (entry (start t) .args .policy ≡ workFirst → c .ordinal-in .result .0 ≡ number t)
+    (c .ordinal-in .result .0 < 65536) × (entry (start t) .args .setup .policy ≡ workFirst → c .ordinal-in .result .0 ≡ number t)
 own-ordinal c =
     let l = told (naming c) in
     let t = turn l in
-    ordinal-kept (entry (start t) .args .policy) (number t) (judged t .entry .small) (decoded l .decode-number .ensures)
+    ordinal-kept (entry (start t) .args .setup .policy) (number t) (judged t .entry .small) (decoded l .decode-number .ensures)
     (c .ordinal-in .ensures)
 
 -- ---- the needs
@@ -180,7 +180,7 @@ shared-slice-read-weight c = search needs
 begin-first-requires : tie.Need-begin-first-requires Inv-loop μ-loop
 begin-first-requires c κs =
     let start = c .before .before .before .before .before .before .before .before .before .before .before .before in
-    let room = label-room _ _ (start .pre .0 .0) _ (start .pre .1 .1 .1 .1 .0) in
+    let room = label-room _ _ _ (start .pre .0 .0) _ (start .pre .1 .1 .1 .1 .0) in
     ((omega (arith, room), start .pre .1 .1 .1 .1 .1), (refl, refl))
 
 loop-holds : tie.Need-loop-holds Inv-loop μ-loop
@@ -189,7 +189,7 @@ loop-holds c =
     let steps = c .before .before .before .before .before .before .before .before .steps in
     let start = c .before .before .before .before .before .before .before .before .before .before .before .before .before .before .before in
     let a = start .args in
-    retrace-start (a .policy) (a .tree .now) (a .trace .now) (start .pre .0 .0) (start .pre .0 .1) (a .sums .now) (steps .result)
+    retrace-start _ _ (a .tree .now) (a .trace .now) (start .pre .0 .0) (start .pre .0 .1) (a .sums .now) (steps .result)
     (start .pre .1 .1 .1 .0 .1) (steps .ensures) (a .labels .now) (start .pre .1 .1 .1 .1 .0) (a .firsts .now)
     (start .pre .1 .1 .1 .1 .1) _ _ _ _ _ _ (begun .0) (begun .1 .0) refl refl (begun .1 .1 .0) (begun .1 .1 .1)
 
@@ -239,7 +239,7 @@ read-steal-requires c κs =
     let room = start t .loop .inv in
     let s = entry (start t) in (
       (
-        start-tree-accepts (s .args .policy) (s .args .tree .now) (s .pre .0 .0),
+        start-tree-accepts _ _ (s .args .tree .now) (s .pre .0 .0),
         omega (arith, latest at, ready t .0, ready t .1),
         rw (latest at) (ready t .2),
       ),

@@ -19,7 +19,7 @@ use Rattle.tree.specs.Laws.Records.{length-records}
 use Rattle.tree.specs.Laws.Walks.{walk-stop, walk-end}
 use Rattle.tree_scan.specs.Laws.Frames.{Frame, accepted-frame}
 use Rattle.tree_scan.specs.Laws.Places.{root-first}
-use Rattle.tree_scan.specs.Laws.Starts.{start-tree-accepts, admitted-policy}
+use Rattle.tree_scan.specs.Laws.Starts.{start-tree-accepts, start-workers, admitted-policy}
 use Rattle.tree_tables.specs.Terms.{Ends, Openers, Sums, weightBefore}
 use Rattle.run_invariant.specs.Laws.Counts.{and-both}
 use Rattle.replay_invariant.specs.Invariant.{Split}
@@ -36,14 +36,15 @@ use Rattle.replay_walk.specs.Terms.{Retraced}
 use Rattle.replay_spec.specs.Laws.Begins.{based-at}
 use Rattle.replay_invariant.specs.Terms.{free, labelOf, Labels}
 
-pub record Retracing (p : ℕ) (tree trace : List ℕ) (k : ℕ) (labels firsts bases ordinals latest ls : List ℕ) : Type 0 where
+pub record Retracing (w p : ℕ) (tree trace : List ℕ) (k : ℕ) (labels firsts bases ordinals latest ls : List ℕ) : Type 0 where
   pub either : (p ≡ workFirst) ⊎ (p ≡ helpFirst)
+  pub most : w ≤ mostWorkers
   pub frame : Frame tree
   pub short : length trace / 4 ≤ mostTraceRecords
   pub reached : k ≤ length trace / 4
   pub phs : List Phase
-  pub walked : replayWalk mostWorkers p (kinds tree) (records 4 trace)
-      ≡ walk (judgeTraceRecord mostWorkers p (kinds tree)) (nextPhases p (kinds tree)) k phs (drop k (records 4 trace))
+  pub walked : replayWalk w p (kinds tree) (records 4 trace)
+      ≡ walk (judgeTraceRecord w p (kinds tree)) (nextPhases p (kinds tree)) k phs (drop k (records 4 trace))
   pub split : Split p (kinds tree) phs
   pub shown : Labels (kinds tree) phs labels
   -- Each record has begun one phase.
@@ -87,11 +88,11 @@ tables-filled tree ends openers sums right opened added light =
 -- ---- the start
 
 -- The labels that the walk is lent.
-pub label-room : (p : ℕ) (tree : List ℕ) → startVerdict p tree .number ≡ 0 → (labels : List ℕ)
+pub label-room : (w p : ℕ) (tree : List ℕ) → startVerdict w p tree .number ≡ 0 → (labels : List ℕ)
     → labels ≡ replicate (length (kinds tree)) free → (length labels ≡ length (kinds tree)) × (1 ≤ length (kinds tree))
-label-room p tree accepts labels is = (
+label-room w p tree accepts labels is = (
   rw is (length-replicate {A = ℕ} (length (kinds tree)) free),
-  accepted-frame tree (start-tree-accepts p tree accepts) .some,
+  accepted-frame tree (start-tree-accepts w p tree accepts) .some,
 )
 
 -- No phase but phase 0 has begun, so only worker 0 has one.
@@ -105,17 +106,17 @@ unfolding wholeRecords
 records-most trace e =
     leb-true (length trace / 4) mostTraceRecords (and-both (eqb (length trace % 4) 0) (leb (length trace / 4) mostTraceRecords) e .1)
 
-module _ (p : ℕ) (tree trace : List ℕ) (accepts : startVerdict p tree .number ≡ 0)
+module _ (w p : ℕ) (tree trace : List ℕ) (accepts : startVerdict w p tree .number ≡ 0)
     (fits : wholeRecords 4 mostTraceRecords trace ≡ true) where
   frame : Frame tree
-  frame = accepted-frame tree (start-tree-accepts p tree accepts)
+  frame = accepted-frame tree (start-tree-accepts w p tree accepts)
 
   start-labels : (labels : List ℕ) → labels ≡ replicate (length (kinds tree)) free
       → (length (set labels 0 0) ≡ length (kinds tree)) × Labels (kinds tree) firstPhases (set labels 0 0)
   unfolding labelOf
   start-labels labels is =
       let n = length (kinds tree) in
-      let room = label-room p tree accepts labels is in
+      let room = label-room w p tree accepts labels is in
       let size : length (set labels 0 0) ≡ n = length-set labels 0 0 ∙ room .0 in (
         size,
         first-labels p (kinds tree) (frame .some) (frame .shape) (set labels 0 0) (omega arith)
@@ -126,13 +127,13 @@ module _ (p : ℕ) (tree trace : List ℕ) (accepts : startVerdict p tree .numbe
   started : (labels firsts bases ordinals sums : List ℕ) (n : ℕ) → labels ≡ replicate (length (kinds tree)) free
       → length firsts ≡ mostPhases → bases ≡ replicate mostPhases 0 → ordinals ≡ replicate mostPhases 0
       → Sums (weights tree) sums (length (kinds tree)) → n ≡ length (kinds tree)
-      → Retracing p tree trace 0 (set labels 0 0) (set firsts 0 0) bases ordinals (set (replicate mostWorkers free) 0 0)
+      → Retracing w p tree trace 0 (set labels 0 0) (set firsts 0 0) bases ordinals (set (replicate mostWorkers free) 0 0)
       (set (replicate mostWorkers 0) 0 (getD sums n 0))
   unfolding replayWalk firstPhases phaseAt sum
   started labels firsts bases ordinals sums n unlabelled room zeros also added count =
       let ks = kinds tree in
       let sh = frame .shape in
-      let either = admitted-policy p tree accepts in
+      let either = admitted-policy w p tree accepts in
       let start = start-labels labels unlabelled in
       let base-zero : (i : ℕ) → i < mostPhases → getD bases i 0 ≡ 0 = λ i h. rw zeros (getD-replicate mostPhases i 0 0 h) in
       let ordinal-zero : (i : ℕ) → i < mostPhases → getD ordinals i 0 ≡ 0 = λ i h. rw also (getD-replicate mostPhases i 0 0 h) in
@@ -140,6 +141,7 @@ module _ (p : ℕ) (tree trace : List ℕ) (accepts : startVerdict p tree .numbe
       let all : getD sums n 0 ≡ weightBefore (weights tree) (length ks) = rw count (added (length ks) (omega arith)) in
       record {
         either = either;
+        most = start-workers w p tree accepts .1;
         frame = frame;
         short = records-most trace fits;
         reached = omega arith;
@@ -155,7 +157,7 @@ module _ (p : ℕ) (tree trace : List ℕ) (accepts : startVerdict p tree .numbe
         latestRoom = refl;
         begins = λ i h. let e : i ≡ 0 = omega arith in rw e (getD-set-same firsts 0 0 0 (omega arith));
         within = λ i h. rw (base-zero i (omega arith)) (omega (arith, frame .some));
-        based = λ w i h.
+        based = λ first i h.
             let e : i ≡ 0 = omega arith in
             based-at ks sh {y = record { worker = 0; first = 0; stolen = [] }} {from = 0} {by = ordinal ks 0} (rw e refl)
             (base-zero i (omega arith)) (ordinal-zero i (omega arith) ∙ sym root)
@@ -170,21 +172,21 @@ module _ (p : ℕ) (tree trace : List ℕ) (accepts : startVerdict p tree .numbe
       → (lent : List ℕ) → lent ≡ replicate (length (kinds tree)) free → (own : List ℕ) → length own ≡ mostPhases
       → (labels firsts bases ordinals latest ls : List ℕ) → labels ≡ set lent 0 0 → firsts ≡ set own 0 0
       → bases ≡ replicate mostPhases 0 → ordinals ≡ replicate mostPhases 0 → latest ≡ set (replicate mostWorkers free) 0 0
-      → ls ≡ set (replicate mostWorkers 0) 0 (getD sums n 0) → Retracing p tree trace 0 labels firsts bases ordinals latest ls
+      → ls ≡ set (replicate mostWorkers 0) 0 (getD sums n 0) → Retracing w p tree trace 0 labels firsts bases ordinals latest ls
   retrace-start sums n added count lent unlabelled own room labels firsts bases ordinals latest ls label first base at last load =
       rw (label, first, last, load) (started lent own bases ordinals sums n unlabelled room base at added count)
 
 -- ---- the end
 
-module _ {p : ℕ} {tree trace : List ℕ} {k : ℕ} {labels firsts bases ordinals latest ls : List ℕ}
-    (so : Retracing p tree trace k labels firsts bases ordinals latest ls) where
+module _ {w p : ℕ} {tree trace : List ℕ} {k : ℕ} {labels firsts bases ordinals latest ls : List ℕ}
+    (so : Retracing w p tree trace k labels firsts bases ordinals latest ls) where
   pub retrace-end : length trace / 4 ≤ k
-      → Retraced p tree trace (record { number = 0; position = 0; phases = k + 1; loads = ls }) labels firsts
+      → Retraced w p tree trace (record { number = 0; position = 0; phases = k + 1; loads = ls }) labels firsts
   unfolding accepted
   retrace-end h =
       let done =
       so .walked
-      ∙ walk-end (judgeTraceRecord mostWorkers p (kinds tree)) (nextPhases p (kinds tree)) (records 4 trace) [] k (so .phs)
+      ∙ walk-end (judgeTraceRecord w p (kinds tree)) (nextPhases p (kinds tree)) (records 4 trace) [] k (so .phs)
       (rw (length-records 4 trace) h)
       in
       record {
@@ -200,17 +202,17 @@ module _ {p : ℕ} {tree trace : List ℕ} {k : ℕ} {labels firsts bases ordina
 
 -- ---- a record
 
-module _ {p : ℕ} {tree trace : List ℕ} {k : ℕ} {labels firsts bases ordinals latest ls : List ℕ}
-    (so : Retracing p tree trace k labels firsts bases ordinals latest ls) {thief victim number : ℕ}
+module _ {w p : ℕ} {tree trace : List ℕ} {k : ℕ} {labels firsts bases ordinals latest ls : List ℕ}
+    (so : Retracing w p tree trace k labels firsts bases ordinals latest ls) {thief victim number : ℕ}
     (entry : RecordAt trace k thief victim number) where
   -- It is refused: `after` are the labels that are left then.
-  pub retrace-stopped : (x : ℕ) → judgeTraceRecord mostWorkers p (kinds tree) (so .phs) (getD (records 4 trace) k []) ≡ x
+  pub retrace-stopped : (x : ℕ) → judgeTraceRecord w p (kinds tree) (so .phs) (getD (records 4 trace) k []) ≡ x
       → (x ≡ 0 → ⊥) → (r : Ended) → r ≡ record { number = x; position = k; phases = 0; loads = replicate mostWorkers 0 } → (after : List ℕ)
-      → length after ≡ length (kinds tree) → Retraced p tree trace r after firsts
+      → length after ≡ length (kinds tree) → Retraced w p tree trace r after firsts
   retrace-stopped x j n r is after room =
       let stop =
       so .walked
-      ∙ walk-stop (judgeTraceRecord mostWorkers p (kinds tree)) (nextPhases p (kinds tree)) (records 4 trace) [] k (so .phs)
+      ∙ walk-stop (judgeTraceRecord w p (kinds tree)) (nextPhases p (kinds tree)) (records 4 trace) [] k (so .phs)
       (rw (length-records 4 trace) (entry .more)) (λ z. n (sym j ∙ z))
       in
       let numbered : r .number ≡ x = ap (λ (y : Ended). y .number) is in
@@ -225,9 +227,9 @@ module _ {p : ℕ} {tree trace : List ℕ} {k : ℕ} {labels firsts bases ordina
         few = λ z. absurd (n (sym numbered ∙ z));
       }
 
-  pub retrace-judged : (x : ℕ) → x ≡ judgedWorkers latest thief victim → (x ≡ 0 → ⊥) → (r : Ended)
-      → r ≡ record { number = x; position = k; phases = 0; loads = replicate mostWorkers 0 } → Retraced p tree trace r labels firsts
+  pub retrace-judged : (x : ℕ) → x ≡ judgedWorkers w latest thief victim → (x ≡ 0 → ⊥) → (r : Ended)
+      → r ≡ record { number = x; position = k; phases = 0; loads = replicate mostWorkers 0 } → Retraced w p tree trace r labels firsts
   retrace-judged x e n r is =
-      let judged = judged-stop (so .phs) latest (so .latests) p (kinds tree) (getD (records 4 trace) k []) (so .shown .few) in
+      let judged = judged-stop (so .phs) latest (so .latests) w p (so .most) (kinds tree) (getD (records 4 trace) k []) (so .shown .few) in
       let stop = rw (entry .first, entry .second) at judged in
       retrace-stopped x (stop (λ z. n (e ∙ z)) ∙ sym e) n r is labels (so .labelRoom)

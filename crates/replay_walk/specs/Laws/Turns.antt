@@ -59,11 +59,11 @@ unfolding named
 read-as p ks openers labels bases ordinals after r number here is so = rw (← here, ← is) so
 
 -- A record whose workers are not refused.
-pub record Judged (p : ℕ) (tree trace : List ℕ) (k : ℕ) (labels firsts bases ordinals latest ls : List ℕ) (thief victim number : ℕ)
+pub record Judged (w p : ℕ) (tree trace : List ℕ) (k : ℕ) (labels firsts bases ordinals latest ls : List ℕ) (thief victim number : ℕ)
     : Type 0 where
-  pub so : Retracing p tree trace k labels firsts bases ordinals latest ls
+  pub so : Retracing w p tree trace k labels firsts bases ordinals latest ls
   pub entry : RecordAt trace k thief victim number
-  pub fine : judgedWorkers latest thief victim ≡ 0
+  pub fine : judgedWorkers w latest thief victim ≡ 0
 
 -- Its number has been read against phase k, the victim's latest: r is the answer, `after` are the labels.
 pub record NumberRead (p : ℕ) (tree ends openers sums labels bases ordinals : List ℕ) (k number : ℕ) (r : Named) (after : List ℕ)
@@ -72,8 +72,8 @@ pub record NumberRead (p : ℕ) (tree ends openers sums labels bases ordinals : 
   pub reading : Reading openers labels (named p (kinds tree) (getD bases k 0) (getD ordinals k 0) number) k r after
   pub kept : length after ≡ length labels
 
-module _ {p : ℕ} {tree trace : List ℕ} {k : ℕ} {labels firsts bases ordinals latest ls : List ℕ} {thief victim number : ℕ}
-    (j : Judged p tree trace k labels firsts bases ordinals latest ls thief victim number) where
+module _ {w p : ℕ} {tree trace : List ℕ} {k : ℕ} {labels firsts bases ordinals latest ls : List ℕ} {thief victim number : ℕ}
+    (j : Judged w p tree trace k labels firsts bases ordinals latest ls thief victim number) where
   abbrev ks : List ℕ
   ks = kinds tree
 
@@ -87,8 +87,13 @@ module _ {p : ℕ} {tree trace : List ℕ} {k : ℕ} {labels firsts bases ordina
   abbrev phase : Phase
   phase = phaseAt (j .so .phs) from
 
+  -- Two workers of the run,
+  in-run : (thief < w) × (victim < w) × (thief ≡ victim → ⊥) × (from ≡ free → ⊥)
+  in-run = fine-workers w (j .so .most) latest thief victim (j .fine)
+
+  -- so the tables have both.
   pub two-workers : (thief < mostWorkers) × (victim < mostWorkers) × (thief ≡ victim → ⊥) × (from ≡ free → ⊥)
-  two-workers = fine-workers latest thief victim (j .fine)
+  two-workers = (omega (arith, j .so .most, in-run), omega (arith, j .so .most, in-run), in-run .2, in-run .3)
 
   victims : latestPhase victim 0 (j .so .phs) ≡ some from
   victims = latest-some (j .so .phs) latest (j .so .latests) victim (two-workers .1) (two-workers .3)
@@ -105,9 +110,9 @@ module _ {p : ℕ} {tree trace : List ℕ} {k : ℕ} {labels firsts bases ordina
     root-labelled p ks (j .so .frame .some) sh (j .so .phs) (j .so .split) labels (j .so .shown),
   )
 
-  judged : judgeTraceRecord mostWorkers p ks (j .so .phs) (getD (records 4 trace) k []) ≡ cond (numberAllowed p ks phase number) 0 15
+  judged : judgeTraceRecord w p ks (j .so .phs) (getD (records 4 trace) k []) ≡ cond (numberAllowed p ks phase number) 0 15
   judged =
-      let on = judged-on (j .so .phs) latest (j .so .latests) p ks (getD (records 4 trace) k []) in
+      let on = judged-on (j .so .phs) latest (j .so .latests) w p (j .so .most) ks (getD (records 4 trace) k []) in
       (rw (j .entry .first, j .entry .second, j .entry .rest) at on) (j .fine)
 
   -- The number has been read.
@@ -119,21 +124,21 @@ module _ {p : ℕ} {tree trace : List ℕ} {k : ℕ} {labels firsts bases ordina
         × (after ≡ labelled labels path from))
     if-allowed =
         read-allowed p (j .so .either) ks (j .so .frame .some) sh (j .so .phs) (j .so .split) labels (j .so .shown) openers
-        (t .tables .opened) from (getD bases from 0) (getD ordinals from 0) number (own .0) (λ w. j .so .based w from (own .0))
+        (t .tables .opened) from (getD bases from 0) (getD ordinals from 0) number (own .0) (λ first. j .so .based first from (own .0))
         r after (t .reading)
 
     if-broken : numberAllowed p ks phase number ≡ false → r ≡ Nothing
     if-broken =
         read-broken p (j .so .either) ks (j .so .frame .some) sh (j .so .phs) (j .so .split) labels (j .so .shown) openers
-        (t .tables .opened) from (getD bases from 0) (getD ordinals from 0) number (own .0) (λ w. j .so .based w from (own .0))
+        (t .tables .opened) from (getD bases from 0) (getD ordinals from 0) number (own .0) (λ first. j .so .based first from (own .0))
         r after (t .reading)
 
     -- It breaks the rule.
     pub retrace-broken : r ≡ Nothing → (e : Ended) → e ≡ record { number = 15; position = k; phases = 0; loads = replicate mostWorkers 0 }
-        → Retraced p tree trace e after firsts
+        → Retraced w p tree trace e after firsts
     retrace-broken lost e is = by (numberAllowed p ks phase number) refl
       where
-        by : (b : Bool) → numberAllowed p ks phase number ≡ b → Retraced p tree trace e after firsts
+        by : (b : Bool) → numberAllowed p ks phase number ≡ b → Retraced w p tree trace e after firsts
         by true a = let z : _≡_ {A = ℕ} 0 1 = cc (if-allowed a .0) in absurd (omega arith)
         by false a = retrace-stopped (j .so) (j .entry) 15 (judged ∙ rw a refl) (λ z. omega arith) e is after (t .kept ∙ j .so .labelRoom)
 
@@ -189,24 +194,24 @@ module _ {p : ℕ} {tree trace : List ℕ} {k : ℕ} {labels firsts bases ordina
 
       next-phases : nextPhases p ks (j .so .phs) (getD (records 4 trace) k []) ≡ begin (j .so .phs) thief from s
       next-phases =
-          let reads : Read mostWorkers p ks (j .so .phs) (getD (records 4 trace) k []) =
+          let reads : Read w p ks (j .so .phs) (getD (records 4 trace) k []) =
           record {
-            thief = rw (j .entry .first) (two-workers .0);
-            victim = rw (j .entry .second) (two-workers .1);
-            other = rw (j .entry .first, j .entry .second) (two-workers .2);
+            thief = rw (j .entry .first) (in-run .0);
+            victim = rw (j .entry .second) (in-run .1);
+            other = rw (j .entry .first, j .entry .second) (in-run .2);
             from = from;
             latest = rw (j .entry .second) victims;
             allowed = rw (j .entry .rest) allowed;
           }
           in
-          read-next mostWorkers p ks (j .so .phs) (getD (records 4 trace) k []) reads ∙ rw (j .entry .first, j .entry .rest, step-is) refl
+          read-next w p ks (j .so .phs) (getD (records 4 trace) k []) reads ∙ rw (j .entry .first, j .entry .rest, step-is) refl
 
-      next-walked : replayWalk mostWorkers p ks (records 4 trace)
-          ≡ walk (judgeTraceRecord mostWorkers p ks) (nextPhases p ks) (k + 1) (begin (j .so .phs) thief from s)
+      next-walked : replayWalk w p ks (records 4 trace)
+          ≡ walk (judgeTraceRecord w p ks) (nextPhases p ks) (k + 1) (begin (j .so .phs) thief from s)
           (drop (k + 1) (records 4 trace))
       next-walked =
           j .so .walked
-          ∙ walk-on (judgeTraceRecord mostWorkers p ks) (nextPhases p ks) (records 4 trace) [] k (j .so .phs)
+          ∙ walk-on (judgeTraceRecord w p ks) (nextPhases p ks) (records 4 trace) [] k (j .so .phs)
           (rw (length-records 4 trace) (j .entry .more)) (judged ∙ rw allowed refl)
           ∙ rw (next-phases, add-one k) refl
 
@@ -222,7 +227,7 @@ module _ {p : ℕ} {tree trace : List ℕ} {k : ℕ} {labels firsts bases ordina
           (label : labels' ≡ set after s (k + 1)) (first : firsts' ≡ set firsts (k + 1) s)
           (base : bases' ≡ basesBegun openers bases at (k + 1) s) (ordinal : ordinals' ≡ ordinalsBegun ordinals at (k + 1) o)
           (last : latest' ≡ set latest thief (k + 1)) (load : ls' ≡ loadMoved ls thief victim (weightBetween ends sums s)) where
-        pub retrace-begun : Retracing p tree trace (k + 1) labels' firsts' bases' ordinals' latest' ls'
+        pub retrace-begun : Retracing w p tree trace (k + 1) labels' firsts' bases' ordinals' latest' ls'
         unfolding basesBegun ordinalsBegun
         retrace-begun =
             let room = read-ready .0 in
@@ -231,6 +236,7 @@ module _ {p : ℕ} {tree trace : List ℕ} {k : ℕ} {labels firsts bases ordina
             let loaded = load ∙ next-loads in
             record {
               either = j .so .either;
+              most = j .so .most;
               frame = j .so .frame;
               short = j .so .short;
               reached = omega (arith, j .entry .more);

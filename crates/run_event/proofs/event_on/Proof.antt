@@ -10,7 +10,7 @@ use Rattle.run_event.proofs.event_on.Tie as tie
 abbrev lent : tie.Start → Fields
 lent c =
     let a = c .args in
-    fieldsOf (a .place .now) (a .held .now) (a .phase .now) (a .low .now) (a .base .now) (a .steals) (a .policy)
+    fieldsOf (a .place .now) (a .held .now) (a .phase .now) (a .low .now) (a .base .now) (a .steals) (a .setup)
 
 run-on-requires : tie.Need-run-on-requires
 run-on-requires c κs = search needs

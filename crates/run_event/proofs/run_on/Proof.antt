@@ -6,6 +6,7 @@ use mathlib.Core.List.{List}
 use native.Mathlib.Omega.{arith}
 use lib.ListN.{length, getD}
 use Rattle.rules.specs.Tree.{kinds}
+use Rattle.policy.specs.Laws.Workers.{limit-below}
 use Rattle.run_spec.specs.Laws.Running.{run-allowed}
 use Rattle.run_spec.specs.Moves.{Fields, fieldsOf}
 use Rattle.run_spec.specs.Laws.Moves.{lent-climbs, run-refused, run-runs}
@@ -17,7 +18,7 @@ use Rattle.run_event.proofs.run_on.Tie as tie
 abbrev lent : tie.Start → List ℕ → ℕ → Fields
 lent c base steals =
     let a = c .args in
-    fieldsOf (a .place .now) (a .held .now) (a .phase .now) (a .low .now) base steals (a .policy)
+    fieldsOf (a .place .now) (a .held .now) (a .phase .now) (a .low .now) base steals (a .setup)
 
 -- ---- a run that is not refused
 
@@ -29,7 +30,11 @@ allowed : (c : tie.Else1) → let a = start c .args in
     (a .worker < 16) × (length (kinds (a .tree .now)) ≤ 4095) × (getD (a .held .now) (a .worker) 0 < length (kinds (a .tree .now)))
 allowed c =
     let a = start c .args in
-    run-allowed (kinds (a .tree .now)) (a .place .now) (a .held .now) (a .worker) (sym (c .if1 .left) ∙ c .before .judge-run .ensures)
+    let few =
+    run-allowed (a .setup .workers) (kinds (a .tree .now)) (a .place .now) (a .held .now) (a .worker)
+    (sym (c .if1 .left) ∙ c .before .judge-run .ensures)
+    in
+    (limit-below _ (few .0), few .1, few .2)
 
 judge-run-requires : tie.Need-judge-run-requires
 judge-run-requires c κs =

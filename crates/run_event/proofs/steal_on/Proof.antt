@@ -9,6 +9,7 @@ use lib.ListN.{length}
 use Rattle.rules.specs.Tree.{kinds}
 use Rattle.run_spec.specs.declared.Taken.the-variants.{Of}
 use Rattle.run_spec.specs.Terms.{Small}
+use Rattle.policy.specs.Laws.Workers.{limit-below}
 use Rattle.run_spec.specs.Laws.Stealing.{steal-allowed}
 use Rattle.run_spec.specs.Moves.{Fields, Move, fieldsOf, moveOf}
 use Rattle.run_spec.specs.Laws.Moves.{steal-refused, steal-empty, steal-takes}
@@ -21,13 +22,13 @@ use Rattle.run_event.proofs.steal_on.Tie as tie
 abbrev lent : tie.Start → Fields
 lent c =
     let a = c .args in
-    fieldsOf (a .place .now) (a .held .now) (a .phase .now) (a .low .now) (a .base .now) (a .steals) (a .policy)
+    fieldsOf (a .place .now) (a .held .now) (a .phase .now) (a .low .now) (a .base .now) (a .steals) (a .setup)
 
 -- What a steal tells that stores to the places alone.
 abbrev kept : tie.Start → List ℕ → Moved → Move
 kept c place m =
     let a = c .args in
-    moveOf (m .outcome) (fieldsOf place (a .held .now) (a .phase .now) (a .low .now) (a .base .now) (m .steals) (a .policy))
+    moveOf (m .outcome) (fieldsOf place (a .held .now) (a .phase .now) (a .low .now) (a .base .now) (m .steals) (a .setup))
 
 judge-steal-requires : tie.Need-judge-steal-requires
 judge-steal-requires c κs = search needs
@@ -53,7 +54,11 @@ allowed : (c : tie.Else1) → let a = start c .args in
     (a .thief < 16) × (a .victim < 16) × (length (kinds (a .tree .now)) ≤ 4095)
 allowed c =
     let a = start c .args in
-    steal-allowed (kinds (a .tree .now)) (a .held .now) (a .thief) (a .victim) (sym (c .if1 .left) ∙ c .before .judge-steal .ensures)
+    let few =
+    steal-allowed (a .setup .workers) (kinds (a .tree .now)) (a .held .now) (a .thief) (a .victim)
+    (sym (c .if1 .left) ∙ c .before .judge-steal .ensures)
+    in
+    (limit-below _ (few .0), limit-below _ (few .1), few .2)
 
 mul-wide : tie.Need-mul-wide
 mul-wide c = search needs

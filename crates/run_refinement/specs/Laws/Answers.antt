@@ -1,4 +1,4 @@
--- A run's and a steal's move, case by case: on any state a refusal keeps it; on a state that shows a run the rules' verdict.
+-- A run's and a steal's move on a state that shows a run, case by case: both are as the rules say.
 use Prim.Native.Nat.{ℕ, _<_}
 use mathlib.Core.Path.{_≡_, refl, ap, _∙_}
 use mathlib.Core.Bool.{Bool, true, false, cond}
@@ -14,54 +14,15 @@ use Rattle.rules.specs.Scheduling.{workFirst, mostWorkers, pushes, Run, workerA
 use Rattle.rules.specs.Scheduling.{oldest, steal}
 use Rattle.run_spec.specs.Deques.{oldestMark}
 use Rattle.run_spec.specs.Running.{runNumber}
-use Rattle.trace.specs.declared.number.TraceNumber.{TraceNumber}
 use Rattle.trace.specs.Contract.{numberBy}
 use Rattle.run_spec.specs.Stealing.{stealNumber}
 use Rattle.run_spec.specs.declared.Outcome.{Outcome}
-use Rattle.run_spec.specs.declared.Outcome.the-variants.{Ran, Stole, Refused}
+use Rattle.run_spec.specs.declared.Outcome.the-variants.{Ran, Stole}
 use Rattle.run_spec.specs.Moves.{Fields, Move, moveOf, refused, ranFields, runMove, takenOrdinal, robbedFields, stealMove}
 use Rattle.run_refinement.specs.Tie.{Shows, heldStep}
 use Rattle.run_refinement.specs.Laws.Scans.{waits-shown}
-use Rattle.run_refinement.specs.Laws.Moves.{Known, Stolen, held-none, held-some, run-shows, nothing-found, steal-shows}
-
--- ---- any state
-
--- If the move refuses, its state is s.
-pub record Keeps (s : Fields) (move : Move) : Type 0 where
-  pub same : (number : ℕ) → move .outcome ≡ Refused number → move .after ≡ s
-
-module _ (s : Fields) where
-  pub keeps-if : (b : Bool) {x y : Move} → Keeps s x → Keeps s y → Keeps s (cond b x y)
-  keeps-if true k l = k
-  keeps-if false k l = l
-
-  keeps-refused : (number : ℕ) → Keeps s (refused number s)
-  unfolding refused
-  keeps-refused number = record { same = λ n e. refl }
-
-  pub keeps-run : (tree : List ℕ) (w : ℕ) → Keeps s (runMove s tree w)
-  unfolding runMove
-  keeps-run tree w =
-      let number = runNumber (kinds tree) (s .place) (s .held) w in
-      keeps-if (eqb number 0) (record { same = λ m e. let z : _≡_ {A = ℕ} 0 1 = cc in absurd (omega arith) }) (keeps-refused number)
-
-  keeps-found : (found : Option ℕ) (number : ℕ → TraceNumber) (next : ℕ → Fields)
-      → Keeps s (elim found [ none ↦ refused 12 s | some q ↦ moveOf (Stole (number q)) (next q) ])
-  keeps-found none number next = keeps-refused 12
-  keeps-found (some q) number next = record { same = λ m e. let z : _≡_ {A = ℕ} 0 1 = cc in absurd (omega arith) }
-
-  pub keeps-steal : (tree : List ℕ) (t v : ℕ) → Keeps s (stealMove s tree t v)
-  unfolding stealMove
-  keeps-steal tree t v =
-      let ks = kinds tree in
-      let number = stealNumber ks (s .held) t v in
-      keeps-if (eqb number 0)
-      (keeps-found (oldestMark (s .place) v (getD (s .low) v 0) (length ks))
-      (λ q. numberBy (s .policy) (takenOrdinal s ks v q) (pushes (s .policy) ks q))
-      (robbedFields s ks t v))
-      (keeps-refused number)
-
--- ---- a state that shows a run
+use Rattle.run_refinement.specs.Laws.Moves.{Known, Stolen, below-most, not-far, held-none, held-some, run-shows}
+use Rattle.run_refinement.specs.Laws.Moves.{nothing-found, steal-shows}
 
 -- Where nothing but one test can refuse, the move goes by that test.
 by-test : (s : Fields) (b : Bool) (m : ℕ) (x : Move) → (m ≡ 0 → ⊥)
@@ -81,13 +42,16 @@ pub data Agrees (p : ℕ) (ks : List ℕ) (s : Fields) (move : Move) (number : �
 
 module _ {p : ℕ} (tree : List ℕ) {s : Fields} {r : Run} (known : Known p (kinds tree) s r) where
   -- A run by worker w.
-  module _ (w : ℕ) (few : w < mostWorkers) where
+  module _ (w : ℕ) (here : w < s .setup .workers) where
+    few : w < mostWorkers
+    few = below-most known here
+
     idle-move : workerAt r w .hand .held ≡ none → runMove s tree w ≡ refused 9 s
     unfolding runMove runNumber
     idle-move e =
         let n = length (kinds tree) in
         rw (
-          lt-leb 16 w few,
+          not-far known w here,
           le-ltb 4095 n (known .most),
           held-none known w few e,
           le-leb n 65535 (omega (arith, known .most)),
@@ -100,9 +64,9 @@ module _ {p : ℕ} (tree : List ℕ) {s : Fields} {r : Run} (known : Known p (ki
     unfolding runMove runNumber
     held-move i e =
         let n = length (kinds tree) in
-        let held = held-some known w i few e in
+        let held = held-some known w i here e in
         let waiting = waits-shown (kinds tree) (s .place) (r .log) (known .shows .unrun) i (held .1) in
-        rw (lt-leb 16 w few, le-ltb 4095 n (known .most), held .0, lt-leb n i (held .1), waiting)
+        rw (not-far known w here, le-ltb 4095 n (known .most), held .0, lt-leb n i (held .1), waiting)
         (by-test s (waits (kinds tree) (r .log) i) 10 _ (omega arith))
 
     abbrev pub RunAgrees : Type 0
@@ -115,7 +79,7 @@ module _ {p : ℕ} (tree : List ℕ) {s : Fields} {r : Run} (known : Known p (ki
     run-by i e true h = rw (held-move i e, h, e, judgeRun, h) (refuses (omega arith) refl)
     run-by i e false h =
         rw (held-move i e, h)
-        (accepts (rw (e, judgeRun, h) refl) (rw (known .shows .hands w few .latest, e, heldStep) refl) (run-shows known w i few e))
+        (accepts (rw (e, judgeRun, h) refl) (rw (known .shows .hands w few .latest, e, heldStep) refl) (run-shows known w i here e))
 
     pub run-agrees : RunAgrees
     unfolding judgeRun
@@ -126,19 +90,20 @@ module _ {p : ℕ} (tree : List ℕ) {s : Fields} {r : Run} (known : Known p (ki
         by (some i) e = run-by i e (waits (kinds tree) (r .log) i) refl
 
   -- A steal by t from v.
-  module _ (t v : ℕ) (small : t < mostWorkers) (few : v < mostWorkers) (other : t ≡ v → ⊥) where
+  module _ (t v : ℕ) (thief-here : t < s .setup .workers) (here : v < s .setup .workers) (other : t ≡ v → ⊥) where
     steal-move : (found : Option ℕ) → oldestMark (s .place) v (getD (s .low) v 0) (length (kinds tree)) ≡ found
         → stealMove s tree t v
         ≡ cond (ltb (getD (s .held) t 0) (length (kinds tree))) (refused 11 s)
         (elim found [
           | none ↦ refused 12 s
-          | some q ↦ moveOf (Stole (numberBy (s .policy) (takenOrdinal s (kinds tree) v q) (pushes (s .policy) (kinds tree) q)))
-              (robbedFields s (kinds tree) t v q)
+          | some q ↦
+              let taken = pushes (s .setup .policy) (kinds tree) q in
+              moveOf (Stole (numberBy (s .setup .policy) (takenOrdinal s (kinds tree) v q) taken)) (robbedFields s (kinds tree) t v q)
         ])
     unfolding stealMove stealNumber
     steal-move found e =
         let n = length (kinds tree) in
-        rw (lt-leb 16 t small, lt-leb 16 v few, le-ltb 4095 n (known .most), e)
+        rw (not-far known t thief-here, not-far known v here, le-ltb 4095 n (known .most), e)
         (by-test s (ltb (getD (s .held) t 0) n) 11 _ (omega arith))
 
     abbrev pub StealAgrees : Type 0
@@ -150,11 +115,11 @@ module _ {p : ℕ} (tree : List ℕ) {s : Fields} {r : Run} (known : Known p (ki
     steal-busy : (j : ℕ) → workerAt r t .hand .held ≡ some j → StealAgrees
     unfolding judgeSteal holdsStep
     steal-busy j e =
-        let held = held-some known t j small e in
+        let held = held-some known t j thief-here e in
         rw (steal-move _ refl, held .0, lt-ltb j (length (kinds tree)) (held .1), e, holdsStep) (refuses (omega arith) refl)
 
     not-busy : workerAt r t .hand .held ≡ none → ltb (getD (s .held) t 0) (length (kinds tree)) ≡ false
-    not-busy e = rw (held-none known t small e) (le-ltb 65535 (length (kinds tree)) (omega (arith, known .most)))
+    not-busy e = rw (held-none known t (below-most known thief-here) e) (le-ltb 65535 (length (kinds tree)) (omega (arith, known .most)))
 
     steal-taken : workerAt r t .hand .held ≡ none → (length (workerAt r v .hand .deque) ≡ 0 → ⊥) → (q : ℕ)
         → Stolen p (kinds tree) s r t v q → StealAgrees
@@ -170,10 +135,10 @@ module _ {p : ℕ} (tree : List ℕ) {s : Fields} {r : Run} (known : Known p (ki
     steal-by : workerAt r t .hand .held ≡ none → (deque : List ℕ) → workerAt r v .hand .deque ≡ deque → StealAgrees
     unfolding judgeSteal holdsStep
     steal-by e [] d =
-        rw (steal-move none (nothing-found known v few d), not-busy e, e, holdsStep, d) (refuses (omega arith) refl)
+        rw (steal-move none (nothing-found known v here d), not-busy e, e, holdsStep, d) (refuses (omega arith) refl)
     steal-by e (x ∷ xs) d =
         let full : length (workerAt r v .hand .deque) ≡ 0 → ⊥ = rw d (omega arith) in
-        let stolen = steal-shows known t v small few other e full in
+        let stolen = steal-shows known t v thief-here here other e full in
         steal-taken e full (stolen .0) (stolen .1)
 
     pub steal-agrees : StealAgrees

@@ -1,7 +1,7 @@
 -- Each call on a state that shows a run: the start, a run, a steal, an event, the idle workers.
-use Prim.Native.Nat.{ℕ, _+_, suc, _≤_, _<_}
-use mathlib.Core.Path.{_≡_, refl, sym, ap, _∙_}
-use mathlib.Core.Bool.{Bool, true, false, cond, _||_, not, or-true, or-self}
+use Prim.Native.Nat.{ℕ, zero, suc, _+_, _≤_, _<_}
+use mathlib.Core.Path.{_≡_, refl, ap}
+use mathlib.Core.Bool.{Bool, true, false, cond, _||_, not, or-true}
 use mathlib.Core.List.{List, [], _∷_}
 use mathlib.Core.Option.{Option, none, some}
 use native.Mathlib.Decide.{ℕ-discrete, decLt}
@@ -16,45 +16,42 @@ use Rattle.rules.specs.Tree.{kinds, ordinal}
 use Rattle.rules.specs.Calls.{eventCall}
 use Rattle.tree_scan.specs.Laws.Frames.{Frame}
 use Rattle.run_invariant.specs.Invariant.{Invariant}
-use Rattle.run_spec.specs.declared.Outcome.the-variants.{Ran, Stole, Refused}
-use Rattle.run_spec.specs.Running.{runNumber}
+use Rattle.policy.specs.declared.Setup.{Setup}
+use Rattle.policy.specs.Contract.{workerLimit}
+use Rattle.policy.specs.Laws.Workers.{limit-is}
+use Rattle.run_spec.specs.declared.Outcome.the-variants.{Ran, Stole}
 use Rattle.trace.specs.Contract.{numberBy}
-use Rattle.run_spec.specs.Stealing.{stealNumber}
-use Rattle.run_spec.specs.Moves.{Fields, fresh, refused, runMove, stealMove, eventMove}
+use Rattle.run_spec.specs.Moves.{Fields, fresh, refused, eventMove}
 use Rattle.run_spec.specs.Idle.{isIdle, idleBits, idleNumber, idleFirst}
-use Rattle.run_state.specs.declared.RunState.{RunState}
-use Rattle.run_state.specs.Contract.{fields, stateOf, eventAnswer}
 use Rattle.run_refinement.specs.Tie.{Shows, heldStep, told}
 use Rattle.run_refinement.specs.Laws.Ready.{start-ready}
 use Rattle.run_refinement.specs.Laws.Tables.{shows-by, start-table}
-use Rattle.run_refinement.specs.Laws.Moves.{Known, held-none, held-some}
-use Rattle.run_refinement.specs.Laws.Answers.{keeps-if, keeps-run, keeps-steal, Agrees, refuses, accepts, run-agrees}
+use Rattle.run_refinement.specs.Laws.Moves.{Known, below-most, held-none, held-some}
+use Rattle.run_refinement.specs.Laws.AnyState.{far-move}
+use Rattle.run_refinement.specs.Laws.Answers.{Agrees, refuses, accepts, run-agrees}
 use Rattle.run_refinement.specs.Laws.Answers.{steal-agrees}
-
--- On any state whatever, a refused event leaves every field, and so hands back the very state that it got.
-move-keeps : (f : Fields) (tree : List ℕ) (a b number : ℕ) → eventMove f tree a b .outcome ≡ Refused number
-    → eventMove f tree a b .after ≡ f
-unfolding eventMove
-move-keeps f tree a b number e = keeps-if f (eqb a b) (keeps-run f tree a) (keeps-steal f tree a b) .same number e
-
-pub refused-keeps : (s : RunState) (tree : List ℕ) (a b number : ℕ) → eventAnswer s tree a b .outcome ≡ Refused number
-    → eventAnswer s tree a b .state ≡ s
-unfolding eventAnswer
-refused-keeps s tree a b number e = ap {B = RunState} stateOf (move-keeps (fields s) tree a b number e)
 
 -- ---- the start
 
-fresh-unrun : (p j : ℕ) → j < 4095 → getD (fresh p .place) j 0 ≡ 17
+fresh-unrun : (setup : Setup) (j : ℕ) → j < 4095 → getD (fresh setup .place) j 0 ≡ 17
 unfolding fresh
-fresh-unrun p j h = getD-replicate 4095 j 17 0 h
+fresh-unrun setup j h = getD-replicate 4095 j 17 0 h
 
 -- The first state shows the run's start.
-pub start-shows : (p : ℕ) (ks : List ℕ) → 1 ≤ length ks → length ks ≤ 4095 → Shows p ks (fresh p) (start mostWorkers)
+pub start-shows : (setup : Setup) (ks : List ℕ) → 1 ≤ length ks → length ks ≤ 4095 → 1 ≤ setup .workers
+    → setup .workers ≤ mostWorkers → Shows (setup .policy) ks (fresh setup) (start (setup .workers))
 unfolding fresh start hasRun any
-start-shows p ks some-step most =
-    shows-by p ks (fresh p) (start 16)
-    (start-table p ks (fresh p .place) (length-replicate {A = ℕ} 4095 17) some-step (λ j l. fresh-unrun p j (omega arith)))
-    refl (λ j l. ap (λ (x : ℕ). eqb x 17) (fresh-unrun p j (omega arith))) refl (start-ready p ks)
+start-shows setup ks some-step most some-worker few = by (setup .workers) refl some-worker
+  where
+    unrun : (j : ℕ) → j < length ks → getD (fresh setup .place) j 0 ≡ 17
+    unrun j l = fresh-unrun setup j (omega arith)
+
+    by : (c : ℕ) → setup .workers ≡ c → 1 ≤ c → Shows (setup .policy) ks (fresh setup) (start c)
+    by zero e some-worker = absurd (omega arith)
+    by (suc n) e some-worker =
+        shows-by (setup .policy) ks (fresh setup) (start (suc n))
+        (rw e (start-table n (setup .policy) ks (fresh setup .place) (length-replicate {A = ℕ} 4095 17) some-step unrun (omega arith)))
+        refl (λ j l. ap (λ (x : ℕ). eqb x 17) (unrun j l)) refl (start-ready n (setup .policy) ks)
 
 -- ---- the idle workers
 
@@ -103,13 +100,12 @@ module _ (p : ℕ) (tree : List ℕ) (frame : Frame tree) (s : Fields) (r : Run)
 
   -- ---- events
 
-  far-move : (a b : ℕ) → leb 16 a || leb 16 b ≡ true → eventMove s tree a b ≡ refused 8 s
-  unfolding eventMove runMove stealMove runNumber stealNumber
-  far-move a b far =
-      elim (ℕ-discrete a b) [
-        | yes e ↦ rw (eq-eqb a b e, sym (or-self (leb 16 a)) ∙ (rw (← e) at far)) refl
-        | no n ↦ rw (ne-eqb a b n, far) refl
-      ]
+  -- How many workers the state says that there are, and the run has.
+  abbrev count : ℕ
+  count = s .setup .workers
+
+  limited : workerLimit count ≡ count
+  limited = limit-is count (shows .most)
 
   abbrev EventAgrees : List ℕ → Type 0
   EventAgrees e =
@@ -119,16 +115,16 @@ module _ (p : ℕ) (tree : List ℕ) (frame : Frame tree) (s : Fields) (r : Run)
       (oldest (workerAt r (getD e 1 0) .hand .deque)))))
       (nextRun p (kinds tree) r e)
 
-  far-agrees : (e : List ℕ) → leb 16 (getD e 0 0) || leb 16 (getD e 1 0) ≡ true → EventAgrees e
+  far-agrees : (e : List ℕ) → leb count (getD e 0 0) || leb count (getD e 1 0) ≡ true → EventAgrees e
   unfolding judgeEvent
-  far-agrees e far = rw (far-move (getD e 0 0) (getD e 1 0) far, shows .workers, far) (refuses (omega arith) refl)
+  far-agrees e far = rw (far-move s tree (getD e 0 0) (getD e 1 0) (rw limited far), shows .workers, far) (refuses (omega arith) refl)
 
-  near-agrees : (e : List ℕ) → getD e 0 0 < 16 → getD e 1 0 < 16 → EventAgrees e
+  near-agrees : (e : List ℕ) → getD e 0 0 < count → getD e 1 0 < count → EventAgrees e
   unfolding eventMove judgeEvent isRun nextRun
   near-agrees e l m =
       let a = getD e 0 0 in
       let b = getD e 1 0 in
-      rw (shows .workers, lt-leb 16 a l, lt-leb 16 b m) (elim (ℕ-discrete a b) [
+      rw (shows .workers, lt-leb count a l, lt-leb count b m) (elim (ℕ-discrete a b) [
         | yes same ↦ rw (eq-eqb a b same) (run-agrees tree known a l)
         | no n ↦ rw (ne-eqb a b n) (steal-agrees tree known a b l m n)
       ])
@@ -137,12 +133,12 @@ module _ (p : ℕ) (tree : List ℕ) (frame : Frame tree) (s : Fields) (r : Run)
   event-agrees e =
       let a = getD e 0 0 in
       let b = getD e 1 0 in
-      elim (decLt a 16) [
-        | yes l ↦ elim (decLt b 16) [
+      elim (decLt a count) [
+        | yes l ↦ elim (decLt b count) [
           | yes m ↦ near-agrees e l m
-          | no n ↦ far-agrees e (rw (le-leb 16 b (omega arith)) (or-true (leb 16 a)))
+          | no n ↦ far-agrees e (rw (le-leb count b (omega arith)) (or-true (leb count a)))
         ]
-        | no n ↦ far-agrees e (rw (le-leb 16 a (omega arith)) refl)
+        | no n ↦ far-agrees e (rw (le-leb count a (omega arith)) refl)
       ]
 
   -- The event's outcome is the rules' word, and the next state shows the rules' next.
@@ -166,10 +162,10 @@ module _ (p : ℕ) (tree : List ℕ) (frame : Frame tree) (s : Fields) (r : Run)
 
   -- ---- the idle workers
 
-  idle-by : (u : ℕ) → u < mostWorkers → (o : Option ℕ) → workerAt r u .hand .held ≡ o
+  idle-by : (u : ℕ) → u < count → (o : Option ℕ) → workerAt r u .hand .held ≡ o
       → isIdle (getD (s .held) u 0) ≡ not (holdsStep (workerAt r u))
   unfolding isIdle holdsStep
-  idle-by u few none e = rw (held-none known u few e, e, holdsStep) (le-leb 4095 65535 (omega arith))
+  idle-by u few none e = rw (held-none known u (below-most known few) e, e, holdsStep) (le-leb 4095 65535 (omega arith))
   idle-by u few (some i) e =
       let held = held-some known u i few e in
       rw (held .0, e, holdsStep) (lt-leb 4095 i (omega (arith, frame .most)))
@@ -182,11 +178,11 @@ module _ (p : ℕ) (tree : List ℕ) (frame : Frame tree) (s : Fields) (r : Run)
       let here : 0 + u ≡ u = omega arith in
       rw here (idle-by u (omega (arith, shows .workers)) (workerAt r u .hand .held) refl))
 
-  pub idle-set-shown : idleBits (s .held) 0 mostWorkers ≡ idleSet (r .workers)
-  idle-set-shown = rw (shows .workers) at (alike-set (r .workers) (s .held) 0 workers-alike)
+  pub idle-set-shown : idleBits (s .held) 0 (workerLimit count) ≡ idleSet (r .workers)
+  idle-set-shown = rw limited (rw (shows .workers) at (alike-set (r .workers) (s .held) 0 workers-alike))
 
-  pub idle-count-shown : idleNumber (s .held) 0 mostWorkers ≡ idleCount (r .workers)
-  idle-count-shown = rw (shows .workers) at (alike-count (r .workers) (s .held) 0 workers-alike)
+  pub idle-count-shown : idleNumber (s .held) 0 (workerLimit count) ≡ idleCount (r .workers)
+  idle-count-shown = rw limited (rw (shows .workers) at (alike-count (r .workers) (s .held) 0 workers-alike))
 
-  pub idle-lowest-shown : idleFirst (s .held) 0 mostWorkers ≡ idleLowest 0 (r .workers)
-  idle-lowest-shown = rw (shows .workers) at (alike-lowest (r .workers) (s .held) 0 workers-alike)
+  pub idle-lowest-shown : idleFirst (s .held) 0 (workerLimit count) ≡ idleLowest 0 (r .workers)
+  idle-lowest-shown = rw limited (rw (shows .workers) at (alike-lowest (r .workers) (s .held) 0 workers-alike))

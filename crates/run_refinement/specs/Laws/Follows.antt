@@ -4,20 +4,20 @@ use Prim.Native.Nat.{ℕ}
 use mathlib.Core.Path.{_≡_, refl, ap₂}
 use mathlib.Core.Bool.{true, false, cond}
 use mathlib.Core.List.{List, [], _∷_}
-use native.Mathlib.Omega.{arith}
 use lib.ListN.{getD}
 use lib.Dec.{eqb}
 use Rattle.rules.specs.Tree.{kinds, ordinal}
-use Rattle.rules.specs.Scheduling.{workFirst, mostWorkers, Run, start}
+use Rattle.rules.specs.Scheduling.{workFirst, Run, start}
 use Rattle.rules.specs.Traces.{traceNumber}
 use Rattle.rules.specs.Calls.{startVerdict, eventCall, afterEvents}
-use Rattle.tree_scan.specs.Laws.Starts.{start-tree-accepts}
+use Rattle.tree_scan.specs.Laws.Starts.{start-tree-accepts, start-workers}
 use Rattle.tree_scan.specs.Laws.Frames.{Frame, accepted-frame}
 use Rattle.run_invariant.specs.Invariant.{Invariant}
 use Rattle.run_invariant.specs.Laws.Always.{start-invariant, event-keeps, always}
 use Rattle.run_spec.specs.declared.Outcome.{Outcome}
 use Rattle.trace.specs.declared.number.TraceNumber.the-variants.{ByOrdinal, BySerial}
 use Rattle.trace.specs.Contract.{numberBy, numberValue}
+use Rattle.policy.specs.declared.Setup.{Setup}
 use Rattle.run_spec.specs.Moves.{fresh}
 use Rattle.run_state.specs.declared.RunState.{RunState}
 use Rattle.run_state.specs.Contract.{fields, stateOf, startAnswer, eventAnswer, idleAnswer}
@@ -49,19 +49,21 @@ module _ (p : ℕ) (tree : List ℕ) (frame : Frame tree) where
       in
       (ap₂ (λ (x : Outcome) (xs : List Outcome). x ∷ xs) (event-tells p tree frame (fields s) r inv shows e) (rest .0), rest .1)
 
-pub follows : (p : ℕ) (tree : List ℕ) → startVerdict p tree .number ≡ 0 → (es : List (List ℕ)) → Follows p tree es
+pub follows : (w p : ℕ) (tree : List ℕ) → startVerdict w p tree .number ≡ 0 → (es : List (List ℕ)) → Follows w p tree es
 unfolding startAnswer idleAnswer ruled reached
-follows p tree accepts es =
-    let frame = accepted-frame tree (start-tree-accepts p tree accepts) in
-    let inv = always p (kinds tree) (frame .some) (frame .shape) mostWorkers (omega arith) es in
+follows w p tree accepts es =
+    let frame = accepted-frame tree (start-tree-accepts w p tree accepts) in
+    let few = start-workers w p tree accepts in
+    let setup : Setup = record { policy = p; workers = w } in
+    let inv = always p (kinds tree) (frame .some) (frame .shape) w (few .0) es in
     let both =
-    along p tree frame es (stateOf (fresh p)) (start mostWorkers)
-    (start-invariant p (kinds tree) (frame .some) (frame .shape) mostWorkers (omega arith))
-    (start-shows p (kinds tree) (frame .some) (frame .most))
+    along p tree frame es (stateOf (fresh setup)) (start w)
+    (start-invariant p (kinds tree) (frame .some) (frame .shape) w (few .0))
+    (start-shows setup (kinds tree) (frame .some) (frame .most) (few .0) (few .1))
     in
-    let after = fields (stateReached tree (stateOf (fresh p)) es) in
-    let run = afterEvents p (kinds tree) (start mostWorkers) es in
-    let first : startAnswer p tree .state ≡ stateOf (fresh p) = rw accepts refl in
+    let after = fields (stateReached tree (stateOf (fresh setup)) es) in
+    let run = afterEvents p (kinds tree) (start w) es in
+    let first : startAnswer w p tree .state ≡ stateOf (fresh setup) = rw accepts refl in
     record {
       invariant = inv;
       tells = rw first (both .0);

@@ -9,7 +9,8 @@ use native.Mathlib.Decide.{ℕ-discrete}
 use native.Mathlib.Omega.{arith}
 use lib.ListN.{length, getD, set, length-set, length-append}
 use lib.Seq.{set-getD}
-use borrow.Author.Tests.{eq-eqb, ne-eqb, eqb-true}
+use lib.Dec.{leb}
+use borrow.Author.Tests.{eq-eqb, ne-eqb, eqb-true, lt-leb}
 use Rattle.rules.specs.Tree.{kindAt, isEnd, ordinal}
 use Rattle.rules.specs.Scheduling.{workFirst, mostWorkers, holds, pushes, afterRun, Worker, Steal, Run, workerAt, runStep, oldest}
 use Rattle.rules.specs.Scheduling.{steal}
@@ -21,6 +22,8 @@ use Rattle.run_invariant.specs.Laws.Phase.{held-within, oldest-within}
 use Rattle.run_invariant.specs.Laws.Waiting.{run-more}
 use Rattle.run_invariant.specs.Laws.Moves.{some-stack, holds-some, rich-holds, held-facts, onward, ran}
 use Rattle.run_invariant.specs.Laws.Consequences.{steals-most, phases-count, pending-unrun}
+use Rattle.policy.specs.Contract.{workerLimit}
+use Rattle.policy.specs.Laws.Workers.{limit-is}
 use Rattle.run_spec.specs.Deques.{marked, newestMark, oldestMark, popped, robbed}
 use Rattle.run_spec.specs.Running.{heldNext, placeNext}
 use Rattle.run_spec.specs.Moves.{Fields, fieldsOf, ranFields, nextPhase, takenOrdinal, robbedFields}
@@ -57,12 +60,23 @@ pub record Stolen (p : ℕ) (ks : List ℕ) (s : Fields) (r : Run) (t v q : ℕ)
 module _ {p : ℕ} {ks : List ℕ} {s : Fields} {r : Run} (known : Known p ks s r) where
   open Known known using (some-step, most, shape as sh, inv, shows)
 
+  -- ---- a worker that the run has
+
+  pub below-most : {w : ℕ} → w < s .setup .workers → w < mostWorkers
+  below-most here = omega (arith, shows .most)
+
+  pub not-far : (w : ℕ) → w < s .setup .workers → leb (workerLimit (s .setup .workers)) w ≡ false
+  not-far w here = lt-leb _ w (rw (limit-is _ (shows .most)) here)
+
   -- ---- what a worker holds
 
   pub held-none : (w : ℕ) → w < mostWorkers → workerAt r w .hand .held ≡ none → getD (s .held) w 0 ≡ 65535
   held-none w few e = rw e at (shows .hands w few .holding) .0
 
-  module _ (w i : ℕ) (few : w < mostWorkers) (holding : workerAt r w .hand .held ≡ some i) where
+  module _ (w i : ℕ) (here : w < s .setup .workers) (holding : workerAt r w .hand .held ≡ some i) where
+    few : w < mostWorkers
+    few = below-most here
+
     chained : Chained p ks (i ∷ workerAt r w .hand .deque)
     chained = held-facts p ks r inv w i holding .chain
 
@@ -108,14 +122,14 @@ module _ {p : ℕ} {ks : List ℕ} {s : Fields} {r : Run} (known : Known p ks s 
     stored-shows : (after : List ℕ) (h : ℕ) → Stored ks (s .place) after w i
         → HandShown p ks after w h (getD (s .low) w 0) (getD (s .base) w 0)
         (getD (s .phase) w 0) next
-        → Shows p ks (fieldsOf after (set (s .held) w h) (s .phase) (s .low) (s .base) (s .steals) (s .policy))
+        → Shows p ks (fieldsOf after (set (s .held) w h) (s .phase) (s .low) (s .base) (s .steals) (s .setup))
         (runStep p ks r w)
     unfolding runStep next marked ran onward
     stored-shows after h stored shown =
         let hand = shows .hands w few in
         let table = rw (set-getD (s .low) w 0, set-getD (s .base) w 0, set-getD (s .phase) w 0) at
-        (table-set p ks sh most _ _ _ _ _ _ (tables-of p ks s r shows) after w h (getD (s .low) w 0)
-        (getD (s .base) w 0) (getD (s .phase) w 0) next (stored .places) few shown (stored .spared)) in
+        (table-set p _ ks sh most _ _ _ _ _ _ (tables-of p ks s r shows) after w h (getD (s .low) w 0)
+        (getD (s .base) w 0) (getD (s .phase) w 0) next (stored .places) here shown (stored .spared)) in
         rw (holding, runStep)
         (shows-by p ks _ _ table (shows .policy)
         (λ j l. rw run-more (elim (ℕ-discrete j i) [
@@ -127,22 +141,22 @@ module _ {p : ℕ} {ks : List ℕ} {s : Fields} {r : Run} (known : Known p ks s 
         (rw holding at (hand .holding) .1)))
 
     -- What it holds next, and its hand then.
-    next-opened : isEnd (kindAt ks i) ≡ false → heldNext (s .policy) ks (s .place) w (getD (s .low) w 0) i ≡ holds p ks i
+    next-opened : isEnd (kindAt ks i) ≡ false → heldNext (s .setup .policy) ks (s .place) w (getD (s .low) w 0) i ≡ holds p ks i
     unfolding heldNext
     next-opened e = rw (e, shows .policy) refl
 
     next-idle : isEnd (kindAt ks i) ≡ true → newestMark (s .place) w (getD (s .low) w 0) i ≡ none
-        → heldNext (s .policy) ks (s .place) w (getD (s .low) w 0) i ≡ 65535
+        → heldNext (s .setup .policy) ks (s .place) w (getD (s .low) w 0) i ≡ 65535
     unfolding heldNext
     next-idle e found = rw (e, found) refl
 
     next-newest : isEnd (kindAt ks i) ≡ true → (q : ℕ) → newestMark (s .place) w (getD (s .low) w 0) i ≡ some q
-        → heldNext (s .policy) ks (s .place) w (getD (s .low) w 0) i ≡ pushes p ks q
+        → heldNext (s .setup .policy) ks (s .place) w (getD (s .low) w 0) i ≡ pushes p ks q
     unfolding heldNext
     next-newest e q found = rw (e, found, shows .policy) refl
 
     hand-after : isEnd (kindAt ks i) ≡ true → (deque : List ℕ) → workerAt r w .hand .deque ≡ deque
-        → HandShown p ks (popped (s .place) w (getD (s .low) w 0) i) w (heldNext (s .policy) ks (s .place) w (getD (s .low) w 0) i)
+        → HandShown p ks (popped (s .place) w (getD (s .low) w 0) i) w (heldNext (s .setup .policy) ks (s .place) w (getD (s .low) w 0) i)
         (getD (s .low) w 0) (getD (s .base) w 0) (getD (s .phase) w 0) next
     unfolding next
     hand-after e [] d =
@@ -159,7 +173,8 @@ module _ {p : ℕ} {ks : List ℕ} {s : Fields} {r : Run} (known : Known p ks s 
     unfolding ranFields placeNext next
     shows-next true e =
         rw e
-        (stored-shows (popped (s .place) w (getD (s .low) w 0) i) (heldNext (s .policy) ks (s .place) w (getD (s .low) w 0) i) emptied
+        (stored-shows (popped (s .place) w (getD (s .low) w 0) i) (heldNext (s .setup .policy) ks (s .place) w (getD (s .low) w 0) i)
+        emptied
         (hand-after e (workerAt r w .hand .deque) refl))
     shows-next false e =
         rw (e, next-opened e)
@@ -172,20 +187,29 @@ module _ {p : ℕ} {ks : List ℕ} {s : Fields} {r : Run} (known : Known p ks s 
   -- ---- a steal
 
   -- From an empty deque there is nothing to steal.
-  pub nothing-found : (v : ℕ) → v < mostWorkers → workerAt r v .hand .deque ≡ []
+  pub nothing-found : (v : ℕ) → v < s .setup .workers → workerAt r v .hand .deque ≡ []
       → oldestMark (s .place) v (getD (s .low) v 0) (length ks) ≡ none
-  nothing-found v few d = by (workerAt r v .hand .held) refl
+  nothing-found v here d = by (workerAt r v .hand .held) refl
     where
+      few : v < mostWorkers
+      few = below-most here
+
       by : (o : Option ℕ) → workerAt r v .hand .held ≡ o → oldestMark (s .place) v (getD (s .low) v 0) (length ks) ≡ none
       by none e = idle-none p ks sh most _ (shows .places) v _ _ _ _ _ (shows .hands v few) e
-      by (some i) e = oldest-none p ks sh most _ (shows .places) v _ _ _ _ _ few (shows .hands v few) i e (unrun v i few e) d
+      by (some i) e = oldest-none p ks sh most _ (shows .places) v _ _ _ _ _ few (shows .hands v few) i e (unrun v i here e) d
 
   thief-phase : nextPhase s ≡ length (r .phases)
   unfolding nextPhase
   thief-phase = omega (arith, shows .steals, phases-count p ks some-step sh r inv, steals-most p ks some-step sh r inv)
 
-  module _ (t v : ℕ) (small : t < mostWorkers) (few : v < mostWorkers) (other : t ≡ v → ⊥) (idle : workerAt r t .hand .held ≡ none)
-      (full : length (workerAt r v .hand .deque) ≡ 0 → ⊥) where
+  module _ (t v : ℕ) (thief-here : t < s .setup .workers) (here : v < s .setup .workers) (other : t ≡ v → ⊥)
+      (idle : workerAt r t .hand .held ≡ none) (full : length (workerAt r v .hand .deque) ≡ 0 → ⊥) where
+    thief-few : t < mostWorkers
+    thief-few = below-most thief-here
+
+    victim-few : v < mostWorkers
+    victim-few = below-most here
+
     step : ℕ
     step = oldest (workerAt r v .hand .deque)
 
@@ -205,11 +229,11 @@ module _ {p : ℕ} {ks : List ℕ} {s : Fields} {r : Run} (known : Known p ks s 
 
     places : length after ≡ 4095
     unfolding after
-    places = robbed-length p ks sh most _ (shows .places) v (getD (s .low) v 0) few
+    places = robbed-length p ks sh most _ (shows .places) v (getD (s .low) v 0) victim-few
 
     spared : Spared ks (s .place) after v
     unfolding after
-    spared = rob-other p ks sh most _ (shows .places) v (getD (s .low) v 0) few
+    spared = rob-other p ks sh most _ (shows .places) v (getD (s .low) v 0) victim-few
 
     -- The victim holds step i, and step q pushed what is stolen.
     module _ (i : ℕ) (holding : workerAt r v .hand .held ≡ some i) (q : ℕ)
@@ -219,17 +243,17 @@ module _ {p : ℕ} {ks : List ℕ} {s : Fields} {r : Run} (known : Known p ks s 
       unfolding takenOrdinal
       taken-ordinal first =
           rw (shows .policy)
-          (oldest-ordinal p ks sh most _ (shows .places) v _ _ _ _ _ few (shows .hands v few) i holding (unrun v i few holding)
-          first q found)
+          (oldest-ordinal p ks sh most _ (shows .places) v _ _ _ _ _ victim-few (shows .hands v victim-few) i holding
+          (unrun v i here holding) first q found)
 
-      victim-table : Table p ks after (s .held) (set (s .low) v (suc q)) (set (s .base) v 0)
+      victim-table : Table p (s .setup .workers) ks after (s .held) (set (s .low) v (suc q)) (set (s .base) v 0)
           (s .phase) (set (r .workers) v victim)
       unfolding victim after
       victim-table =
           rw (set-getD (s .held) v 0, set-getD (s .phase) v 0) at
-          (table-set p ks sh most _ _ _ _ _ _ (tables-of p ks s r shows) after v (getD (s .held) v 0) (suc q) 0
-          (getD (s .phase) v 0) victim places few
-          (robbed-shown p ks sh most _ (shows .places) v _ _ _ _ _ few (shows .hands v few) i holding (unrun v i few holding)
+          (table-set p _ ks sh most _ _ _ _ _ _ (tables-of p ks s r shows) after v (getD (s .held) v 0) (suc q) 0
+          (getD (s .phase) v 0) victim places here
+          (robbed-shown p ks sh most _ (shows .places) v _ _ _ _ _ victim-few (shows .hands v victim-few) i holding (unrun v i here holding)
           q found)
           spared)
 
@@ -237,28 +261,28 @@ module _ {p : ℕ} {ks : List ℕ} {s : Fields} {r : Run} (known : Known p ks s 
       unfolding thief step
       thief-hand =
           thief-shown p ks sh most after places t _ _ _ _ _
-          (other-shown p ks sh most _ (shows .places) after t _ _ _ _ _ (shows .hands t small) (spared t small other))
+          (other-shown p ks sh most _ (shows .places) after t _ _ _ _ _ (shows .hands t thief-few) (spared t thief-few other))
           idle step (length (r .phases)) (takenOrdinal s ks v q)
-          (oldest-within p ks sh i (workerAt r v .hand .deque) full (chained v i few holding))
+          (oldest-within p ks sh i (workerAt r v .hand .deque) full (chained v i here holding))
           (λ first. taken-ordinal first ∙ ap (ordinal ks) (sym pushed-by))
 
-      both-table : Table p ks after (set (s .held) t step) (set (set (s .low) v (suc q)) t step)
+      both-table : Table p (s .setup .workers) ks after (set (s .held) t step) (set (set (s .low) v (suc q)) t step)
           (set (set (s .base) v 0) t (takenOrdinal s ks v q)) (set (s .phase) t (length (r .phases)))
           (set (set (r .workers) v victim) t thief)
       both-table =
-          table-set p ks sh most _ _ _ _ _ _ victim-table after t step step (takenOrdinal s ks v q) (length (r .phases))
-          thief places small thief-hand (λ u l n j b. refl)
+          table-set p _ ks sh most _ _ _ _ _ _ victim-table after t step step (takenOrdinal s ks v q) (length (r .phases))
+          thief places thief-here thief-hand (λ u l n j b. refl)
 
       shows-stolen : Shows p ks (robbedFields s ks t v q) (steal r t v)
       unfolding robbedFields steal victim thief step after marked
       shows-stolen =
-          let taken : pushes (s .policy) ks q ≡ step = ap (λ (x : ℕ). pushes x ks q) (shows .policy) ∙ sym pushed-by in
+          let taken : pushes (s .setup .policy) ks q ≡ step = ap (λ (x : ℕ). pushes x ks q) (shows .policy) ∙ sym pushed-by in
           let stolen : Steal = record { thief = t; victim = v; step = step } in
           rw (taken, thief-phase)
           (shows-by p ks _ _ both-table (shows .policy)
-          (λ j l. rob-unrun p ks sh most _ (shows .places) v (getD (s .low) v 0) few j l ∙ shows .unrun j l)
+          (λ j l. rob-unrun p ks sh most _ (shows .places) v (getD (s .low) v 0) victim-few j l ∙ shows .unrun j l)
           (omega (arith, phases-count p ks some-step sh r inv, length-append (r .steals) (stolen ∷ [])))
-          (steal-ready p ks sh r inv (s .low) (shows .ready) t v i q (shows .lows) small few (omega (arith, shows .workers))
+          (steal-ready p ks sh r inv (s .low) (shows .ready) t v i q (shows .lows) thief-few victim-few (omega (arith, shows .workers))
           (omega (arith, shows .workers)) other holding pushed-by not-below past))
 
     -- A worker with steps in its deque holds one.
@@ -268,7 +292,7 @@ module _ {p : ℕ} {ks : List ℕ} {s : Fields} {r : Run} (known : Known p ks s 
         let held = holds-some (workerAt r v) (rich-holds r v (inv .workers v) full) in
         let i = held .0 in
         let e = held .1 in
-        let found = oldest-pusher p ks sh most _ (shows .places) v _ _ _ _ _ few (shows .hands v few) i e (unrun v i few e)
+        let found = oldest-pusher p ks sh most _ (shows .places) v _ _ _ _ _ victim-few (shows .hands v victim-few) i e (unrun v i here e)
         full in (
           found .0,
           record {

@@ -179,13 +179,14 @@ module _ (p : ℕ) (ks : List ℕ) (sh : Shape (length ks) (endAt ks) (sizeAt ks
 
 -- ---- the start
 
-pub start-ready : (p : ℕ) (ks : List ℕ) → AllReady p ks (replicate mostWorkers 0) (start mostWorkers)
+-- Of a run with n workers and one more.
+pub start-ready : (n p : ℕ) (ks : List ℕ) → AllReady p ks (replicate mostWorkers 0) (start (suc n))
 unfolding start workerAt phaseAt firstPhases idleWorker any
-start-ready p ks zero i few e =
+start-ready n p ks zero i few e =
     let s : 0 ≡ i = cc in
-    rw (← s) (record { stolenBelow = λ x m. has-none x m; free = λ n. absurd (n refl) })
-start-ready p ks (suc w) i few e =
-    absurd (Option·none-ne-some i (ap (λ (x : Worker). x .hand .held) (sym (getD-alike 15 w idleWorker)) ∙ e))
+    rw (← s) (record { stolenBelow = λ x m. has-none x m; free = λ apart. absurd (apart refl) })
+start-ready n p ks (suc w) i few e =
+    absurd (Option·none-ne-some i (ap (λ (x : Worker). x .hand .held) (sym (getD-alike n w idleWorker)) ∙ e))
 
 -- ---- a run
 

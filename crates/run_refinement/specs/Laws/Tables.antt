@@ -1,11 +1,11 @@
 -- All workers of a state beside those of a run: the state's tables, worker by worker. A move changes them at one worker.
 use Prim.Native.Nat.{ℕ, zero, suc, _≤_, _<_}
-use mathlib.Core.Path.{_≡_, refl, sym}
+use mathlib.Core.Path.{_≡_, refl, sym, ap}
 use mathlib.Core.Bool.{not}
 use mathlib.Core.List.{List, []}
 use native.Mathlib.Decide.{ℕ-discrete}
 use native.Mathlib.Omega.{arith}
-use lib.ListN.{length, getD, set, replicate, length-set, getD-replicate}
+use lib.ListN.{length, getD, set, replicate, length-set, length-replicate, getD-replicate}
 use lib.Seq.{getD-set-same, getD-set-other}
 use lib.Dec.{eqb}
 use borrow.Author.Tests.{ne-eqb}
@@ -14,23 +14,26 @@ use Rattle.rules.specs.Scheduling.{mostWorkers, Worker, Run, idleWorker, worker
 use Rattle.tree_scan.specs.Laws.Shape.{Shape}
 use Rattle.tree_scan.specs.Laws.Frames.{endAt, sizeAt}
 use Rattle.tree_scan.specs.Laws.Places.{root-first}
+use Rattle.run_invariant.specs.Laws.Moves.{getD-alike}
 use Rattle.run_spec.specs.Deques.{marked}
 use Rattle.run_spec.specs.Moves.{Fields}
 use Rattle.run_refinement.specs.Tie.{HandShown, AllReady, Shows}
 use Rattle.run_refinement.specs.Laws.Hands.{other-shown}
 
-pub record Table (p : ℕ) (ks place helds lows bases phases : List ℕ) (workers : List Worker) : Type 0 where
+-- Of a run of c workers. The state's tables have a place for sixteen.
+pub record Table (p c : ℕ) (ks place helds lows bases phases : List ℕ) (workers : List Worker) : Type 0 where
   pub places : length place ≡ 4095
   pub sized :
       (length helds ≡ mostWorkers) × (length lows ≡ mostWorkers) × (length bases ≡ mostWorkers) × (length phases ≡ mostWorkers)
-      × (length workers ≡ mostWorkers)
+      × (length workers ≡ c)
+  pub few : c ≤ mostWorkers
   pub hands : (u : ℕ) → u < mostWorkers
       → HandShown p ks place u (getD helds u 0) (getD lows u 0) (getD bases u 0) (getD phases u 0) (getD workers u idleWorker)
 
 -- What a state shows of a run is the tables and four facts more.
 module _ (p : ℕ) (ks : List ℕ) (s : Fields) (r : Run) where
   abbrev pub Tables : Type 0
-  Tables = Table p ks (s .place) (s .held) (s .low) (s .base) (s .phase) (r .workers)
+  Tables = Table p (s .setup .workers) ks (s .place) (s .held) (s .low) (s .base) (s .phase) (r .workers)
 
   pub tables-of : Shows p ks s r → Tables
   unfolding workerAt
@@ -38,10 +41,11 @@ module _ (p : ℕ) (ks : List ℕ) (s : Fields) (r : Run) where
       record {
         places = shows .places;
         sized = (shows .helds, shows .lows, shows .bases, shows .phases, shows .workers);
+        few = shows .most;
         hands = shows .hands;
       }
 
-  pub shows-by : Tables → s .policy ≡ p → ((j : ℕ) → j < length ks → eqb (getD (s .place) j 0) 17 ≡ not (hasRun (r .log) j))
+  pub shows-by : Tables → s .setup .policy ≡ p → ((j : ℕ) → j < length ks → eqb (getD (s .place) j 0) 17 ≡ not (hasRun (r .log) j))
       → s .steals ≡ length (r .steals) → AllReady p ks (s .low) r → Shows p ks s r
   unfolding workerAt
   shows-by table policy unrun steals ready =
@@ -53,6 +57,7 @@ module _ (p : ℕ) (ks : List ℕ) (s : Fields) (r : Run) where
         bases = table .sized .2;
         phases = table .sized .3;
         workers = table .sized .4;
+        most = table .few;
         hands = table .hands;
         unrun = unrun;
         steals = steals;
@@ -61,7 +66,8 @@ module _ (p : ℕ) (ks : List ℕ) (s : Fields) (r : Run) where
 
 -- ---- the start
 
-module _ (p : ℕ) (ks place : List ℕ) (places : length place ≡ 4095) (some-step : 1 ≤ length ks)
+-- Of a run with n workers and one more.
+module _ (n p : ℕ) (ks place : List ℕ) (places : length place ≡ 4095) (some-step : 1 ≤ length ks)
     (unrun : (j : ℕ) → j < length ks → getD place j 0 ≡ 17) where
   unmarked : (u : ℕ) → u < 16 → (j : ℕ) → j < length ks → marked place u j ≡ any (eqb j) []
   unfolding marked any
@@ -69,7 +75,7 @@ module _ (p : ℕ) (ks place : List ℕ) (places : length place ≡ 4095) (some-
 
   start-hands : (u : ℕ) → u < 16
       → HandShown p ks place u (getD (set (replicate 16 65535) 0 0) u 0) (getD (replicate 16 0) u 0) (getD (replicate 16 0) u 0)
-      (getD (replicate 16 0) u 0) (getD (start 16 .workers) u idleWorker)
+      (getD (replicate 16 0) u 0) (getD (start (suc n) .workers) u idleWorker)
   unfolding start idleWorker
   start-hands zero few =
       record {
@@ -82,7 +88,7 @@ module _ (p : ℕ) (ks place : List ℕ) (places : length place ≡ 4095) (some-
       }
   start-hands (suc u) few =
       let less : u < 15 = omega arith in
-      rw (getD-replicate {A = ℕ} 15 u 65535 0, getD-replicate {A = ℕ} 15 u 0 0, getD-replicate 15 u idleWorker idleWorker)
+      rw (getD-replicate {A = ℕ} 15 u 65535 0, getD-replicate {A = ℕ} 15 u 0 0, getD-alike n u idleWorker)
       (record {
         pushers = [];
         deque = refl;
@@ -92,10 +98,12 @@ module _ (p : ℕ) (ks place : List ℕ) (places : length place ≡ 4095) (some-
         latest = refl;
       })
 
-  pub start-table : Table p ks place (set (replicate 16 65535) 0 0) (replicate 16 0) (replicate 16 0) (replicate 16 0)
-      (start 16 .workers)
+  pub start-table : suc n ≤ mostWorkers
+      → Table p (suc n) ks place (set (replicate 16 65535) 0 0) (replicate 16 0) (replicate 16 0) (replicate 16 0) (start (suc n) .workers)
   unfolding start
-  start-table = record { places = places; sized = (refl, refl, refl, refl, refl); hands = start-hands }
+  start-table few =
+      let many : length (start (suc n) .workers) ≡ suc n = ap suc (length-replicate n idleWorker) in
+      record { places = places; sized = (refl, refl, refl, refl, many); few = few; hands = start-hands }
 
 -- ---- a move
 
@@ -103,24 +111,25 @@ module _ (p : ℕ) (ks place : List ℕ) (places : length place ≡ 4095) (some-
 abbrev pub Spared : List ℕ → List ℕ → List ℕ → ℕ → Type 0
 Spared ks before after w = (u : ℕ) → u < 16 → (u ≡ w → ⊥) → (j : ℕ) → j < length ks → marked after u j ≡ marked before u j
 
-module _ (p : ℕ) (ks : List ℕ) (sh : Shape (length ks) (endAt ks) (sizeAt ks)) (most : length ks ≤ 4095)
+module _ (p c : ℕ) (ks : List ℕ) (sh : Shape (length ks) (endAt ks) (sizeAt ks)) (most : length ks ≤ 4095)
     (place helds lows bases phases : List ℕ) (workers : List Worker)
-    (before : Table p ks place helds lows bases phases workers) where
-  pub table-set : (after : List ℕ) (w h l b k : ℕ) (worker : Worker) → length after ≡ 4095 → w < 16
+    (before : Table p c ks place helds lows bases phases workers) where
+  pub table-set : (after : List ℕ) (w h l b k : ℕ) (worker : Worker) → length after ≡ 4095 → w < c
       → HandShown p ks after w h l b k worker → Spared ks place after w
-      → Table p ks after (set helds w h) (set lows w l) (set bases w b) (set phases w k) (set workers w worker)
-  table-set after w h l b k worker places few shown spared =
+      → Table p c ks after (set helds w h) (set lows w l) (set bases w b) (set phases w k) (set workers w worker)
+  table-set after w h l b k worker places here shown spared =
       record {
         places = places;
         sized = simp length-set (before .sized);
+        few = before .few;
         hands = λ u small. elim (ℕ-discrete u w) [
           | yes e ↦ rw (
             e,
-            getD-set-same helds w h 0 (omega arith),
-            getD-set-same lows w l 0 (omega arith),
-            getD-set-same bases w b 0 (omega arith),
-            getD-set-same phases w k 0 (omega arith),
-            getD-set-same workers w worker idleWorker (omega arith),
+            getD-set-same helds w h 0 (omega (arith, before .few)),
+            getD-set-same lows w l 0 (omega (arith, before .few)),
+            getD-set-same bases w b 0 (omega (arith, before .few)),
+            getD-set-same phases w k 0 (omega (arith, before .few)),
+            getD-set-same workers w worker idleWorker (omega (arith, before .few)),
           ) shown
           | no n ↦ rw (
             getD-set-other helds w u h 0 n,

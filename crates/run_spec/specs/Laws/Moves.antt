@@ -26,17 +26,18 @@ use Rattle.run_spec.specs.Terms.{Climbs, Hints}
 
 -- ---- a run
 
-module _ (f : Fields) (tree : List ℕ) (w number : ℕ) (judged : number ≡ runNumber (kinds tree) (f .place) (f .held) w) where
+module _ (f : Fields) (tree : List ℕ) (w number : ℕ)
+    (judged : number ≡ runNumber (f .setup .workers) (kinds tree) (f .place) (f .held) w) where
   pub run-refused : (number ≡ 0 → ⊥) → moveOf (Refused number) f ≡ runMove f tree w
   unfolding runMove refused
   run-refused n = rw (← judged, ne-eqb number 0 n) refl
 
   pub run-runs : number ≡ 0 → (i : ℕ) → i ≡ getD (f .held) w 0
       → (phase : ℕ) → phase ≡ getD (f .phase) w 0 → (low : ℕ) → low ≡ getD (f .low) w 0
-      → (next : ℕ) → next ≡ heldNext (f .policy) (kinds tree) (f .place) w low i
+      → (next : ℕ) → next ≡ heldNext (f .setup .policy) (kinds tree) (f .place) w low i
       → (place : List ℕ) → place ≡ placeNext (kinds tree) (f .place) w low i
       → moveOf (Ran (record { 0 = phase }) (record { 0 = i }))
-      (fieldsOf place (set (f .held) w next) (f .phase) (f .low) (f .base) (f .steals) (f .policy))
+      (fieldsOf place (set (f .held) w next) (f .phase) (f .low) (f .base) (f .steals) (f .setup))
       ≡ runMove f tree w
   unfolding runMove ranFields
   run-runs none-refused i holding phase e low from next g place h =
@@ -59,7 +60,7 @@ lent-climbs hints few holding e h = rw (holding, e) (hints .climbs _ few (rw hol
 
 -- ---- a steal
 
-module _ (f : Fields) (tree : List ℕ) (t v number : ℕ) (judged : number ≡ stealNumber (kinds tree) (f .held) t v) where
+module _ (f : Fields) (tree : List ℕ) (t v number : ℕ) (judged : number ≡ stealNumber (f .setup .workers) (kinds tree) (f .held) t v) where
   pub steal-refused : (number ≡ 0 → ⊥) → moveOf (Refused number) f ≡ stealMove f tree t v
   unfolding stealMove refused
   steal-refused n = rw (← judged, ne-eqb number 0 n) refl
@@ -67,26 +68,26 @@ module _ (f : Fields) (tree : List ℕ) (t v number : ℕ) (judged : number ≡ 
   -- It is not refused, and the deque is looked at.
   module _ (none-refused : number ≡ 0) (low : ℕ) (from : low ≡ getD (f .low) v 0) (base : ℕ) (based : base ≡ getD (f .base) v 0)
       (place : List ℕ) (stored : place ≡ robbed (f .place) v low (length (kinds tree)))
-      (r : Taken) (taken : r ≡ takenOf (f .policy) (kinds tree) base low (oldestMark (f .place) v low (length (kinds tree)))) where
+      (r : Taken) (taken : r ≡ takenOf (f .setup .policy) (kinds tree) base low (oldestMark (f .place) v low (length (kinds tree)))) where
     pub steal-empty : r ≡ Nothing
-        → moveOf (Refused 12) (fieldsOf place (f .held) (f .phase) (f .low) (f .base) (f .steals) (f .policy))
+        → moveOf (Refused 12) (fieldsOf place (f .held) (f .phase) (f .low) (f .base) (f .steals) (f .setup))
         ≡ stealMove f tree t v
     unfolding stealMove refused
     steal-empty e =
         let n = length (kinds tree) in
-        let found = took-nothing (f .policy) (kinds tree) base low (oldestMark (f .place) v low n) (sym taken ∙ e) in
+        let found = took-nothing (f .setup .policy) (kinds tree) base low (oldestMark (f .place) v low n) (sym taken ∙ e) in
         rw (stored, ← robbed-nothing (f .place) v low n found, ← judged, eq-eqb number 0 none-refused, ← from, stealMove, found) refl
 
     pub steal-takes : (x : Stolen) → r ≡ Of x
-        → (told : TraceNumber) → told ≡ numberBy (f .policy) (x .ordinal .0) (x .step .0)
+        → (told : TraceNumber) → told ≡ numberBy (f .setup .policy) (x .ordinal .0) (x .step .0)
         → (begun : ℕ) → begun ≡ f .steals % mostPhases + 1
         → (held phase lows bases : List ℕ) → held ≡ set (f .held) t (x .step .0) → phase ≡ set (f .phase) t begun
         → lows ≡ set (set (f .low) v (x .pusher .0 + 1)) t (x .step .0) → bases ≡ set (set (f .base) v 0) t (x .ordinal .0)
-        → moveOf (Stole told) (fieldsOf place held phase lows bases begun (f .policy)) ≡ stealMove f tree t v
+        → moveOf (Stole told) (fieldsOf place held phase lows bases begun (f .setup)) ≡ stealMove f tree t v
     unfolding stealMove robbedFields nextPhase takenOrdinal
     steal-takes x e told g begun h held phase lows bases h₀ h₁ h₂ h₃ =
         let n = length (kinds tree) in
-        let took = took-step (f .policy) (kinds tree) base low (oldestMark (f .place) v low n) x (sym taken ∙ e) in
+        let took = took-step (f .setup .policy) (kinds tree) base low (oldestMark (f .place) v low n) x (sym taken ∙ e) in
         let found = rw from at (took .0) in
         rw (
           h₀,

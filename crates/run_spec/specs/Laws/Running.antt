@@ -11,40 +11,42 @@ use lib.ListN.{length, getD, set}
 use borrow.Author.Tests.{ne-eqb, lt-ltb, le-ltb, le-leb, lt-leb}
 use Rattle.rules.specs.Tree.{kindAt, isEnd}
 use Rattle.rules.specs.Scheduling.{holds, pushes}
+use Rattle.policy.specs.Contract.{workerLimit}
+use Rattle.policy.specs.Laws.Workers.{far-eight}
 use Rattle.run_spec.specs.Deques.{newestMark, popped}
 use Rattle.run_spec.specs.Running.{noStep, waitsFor, runNumber, heldNext, placeNext}
 
 -- ---- refusals
 
-module _ (ks place held : List ℕ) (w : ℕ) where
-  pub judged-worker : 16 ≤ w → 8 ≡ runNumber ks place held w
+module _ (c : ℕ) (ks place held : List ℕ) (w : ℕ) where
+  pub judged-worker : workerLimit c ≤ w → 8 ≡ runNumber c ks place held w
   unfolding runNumber
-  judged-worker h = rw (le-leb 16 w h) refl
+  judged-worker h = far-eight _ _ (le-leb (workerLimit c) w h)
 
-  module _ (few : w < 16) where
-    pub judged-long : 4095 < length ks → 2 ≡ runNumber ks place held w
+  module _ (few : w < workerLimit c) where
+    pub judged-long : 4095 < length ks → 2 ≡ runNumber c ks place held w
     unfolding runNumber
-    judged-long h = rw (lt-leb 16 w few, lt-ltb 4095 (length ks) h) refl
+    judged-long h = rw (lt-leb (workerLimit c) w few, lt-ltb 4095 (length ks) h) refl
 
     module _ (most : length ks ≤ 4095) (i : ℕ) (holding : i ≡ getD held w 0) where
-      pub judged-idle : length ks ≤ i → 9 ≡ runNumber ks place held w
+      pub judged-idle : length ks ≤ i → 9 ≡ runNumber c ks place held w
       unfolding runNumber
-      judged-idle h = rw (lt-leb 16 w few, le-ltb 4095 (length ks) most, ← holding, le-leb (length ks) i h) refl
+      judged-idle h = rw (lt-leb (workerLimit c) w few, le-ltb 4095 (length ks) most, ← holding, le-leb (length ks) i h) refl
 
-      pub judged-waits : i < length ks → waitsFor ks place i ≡ true → 10 ≡ runNumber ks place held w
+      pub judged-waits : i < length ks → waitsFor ks place i ≡ true → 10 ≡ runNumber c ks place held w
       unfolding runNumber
       judged-waits within h =
-          rw (lt-leb 16 w few, le-ltb 4095 (length ks) most, ← holding, lt-leb (length ks) i within, h) refl
+          rw (lt-leb (workerLimit c) w few, le-ltb 4095 (length ks) most, ← holding, lt-leb (length ks) i within, h) refl
 
-      pub judged-runs : i < length ks → waitsFor ks place i ≡ false → 0 ≡ runNumber ks place held w
+      pub judged-runs : i < length ks → waitsFor ks place i ≡ false → 0 ≡ runNumber c ks place held w
       unfolding runNumber
       judged-runs within h =
-          rw (lt-leb 16 w few, le-ltb 4095 (length ks) most, ← holding, lt-leb (length ks) i within, h) refl
+          rw (lt-leb (workerLimit c) w few, le-ltb 4095 (length ks) most, ← holding, lt-leb (length ks) i within, h) refl
 
   -- A run that is not refused is by one of the workers, of a step of the tree.
-  pub run-allowed : 0 ≡ runNumber ks place held w → (w < 16) × (length ks ≤ 4095) × (getD held w 0 < length ks)
+  pub run-allowed : 0 ≡ runNumber c ks place held w → (w < workerLimit c) × (length ks ≤ 4095) × (getD held w 0 < length ks)
   run-allowed none-refused =
-      elim (decLt w 16) [
+      elim (decLt w (workerLimit c)) [
         | no far ↦ let e = judged-worker (omega arith) in absurd (omega (arith, e))
         | yes few ↦ elim (decLe (length ks) 4095) [
           | no long ↦ let e = judged-long few (omega arith) in absurd (omega (arith, e))

@@ -2,15 +2,17 @@
 -- refused, and what it takes, by what is found in the deque.
 use Prim.Native.Nat.{ℕ, _≤_, _<_}
 use mathlib.Core.Path.{_≡_, refl, sym, ap, _∙_}
-use mathlib.Core.Bool.{cond, or-true}
+use mathlib.Core.Bool.{cond}
 use mathlib.Core.List.{List}
 use mathlib.Core.Option.{Option, none, some}
 use native.Mathlib.Decide.{decLe, decLt}
 use native.Mathlib.Omega.{arith}
 use lib.ListN.{length, getD}
-use lib.Dec.{leb, ltb}
+use lib.Dec.{ltb}
 use borrow.Author.Tests.{lt-ltb, le-ltb, le-leb, lt-leb}
 use Rattle.rules.specs.Scheduling.{pushes}
+use Rattle.policy.specs.Contract.{workerLimit}
+use Rattle.policy.specs.Laws.Workers.{first-far, second-far, far-eight}
 use Rattle.run_spec.specs.Ordinals.{ordinalFrom}
 use Rattle.run_spec.specs.declared.Stolen.{Stolen}
 use Rattle.run_spec.specs.declared.Taken.{Taken}
@@ -19,38 +21,38 @@ use Rattle.run_spec.specs.Stealing.{stealNumber, takenOf}
 
 -- ---- refusals
 
-module _ (ks held : List ℕ) (t v : ℕ) where
-  pub judged-thief : 16 ≤ t → 8 ≡ stealNumber ks held t v
+module _ (c : ℕ) (ks held : List ℕ) (t v : ℕ) where
+  pub judged-thief : workerLimit c ≤ t → 8 ≡ stealNumber c ks held t v
   unfolding stealNumber
-  judged-thief h = rw (le-leb 16 t h) refl
+  judged-thief h = far-eight _ _ (first-far c t v (le-leb (workerLimit c) t h))
 
-  pub judged-victim : 16 ≤ v → 8 ≡ stealNumber ks held t v
+  pub judged-victim : workerLimit c ≤ v → 8 ≡ stealNumber c ks held t v
   unfolding stealNumber
-  judged-victim h = rw (le-leb 16 v h, or-true (leb 16 t)) refl
+  judged-victim h = far-eight _ _ (second-far c t v (le-leb (workerLimit c) v h))
 
-  module _ (few : t < 16) (fewer : v < 16) where
-    pub judged-long : 4095 < length ks → 2 ≡ stealNumber ks held t v
+  module _ (few : t < workerLimit c) (fewer : v < workerLimit c) where
+    pub judged-long : 4095 < length ks → 2 ≡ stealNumber c ks held t v
     unfolding stealNumber
-    judged-long h = rw (lt-leb 16 t few, lt-leb 16 v fewer, lt-ltb 4095 (length ks) h) refl
+    judged-long h = rw (lt-leb (workerLimit c) t few, lt-leb (workerLimit c) v fewer, lt-ltb 4095 (length ks) h) refl
 
     module _ (most : length ks ≤ 4095) (i : ℕ) (holding : i ≡ getD held t 0) where
       -- What is left is whether the thief holds a step of the tree.
-      thief-asked : stealNumber ks held t v ≡ cond (ltb (getD held t 0) (length ks)) 11 0
+      thief-asked : stealNumber c ks held t v ≡ cond (ltb (getD held t 0) (length ks)) 11 0
       unfolding stealNumber
-      thief-asked = rw (lt-leb 16 t few, lt-leb 16 v fewer, le-ltb 4095 (length ks) most) refl
+      thief-asked = rw (lt-leb (workerLimit c) t few, lt-leb (workerLimit c) v fewer, le-ltb 4095 (length ks) most) refl
 
-      pub judged-busy : i < length ks → 11 ≡ stealNumber ks held t v
+      pub judged-busy : i < length ks → 11 ≡ stealNumber c ks held t v
       judged-busy h = rw (thief-asked, ← holding, lt-ltb i (length ks) h) refl
 
-      pub judged-idle : length ks ≤ i → 0 ≡ stealNumber ks held t v
+      pub judged-idle : length ks ≤ i → 0 ≡ stealNumber c ks held t v
       judged-idle h = rw (thief-asked, ← holding, le-ltb i (length ks) h) refl
 
   -- A steal that is not refused is between two of the workers, in a tree that is not too long.
-  pub steal-allowed : 0 ≡ stealNumber ks held t v → (t < 16) × (v < 16) × (length ks ≤ 4095)
+  pub steal-allowed : 0 ≡ stealNumber c ks held t v → (t < workerLimit c) × (v < workerLimit c) × (length ks ≤ 4095)
   steal-allowed none-refused =
-      elim (decLt t 16) [
+      elim (decLt t (workerLimit c)) [
         | no far ↦ let e = judged-thief (omega arith) in absurd (omega (arith, e))
-        | yes few ↦ elim (decLt v 16) [
+        | yes few ↦ elim (decLt v (workerLimit c)) [
           | no far ↦ let e = judged-victim (omega arith) in absurd (omega (arith, e))
           | yes fewer ↦ elim (decLe (length ks) 4095) [
             | no long ↦ let e = judged-long few fewer (omega arith) in absurd (omega (arith, e))

@@ -9,6 +9,8 @@ use Rattle.rules.specs.Calls.{startVerdict}
 use Rattle.tree.specs.declared.Accepted.{Accepted}
 use Rattle.arguments.specs.Terms.{startJudged}
 use Rattle.tree_scan.specs.Laws.Starts.{admitted-position}
+use Rattle.policy.specs.Contract.{workerLimit}
+use Rattle.policy.specs.Laws.Workers.{limit-most}
 use Rattle.run_spec.specs.Moves.{Move, fresh, runMove, stealMove}
 use Rattle.run_spec.specs.Idle.{idleBits}
 use Rattle.run_spec.specs.Laws.Moves.{event-run, event-steal}
@@ -42,26 +44,28 @@ module _ (s : RunState) (tree : List ℕ) where
 
 -- ---- the idle workers
 
-pub idle-answers : (s : RunState) (set : ℕ) → set ≡ idleBits (s .held) 0 16
+pub idle-answers : (s : RunState) (set : ℕ) → set ≡ idleBits (s .held) 0 (workerLimit (s .workers))
     → _≡_ {A = Idle} (record { set = set; count = ones set; lowest = trailingZeros 16 set; state = s }) (idleAnswer s)
 unfolding idleAnswer
-idle-answers s set e = rw (e, ones-set (s .held) 16 0, lowest-set (s .held)) refl
+idle-answers s set e =
+    let c = workerLimit (s .workers) in
+    rw (e, ones-set (s .held) c 0, lowest-set (s .held) c (limit-most (s .workers))) refl
 
 -- ---- the start
 
-module _ (p : ℕ) (tree : List ℕ) (r : Accepted) (judged : r ≡ startJudged p tree) where
-  number : startVerdict p tree .number ≡ r .number
+module _ (w p : ℕ) (tree : List ℕ) (r : Accepted) (judged : r ≡ startJudged w p tree) where
+  number : startVerdict w p tree .number ≡ r .number
   unfolding startJudged
   number = sym (ap (λ (x : Accepted). x .number) judged)
 
   pub start-refused : (r .number ≡ 0 → ⊥) → (s : RunState) → s ≡ zeros
-      → _≡_ {A = Started} (record { number = r .number; position = r .position; state = s }) (startAnswer p tree)
+      → _≡_ {A = Started} (record { number = r .number; position = r .position; state = s }) (startAnswer w p tree)
   unfolding startAnswer startJudged
   start-refused n s z =
-      let position : startVerdict p tree .position ≡ r .position = sym (ap (λ (x : Accepted). x .position) judged) in
+      let position : startVerdict w p tree .position ≡ r .position = sym (ap (λ (x : Accepted). x .position) judged) in
       rw (z, number, position, ne-eqb (r .number) 0 n) refl
 
-  pub start-accepts : r .number ≡ 0 → (s : RunState) → s ≡ stateOf (fresh p)
-      → _≡_ {A = Started} (record { number = 0; position = 0; state = s }) (startAnswer p tree)
+  pub start-accepts : r .number ≡ 0 → (s : RunState) → s ≡ stateOf (fresh (record { policy = p; workers = w }))
+      → _≡_ {A = Started} (record { number = 0; position = 0; state = s }) (startAnswer w p tree)
   unfolding startAnswer
-  start-accepts e s f = rw (f, number ∙ e, admitted-position p tree (number ∙ e)) refl
+  start-accepts e s f = rw (f, number ∙ e, admitted-position w p tree (number ∙ e)) refl

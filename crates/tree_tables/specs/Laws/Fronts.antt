@@ -11,8 +11,8 @@ use Rattle.tree_scan.specs.Laws.Frames.{Frame, accepted-frame}
 use Rattle.tree_tables.specs.Terms.{Ends, Openers}
 
 -- The tree of an accepted start.
-pub start-frame : (p : ℕ) (tree : List ℕ) → startVerdict p tree .number ≡ 0 → Frame tree
-start-frame p tree e = accepted-frame tree (start-tree-accepts p tree e)
+pub start-frame : (w p : ℕ) (tree : List ℕ) → startVerdict w p tree .number ≡ 0 → Frame tree
+start-frame w p tree e = accepted-frame tree (start-tree-accepts w p tree e)
 
 module _ (ks table : List ℕ) (n : ℕ) (count : n ≡ length ks) (long : n ≤ length table) where
   length-prefix : length (take n table) ≡ length ks

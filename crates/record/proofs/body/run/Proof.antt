@@ -17,7 +17,8 @@ entry c = c .before .before .before .before .before .before .before
 walked : (c : tie.After-walk-events)
     → let a = entry c .args in
     let walk = c .walk-events in
-    Walks (a .policy) (a .tree .now) (a .events .now) (walk .result) (walk .last .1 .1 .1 .0) (walk .last .1 .1 .1 .1 .0)
+    Walks (a .setup .workers) (a .setup .policy) (a .tree .now) (a .events .now) (walk .result) (walk .last .1 .1 .1 .0)
+    (walk .last .1 .1 .1 .1 .0)
 walked c = c .walk-events .ensures
 
 -- Past the events.

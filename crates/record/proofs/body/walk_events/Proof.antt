@@ -14,7 +14,7 @@ use Rattle.record.proofs.body.walk_events.Statement.{statement}
 use Rattle.record.proofs.body.walk_events.Tie as tie
 
 frame : (c : tie.Start) → Frame (c .args .tree .now)
-frame c = start-frame (c .args .policy) (c .args .tree .now) (c .pre .0)
+frame c = start-frame (c .args .setup .workers) (c .args .setup .policy) (c .args .tree .now) (c .pre .0)
 
 -- Either array has room for the steps.
 room : (c : tie.After-steps) {m : ℕ} → m ≡ 4095 → c .steps .result ≤ m
@@ -39,7 +39,7 @@ fill-requires : tie.Need-fill-requires
 fill-requires c κs =
     let at = c .before .before .before .before .before .before .before in
     let most = frame at .most in
-    (start-tree-accepts (at .args .policy) (at .args .tree .now) (at .pre .0), (most, most))
+    (start-tree-accepts (at .args .setup .workers) (at .args .setup .policy) (at .args .tree .now) (at .pre .0), (most, most))
 
 slice-aggregate-add-up : tie.Need-slice-aggregate-add-up
 slice-aggregate-add-up c = search needs

@@ -10,7 +10,7 @@ use lib.Dec.{ltb}
 use borrow.Author.Tests.{lt-ltb, le-ltb}
 use Rattle.rules.specs.Bytes.{records}
 use Rattle.rules.specs.Tree.{mostSteps, kinds}
-use Rattle.rules.specs.Scheduling.{mostWorkers, Run}
+use Rattle.rules.specs.Scheduling.{Run}
 use Rattle.rules.specs.Traces.{traceBytes, entryBytes}
 use Rattle.rules.specs.Calls.{mostTraceRecords, written, recordWalk, finished}
 use Rattle.tree_scan.specs.Laws.Starts.{start-tree-accepts}
@@ -21,10 +21,10 @@ use Rattle.record_walk.specs.declared.Ended.{Ended}
 use Rattle.record_walk.specs.Terms.{Reached, Walks}
 use Rattle.record.specs.Body.Terms.{Admitted, Told, Result}
 
-module _ {p : ℕ} {tree events log trace : List ℕ} {w : Ended} {own-log own-trace : List ℕ}
-    (ready : Admitted p tree log trace) (walks : Walks p tree events w own-log own-trace) where
+module _ {w p : ℕ} {tree events log trace : List ℕ} {ended : Ended} {own-log own-trace : List ℕ}
+    (ready : Admitted w p tree log trace) (walks : Walks w p tree events ended own-log own-trace) where
   -- An event is refused: log and trace are as they were.
-  pub lost-result : (w .number ≡ 0 → ⊥) → Result p tree events log trace w log trace
+  pub lost-result : (ended .number ≡ 0 → ⊥) → Result w p tree events log trace ended log trace
   lost-result n =
       record {
         number = walks .number;
@@ -34,58 +34,58 @@ module _ {p : ℕ} {tree events log trace : List ℕ} {w : Ended} {own-log own-t
       }
 
   -- Every event is accepted.
-  module _ (none : w .number ≡ 0) where
+  module _ (none : ended .number ≡ 0) where
     frame : Frame tree
-    frame = accepted-frame tree (start-tree-accepts p tree (ready .started))
+    frame = accepted-frame tree (start-tree-accepts w p tree (ready .started))
 
     -- The run that the walk has come to.
     abbrev run : Run
-    run = recordWalk mostWorkers p (kinds tree) (records 2 events) .state
+    run = recordWalk w p (kinds tree) (records 2 events) .state
 
-    so : Reached p tree run w own-log own-trace
+    so : Reached p tree run ended own-log own-trace
     so = walks .reached none
 
     -- The records fit: the log's for each step, the trace's for each spawned task.
-    logs-fit : w .logs ≤ length (kinds tree)
+    logs-fit : ended .logs ≤ length (kinds tree)
     logs-fit = omega (arith, so .logs, runs-most p (kinds tree) (frame .some) (frame .shape) run (so .invariant))
 
-    steals-fit : 4 * w .steals ≤ 2 * (length (kinds tree) - 1)
+    steals-fit : 4 * ended .steals ≤ 2 * (length (kinds tree) - 1)
     steals-fit = omega (arith, so .steals, steals-most p (kinds tree) (frame .some) (frame .shape) run (so .invariant))
 
     -- So the numbers of their bytes are small,
-    pub bytes-most : (4 * w .logs ≤ 4 * mostSteps) × (4 * w .steals ≤ 4 * mostTraceRecords)
+    pub bytes-most : (4 * ended .logs ≤ 4 * mostSteps) × (4 * ended .steals ≤ 4 * mostTraceRecords)
     bytes-most = (omega (arith, logs-fit, frame .most), omega (arith, steals-fit, frame .most))
 
     -- and they have room in the lent buffers.
-    pub log-room : 4 * w .logs ≤ length log
+    pub log-room : 4 * ended .logs ≤ length log
     log-room = omega (arith, logs-fit, ready .log-fits)
 
-    pub trace-room : 4 * w .steals ≤ length trace
+    pub trace-room : 4 * ended .steals ≤ length trace
     trace-room = omega (arith, steals-fit, ready .trace-fits)
 
     -- Every step has run exactly when more than n - 1 have.
-    all-run : ltb (length (kinds tree) - 1) (w .logs) ≡ finished (kinds tree) run
+    all-run : ltb (length (kinds tree) - 1) (ended .logs) ≡ finished (kinds tree) run
     all-run = by (finished (kinds tree) run) refl
       where
-        by : (b : Bool) → finished (kinds tree) run ≡ b → ltb (length (kinds tree) - 1) (w .logs) ≡ b
+        by : (b : Bool) → finished (kinds tree) run ≡ b → ltb (length (kinds tree) - 1) (ended .logs) ≡ b
         by true e =
-            lt-ltb (length (kinds tree) - 1) (w .logs)
+            lt-ltb (length (kinds tree) - 1) (ended .logs)
             (omega (arith, frame .some, so .logs, finished-runs p (kinds tree) (frame .some) (frame .shape) run (so .invariant) e))
         by false e =
-            le-ltb (length (kinds tree) - 1) (w .logs)
-            (elim (ℕ-discrete (w .logs) (length (kinds tree))) [
+            le-ltb (length (kinds tree) - 1) (ended .logs)
+            (elim (ℕ-discrete (ended .logs) (length (kinds tree))) [
               | yes f ↦ absurd
                   (true≢false
                   (sym (runs-finished p (kinds tree) (frame .some) (frame .shape) run (so .invariant) (sym (so .logs) ∙ f)) ∙ e))
               | no n ↦ omega (arith, logs-fit)
             ])
 
-    module _ (log-out trace-out : List ℕ) (logged : log-out ≡ written (take (4 * w .logs) own-log) log)
-        (traced : trace-out ≡ written (take (4 * w .steals) own-trace) trace) where
-      run-told : Told p tree run log trace w log-out trace-out
+    module _ (log-out trace-out : List ℕ) (logged : log-out ≡ written (take (4 * ended .logs) own-log) log)
+        (traced : trace-out ≡ written (take (4 * ended .steals) own-trace) trace) where
+      run-told : Told p tree run log trace ended log-out trace-out
       run-told =
-          let log-bytes : 4 * w .logs ≡ length (entryBytes (run .log)) = omega (arith, so .logs, length-entries (run .log)) in
-          let trace-bytes : 4 * w .steals ≡ length (traceBytes p (kinds tree) (run .steals)) =
+          let log-bytes : 4 * ended .logs ≡ length (entryBytes (run .log)) = omega (arith, so .logs, length-entries (run .log)) in
+          let trace-bytes : 4 * ended .steals ≡ length (traceBytes p (kinds tree) (run .steals)) =
           omega (arith, so .steals, length-trace p (kinds tree) (run .steals)) in
           record {
             logs = so .logs;
@@ -96,7 +96,7 @@ module _ {p : ℕ} {tree events log trace : List ℕ} {w : Ended} {own-log own-t
             traced = traced ∙ ap (λ (x : List ℕ). written x trace) (ap (λ (m : ℕ). take m own-trace) trace-bytes ∙ so .traced);
           }
 
-      pub done-result : Result p tree events log trace w log-out trace-out
+      pub done-result : Result w p tree events log trace ended log-out trace-out
       done-result =
           record {
             number = walks .number;

@@ -20,7 +20,7 @@ use Rattle.replay.proofs.body.run.Tie as tie
 -- ---- what is known at a place, and the way back to an earlier one
 
 most : (c : tie.Start) → length (kinds (c .args .tree .now)) ≤ 4095
-most c = start-frame (c .args .policy) (c .args .tree .now) (c .pre .started) .most
+most c = start-frame _ _ (c .args .tree .now) (c .pre .started) .most
 
 -- An array has room for the steps.
 fits : (c : tie.Start) {m : ℕ} → m ≡ 4095 → c .args .n ≤ m
@@ -64,7 +64,7 @@ firsts c = c .walk .last .1 .1 .1 .1 .1 .1 .1 .0
 
 walked : (c : tie.After-walk)
     → let a = start c .args in
-    Retraced (a .policy) (a .tree .now) (a .trace .now) (c .walk .result) (labels c) (firsts c)
+    Retraced (a .setup .workers) (a .setup .policy) (a .tree .now) (a .trace .now) (c .walk .result) (labels c) (firsts c)
 walked c = c .walk .ensures
 
 -- It leaves as many labels as it is lent, so the front of the array is those.
@@ -85,7 +85,7 @@ slice-aggregate-fill-2 c = search needs
 fill-requires : tie.Need-fill-requires
 fill-requires c κs =
     let start = c .before .before .before .before .before in
-    (start-tree-accepts (start .args .policy) (start .args .tree .now) (start .pre .started), (most start, most start))
+    (start-tree-accepts _ _ (start .args .tree .now) (start .pre .started), (most start, most start))
 
 slice-aggregate-add-up : tie.Need-slice-aggregate-add-up
 slice-aggregate-add-up c = search needs
@@ -166,7 +166,7 @@ write-list-requires c κs =
     let s = start at in
     let same = take-at (labels at) _ (s .args .n) (labels-many at) in
     let asked = done-asked (s .pre) (walked at) (one .if1 .left) _ same in
-    ((start-tree-accepts (s .args .policy) (s .args .tree .now) (s .pre .started), ends-lent (filled (summed (at .before))) .1), asked)
+    ((start-tree-accepts _ _ (s .args .tree .now) (s .pre .started), ends-lent (filled (summed (at .before))) .1), asked)
 
 same-length : tie.Need-same-length
 same-length c = search needs

@@ -8,7 +8,7 @@ use lib.ListN.{length, take, replicate, length-append}
 use lib.Seq.{take-at}
 use Rattle.rules.specs.Bytes.{records}
 use Rattle.rules.specs.Tree.{kinds}
-use Rattle.rules.specs.Scheduling.{mostWorkers, Phase}
+use Rattle.rules.specs.Scheduling.{Phase}
 use Rattle.rules.specs.Traces.{entryBytes, replayWalk, runList}
 use Rattle.rules.specs.Calls.{written}
 use Rattle.tree_scan.specs.Laws.Starts.{admitted-policy}
@@ -41,10 +41,10 @@ module _ (n : ℕ) (front rest : List ℕ) (many : length front ≡ n) where
 
 -- ---- what the call does
 
-module _ {p : ℕ} {tree trace list : List ℕ} {n : ℕ} {w : Ended} {labels firsts : List ℕ}
-    (ready : Admitted p tree trace n list) (so : Retraced p tree trace w labels firsts) where
+module _ {w p : ℕ} {tree trace list : List ℕ} {n : ℕ} {ended : Ended} {labels firsts : List ℕ}
+    (ready : Admitted w p tree trace n list) (so : Retraced w p tree trace ended labels firsts) where
   -- A record is refused: the list is as it was.
-  pub lost-result : (w .number ≡ 0 → ⊥) → Result p tree trace list w list
+  pub lost-result : (ended .number ≡ 0 → ⊥) → Result w p tree trace list ended list
   lost-result n =
       record {
         number = so .number;
@@ -56,20 +56,20 @@ module _ {p : ℕ} {tree trace list : List ℕ} {n : ℕ} {w : Ended} {labels fi
       }
 
   -- Every record is accepted.
-  module _ (none : w .number ≡ 0) where
+  module _ (none : ended .number ≡ 0) where
     frame : Frame tree
-    frame = start-frame p tree (ready .started)
+    frame = start-frame w p tree (ready .started)
 
     abbrev phs : List Phase
-    phs = replayWalk mostWorkers p (kinds tree) (records 4 trace) .state
+    phs = replayWalk w p (kinds tree) (records 4 trace) .state
 
     split : Split p (kinds tree) phs
     split =
-        let either = admitted-policy p tree (ready .started) in
-        always-split p either (kinds tree) (frame .some) (frame .shape) mostWorkers (records 4 trace)
+        let either = admitted-policy w p tree (ready .started) in
+        always-split p either (kinds tree) (frame .some) (frame .shape) w (records 4 trace)
 
     -- The run list can be written,
-    listable : Listable p (kinds tree) labels firsts (w .phases) (length list)
+    listable : Listable p (kinds tree) labels firsts (ended .phases) (length list)
     listable =
         let many = so .phases none in
         record {
@@ -85,18 +85,18 @@ module _ {p : ℕ} {tree trace list : List ℕ} {n : ℕ} {w : Ended} {labels fi
     -- by the labels lent again,
     pub done-asked : (lent : List ℕ) → lent ≡ labels
         → ((length lent ≡ length (kinds tree)) × (length firsts ≡ mostPhases))
-        × Listable p (kinds tree) lent firsts (w .phases) (length list)
+        × Listable p (kinds tree) lent firsts (ended .phases) (length list)
     done-asked lent same = rw same (so .sizes, listable)
 
     -- and is the rules'.
-    done-list : listed p (kinds tree) labels firsts (w .phases) ≡ runList p (kinds tree) phs
+    done-list : listed p (kinds tree) labels firsts (ended .phases) ≡ runList p (kinds tree) phs
     done-list =
         let shown = so .shown none in
         rw (so .phases none)
         (listed-is p (kinds tree) (frame .some) (frame .shape) phs split labels shown firsts (so .begins none))
 
     pub done-result : (lent : List ℕ) → lent ≡ labels → (out : List ℕ)
-        → out ≡ written (entryBytes (listed p (kinds tree) lent firsts (w .phases))) list → Result p tree trace list w out
+        → out ≡ written (entryBytes (listed p (kinds tree) lent firsts (ended .phases))) list → Result w p tree trace list ended out
     done-result lent same out g =
         record {
           number = so .number;

@@ -6,6 +6,8 @@ use mathlib.Core.Path.{_≡_, sym, subst, _∙_}
 use mathlib.Core.Bool.{false}
 use lib.ListN.{length}
 use Rattle.rules.specs.Tree.{kinds}
+use Rattle.policy.specs.Contract.{workerLimit}
+use Rattle.policy.specs.Laws.Workers.{limit-below}
 use Rattle.run_spec.specs.Running.{waitsFor, runNumber}
 use Rattle.run_spec.specs.Laws.Waiting.{waits-at-low}
 use Rattle.run_spec.specs.Laws.Running.{judged-worker, judged-long, judged-idle, judged-waits, judged-runs}
@@ -19,8 +21,11 @@ use Rattle.run_event.proofs.run.judge_run.Tie as tie
 abbrev named : tie.Else1 → tie.Start
 named c = c .before .before .before .before
 
-few : (c : tie.Else1) → named c .args .worker < 16
-few c = leb-false 16 _ (sym (c .before .no-worker .ensures) ∙ c .if1 .left)
+few : (c : tie.Else1) → let a = named c .args in a .worker < workerLimit (a .workers)
+few c = leb-false (workerLimit _) _ (sym (c .before .no-worker .ensures) ∙ c .if1 .left)
+
+most-few : (c : tie.Else1) → named c .args .worker < 16
+most-few c = limit-below _ (few c)
 
 -- ---- a step that the worker holds
 
@@ -41,12 +46,12 @@ within c = subst (λ (n : ℕ). c .before .wide .result < n) (short c .before .s
 runs : (c : tie.Else3)
     → let a = start (short c) .args in
     waitsFor (kinds (a .tree .now)) (a .place .now) (c .before .wide .result) ≡ false
-    → 0 ≡ runNumber (kinds (a .tree .now)) (a .place .now) (a .held .now) (a .worker)
+    → 0 ≡ runNumber (a .workers) (kinds (a .tree .now)) (a .place .now) (a .held .now) (a .worker)
 runs c free =
     let a = start (short c) .args in
     let i = c .before .wide in
-    judged-runs (kinds (a .tree .now)) (a .place .now) (a .held .now) (a .worker) (few (short c .before .before)) (most (short c))
-    (i .result) (i .ensures) (within c) free
+    judged-runs (a .workers) (kinds (a .tree .now)) (a .place .now) (a .held .now) (a .worker) (few (short c .before .before))
+    (most (short c)) (i .result) (i .ensures) (within c) free
 
 -- ---- the needs
 
@@ -56,8 +61,8 @@ no-worker-requires c κs = search needs
 returns : tie.Need-returns
 returns c =
     let a = c .before .before .before .before .args in
-    judged-worker (kinds (a .tree .now)) (a .place .now) (a .held .now) (a .worker)
-    (leb-true 16 (a .worker) (sym (c .before .no-worker .ensures) ∙ c .if1 .taken))
+    judged-worker (a .workers) (kinds (a .tree .now)) (a .place .now) (a .held .now) (a .worker)
+    (leb-true (workerLimit (a .workers)) (a .worker) (sym (c .before .no-worker .ensures) ∙ c .if1 .taken))
 
 steps-requires : tie.Need-steps-requires
 steps-requires c κs = search needs
@@ -66,14 +71,14 @@ returns-2 : tie.Need-returns-2
 returns-2 c =
     let e = c .before .before in
     let a = named e .args in
-    judged-long (kinds (a .tree .now)) (a .place .now) (a .held .now) (a .worker) (few e)
+    judged-long (a .workers) (kinds (a .tree .now)) (a .place .now) (a .held .now) (a .worker) (few e)
     (subst (λ (n : ℕ). 4095 < n) (c .before .steps .ensures) (c .if2 .taken))
 
 mul-wide : tie.Need-mul-wide
 mul-wide c = search needs
 
 element-copy-out-wide : tie.Need-element-copy-out-wide
-element-copy-out-wide c = few (c .before .before)
+element-copy-out-wide c = most-few (c .before .before)
 
 wide-requires : tie.Need-wide-requires
 wide-requires c κs = search needs
@@ -83,14 +88,14 @@ returns-3 c =
     let e = c .before .before .before in
     let a = start e .args in
     let i = c .before .wide in
-    judged-idle (kinds (a .tree .now)) (a .place .now) (a .held .now) (a .worker) (few (e .before .before)) (most e)
+    judged-idle (a .workers) (kinds (a .tree .now)) (a .place .now) (a .held .now) (a .worker) (few (e .before .before)) (most e)
     (i .result) (i .ensures) (subst (λ (n : ℕ). n ≤ i .result) (e .before .steps .ensures) (c .if3 .taken))
 
 mul-wide-2 : tie.Need-mul-wide-2
 mul-wide-2 c = search needs
 
 element-copy-out-wide-2 : tie.Need-element-copy-out-wide-2
-element-copy-out-wide-2 c = few (short c .before .before)
+element-copy-out-wide-2 c = most-few (short c .before .before)
 
 wide-requires-2 : tie.Need-wide-requires-2
 wide-requires-2 c κs = search needs
@@ -106,7 +111,7 @@ returns-4 c =
     let a = at .args in
     runs e
     (waits-at-low (kinds (a .tree .now)) (a .openers .now) (a .place .now) (a .held .now) (a .low .now) (a .worker)
-    (at .pre .1 (few (short e .before .before))) (e .before .wide .result) (e .before .wide .ensures)
+    (at .pre .1 (most-few (short e .before .before))) (e .before .wide .result) (e .before .wide .ensures)
     (low .wide2 .result) (low .wide2 .ensures) (sym (c .before .may-wait .ensures) ∙ not-true _ (c .if4 .taken)))
 
 waits-requires : tie.Need-waits-requires
@@ -117,8 +122,8 @@ returns-5 c =
     let e = c .before .before .before .before .before .before in
     let a = start (short e) .args in
     let i = e .before .wide in
-    judged-waits (kinds (a .tree .now)) (a .place .now) (a .held .now) (a .worker) (few (short e .before .before)) (most (short e))
-    (i .result) (i .ensures) (within e) (sym (c .before .waits .ensures) ∙ c .if5 .taken)
+    judged-waits (a .workers) (kinds (a .tree .now)) (a .place .now) (a .held .now) (a .worker) (few (short e .before .before))
+    (most (short e)) (i .result) (i .ensures) (within e) (sym (c .before .waits .ensures) ∙ c .if5 .taken)
 
 returns-6 : tie.Need-returns-6
 returns-6 c = runs (c .before .before .before .before .before .before) (sym (c .before .waits .ensures) ∙ c .if5 .left)
