@@ -8,6 +8,7 @@
 -- Proved from these, so not to be believed:
 --     Cases        "Tree S and its schedules": P1 to P12, one theorem
 --     NearMisses   cases that tell the rules from near misses, a theorem for each table
+--     Counts       cases of the run's own count of workers
 --     Listing      the worked example of program `phases`, and refusals and numbers that it prints
 pub mod Bytes
 pub mod Tree
@@ -17,4 +18,5 @@ pub mod Calls
 pub mod Program
 pub mod Cases
 pub mod NearMisses
+pub mod Counts
 pub mod Listing
