@@ -147,6 +147,9 @@ fn statements(whole: &str) -> Vec<String> {
 
 // ---- Pages ----
 
+/// The page with two theorems, demand 3 and the worker count; every other has one.
+const BOTH: &str = "crates/agreement/specs/Theorem.antt";
+
 /// Every page to be believed, with what names it: an entry, a theorem or another page.
 fn believed() -> BTreeMap<String, String> {
     let mut from = BTreeMap::new();
@@ -162,8 +165,10 @@ fn believed() -> BTreeMap<String, String> {
     for theorem in theorems {
         let whole = text(&theorem, "--");
         let statements = statements(&whole);
-        assert_eq!(statements.len(), 1, "{theorem}");
-        from.extend(named(&whole, &statements[0]).into_iter().map(|page| (page, theorem.clone())));
+        assert_eq!(statements.len(), if theorem == BOTH { 2 } else { 1 }, "{theorem}");
+        for statement in statements {
+            from.extend(named(&whole, &statement).into_iter().map(|page| (page, theorem.clone())));
+        }
     }
     let mut open: Vec<String> = from.keys().cloned().collect();
     while let Some(page) = open.pop() {

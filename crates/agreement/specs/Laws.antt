@@ -7,6 +7,7 @@
 --     Recorded   recording events that the rules accept
 --     Replayed   replaying the trace of a run
 --     Whole      recording the live run and replaying its trace
+--     Counted    what the worker count decides
 pub mod Folds
 pub mod Live
 pub mod Records
@@ -15,3 +16,4 @@ pub mod Leading
 pub mod Recorded
 pub mod Replayed
 pub mod Whole
+pub mod Counted

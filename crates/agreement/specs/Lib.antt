@@ -1,7 +1,10 @@
--- Whatever the scheduler does, the live run and the replay of its trace have the same phases.
---     Agreement   what is claimed (to be read)
---     Theorem     the claim, for every accepted start and every list of events (to be read)
---     Laws        its proof
+-- Over all entries: whatever the scheduler does, the live run and the replay of its trace have the same phases; and what the worker
+-- count decides.
+--     Agreement     what is claimed of live runs and replay (to be read)
+--     WorkerCount   what is claimed of the count (to be read)
+--     Theorem       both claims, with all that they are for (to be read)
+--     Laws          their proofs
 pub mod Agreement
+pub mod WorkerCount
 pub mod Theorem
 pub mod Laws

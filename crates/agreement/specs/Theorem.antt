@@ -5,8 +5,14 @@ use mathlib.Core.List.{List}
 use Rattle.run_state.specs.Contract.{startAnswer}
 use Rattle.run_spec.specs.declared.Event.{Event}
 use Rattle.agreement.specs.Agreement.{entries, Agreement}
+use Rattle.agreement.specs.WorkerCount.{WorkerCount}
 use Rattle.agreement.specs.Laws.Whole.{agrees}
+use Rattle.agreement.specs.Laws.Counted.{counted}
 
 pub same-phases : (w p : ℕ) (tree : List ℕ) → startAnswer w p tree .number ≡ 0 → (es : List Event)
     → Agreement (entries w p tree) tree es
 same-phases = agrees
+
+-- The worker count, #101 of document 02: for every policy's byte and every tree's bytes.
+pub worker-count : (p : ℕ) (tree : List ℕ) → WorkerCount p tree
+worker-count = counted

@@ -1,8 +1,9 @@
 -- Laws of walks, over any kind of record and state: a walk goes on past an accepted record, stops at a refused one, and ends
--- with the list. A loop over positions holds `walk .. i s (drop i rs)`.
+-- with the list; what every accepted record keeps, it keeps. A loop over positions holds `walk .. i s (drop i rs)`.
 use Prim.Native.Nat.{ℕ, suc, _<_, _≤_}
 use mathlib.Core.Path.{_≡_, refl}
-use mathlib.Core.List.{List}
+use mathlib.Core.List.{List, [], _∷_}
+use native.Mathlib.Decide.{ℕ-discrete}
 use lib.ListN.{length, drop, getD, drop-of-length-le}
 use lib.Seq.{drop-cons}
 use borrow.Author.Tests.{eq-eqb, ne-eqb}
@@ -23,3 +24,15 @@ module _ {R S : Type 0} (judge : S → R → ℕ) (next : S → R → S) (rs : L
   pub walk-end : length rs ≤ i → walk judge next i s (drop i rs) ≡ record { verdict = accepted; state = s }
   unfolding walk
   walk-end h = rw (drop-of-length-le rs h) refl
+
+-- What holds of the first state and is kept by every accepted record holds of the state that a walk comes to.
+module _ {R S : Type 0} (judge : S → R → ℕ) (next : S → R → S) (P : S → Type 0)
+    (keeps : (s : S) (r : R) → P s → judge s r ≡ 0 → P (next s r)) where
+  pub walk-keeps : (rs : List R) (i : ℕ) (s : S) → P s → P (walk judge next i s rs .state)
+  unfolding walk
+  walk-keeps [] i s so = so
+  walk-keeps (r ∷ rs) i s so =
+      elim (ℕ-discrete (judge s r) 0) [
+        | yes e ↦ rw (eq-eqb (judge s r) 0 e) (walk-keeps rs (suc i) (next s r) (keeps s r so e))
+        | no n ↦ rw (ne-eqb (judge s r) 0 n) so
+      ]
