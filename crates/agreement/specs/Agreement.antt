@@ -94,7 +94,7 @@ shortList tree list = ltb (length list) (4 * length (kinds tree))
 
 -- Single events, as calls on a state from a first state on; recording, of events with a log and a trace lent; replay, of a trace with
 -- a run list lent.
-pub record Calls (S : Type 0) : Type 0 where
+pub record Compared (S : Type 0) : Type 0 where
   pub call : S → Event → Called S
   pub first : S
   pub recording : List ℕ → List ℕ → List ℕ → Recorded
@@ -122,7 +122,7 @@ entryCall tree s e =
     }
 
 -- The entries, for a worker count, a policy and a tree.
-unfoldable pub entries : ℕ → ℕ → List ℕ → Calls RunState
+unfoldable pub entries : ℕ → ℕ → List ℕ → Compared RunState
 entries w p tree =
     record {
       call = entryCall tree;
@@ -133,7 +133,7 @@ entries w p tree =
 
 -- ---- the statement
 
-module _ {S : Type 0} (calls : Calls S) (tree : List ℕ) (es : List Event) where
+module _ {S : Type 0} (calls : Compared S) (tree : List ℕ) (es : List Event) where
   -- The live run of some events after the start, and its steals.
   unfoldable pub live : List Event
   live = liveRun (calls .call) (calls .first) es
@@ -180,7 +180,7 @@ module _ {S : Type 0} (calls : Calls S) (tree : List ℕ) (es : List Event) wher
         -- The run list has every step of the tree exactly once.
         pub once : (j : ℕ) → j < length (kinds tree) → sum (λ e. self j (e .step)) listed ≡ 1
 
-pub record Agreement {S : Type 0} (calls : Calls S) (tree : List ℕ) (es : List Event) : Type 0 where
+pub record Agreement {S : Type 0} (calls : Compared S) (tree : List ℕ) (es : List Event) : Type 0 where
   -- "An event's call refuses it exactly when recording, its outputs not short, refuses the accepted events before it followed
   -- by this one; the number is the same."
   pub number : (before after : List Event) (e : Event) → es ≡ before ++ (e ∷ after)

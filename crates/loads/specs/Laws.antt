@@ -1,6 +1,6 @@
 -- What need not be believed: everything here is proved from the definitions.
 --     Loads      the loads of phases, and how a steal moves weight from one to another
---     Unused     a run keeps its count, and a worker that it does not have has no phase and no load
+--     Unused     a worker that the run does not have has no phase and no load
 --     Heaviest   the loop that looks for the heaviest worker, turn by turn
 --     Totals     the totals beside a refusal and without one
 pub mod Loads

@@ -1,6 +1,6 @@
 -- A run, a steal and an event on the fields of a run's state: what each answers, and every field then. They are functions of the
 -- fields, the tree's bytes and the event alone, for any of them. On the states that a run leads to these are the rules; on any
--- other a held step beyond the tree is none, and a tree with too many records is refused with 2.
+-- other a held step beyond the tree is none, a tree with too many records is refused with 2, and a count above sixteen is sixteen.
 use Prim.Native.Nat.{ℕ, suc, _+_, _%_}
 use mathlib.Core.Bool.{cond}
 use mathlib.Core.List.{List}

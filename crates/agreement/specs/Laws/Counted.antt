@@ -4,26 +4,28 @@ use Prim.Native.Nat.{ℕ, _^_, _≤_, _<_}
 use mathlib.Core.Path.{_≡_, refl, sym, ap, _∙_}
 use mathlib.Core.Bool.{Bool, true, false, cond, _||_}
 use mathlib.Core.List.{List, [], _∷_}
-use mathlib.Core.Logic.{_⊎_, inl, inr}
+use mathlib.Core.Logic.{_⊎_}
 use mathlib.Core.Option.{Option, none, some}
 use native.Mathlib.Decide.{ℕ-discrete}
 use native.Mathlib.Omega.{arith}
 use lib.Count.{trailingZeros}
 use lib.ListN.{length, getD, replicate}
 use lib.Dec.{eqb, leb}
-use borrow.Author.Tests.{eq-eqb, ne-eqb, le-leb, lt-leb}
-use Rattle.rules.specs.Bytes.{records, Verdict, accepted, refusedIf, firstRefused}
+use borrow.Author.Tests.{eq-eqb, ne-eqb}
+use Rattle.rules.specs.Bytes.{records, accepted, firstRefused}
 use Rattle.rules.specs.Tree.{kinds, weights, treeVerdict}
 use Rattle.rules.specs.Scheduling.{mostWorkers, Phase, phaseAt, Run, workerAt, waits, isRun, judgeRun, holdsStep, judgeSteal, judgeEvent}
 use Rattle.rules.specs.Traces.{latestPhase, numberAllowed, recordNumber, judgeRead, judgeTraceRecord, replayWalk, loads}
 use Rattle.rules.specs.Calls.{policyVerdict, countVerdict, startVerdict, Recorded, recordWalk, recordVerdict, recordOf, recordRefused}
 use Rattle.rules.specs.Calls.{recordCall, Replayed, replayVerdict, replayOf, replayRefused, replayCall}
-use Rattle.tree.specs.Laws.Verdicts.{first-accepts}
+use Rattle.tree.specs.Laws.Verdicts.{first-accepts, first-refuses, first-passes}
 use Rattle.tree_scan.specs.Laws.Starts.{start-workers}
+use Rattle.arguments.specs.Laws.Starts.{count-outside, count-within}
 use Rattle.policy.specs.declared.Setup.{Setup}
 use Rattle.policy.specs.Contract.{workerLimit}
 use Rattle.policy.specs.Laws.Workers.{limit-most}
 use Rattle.run_invariant.specs.Laws.Moves.{getD-alike}
+use Rattle.run_invariant.specs.Laws.Crew.{recorded-many}
 use Rattle.run_spec.specs.declared.Outcome.{Outcome}
 use Rattle.run_spec.specs.declared.Outcome.the-variants.{Ran, Stole, Refused}
 use Rattle.run_spec.specs.Moves.{fresh, refused}
@@ -32,29 +34,11 @@ use Rattle.run_state.specs.declared.RunState.{RunState}
 use Rattle.run_state.specs.Contract.{fields, startAnswer, eventAnswer, idleAnswer}
 use Rattle.run_refinement.specs.Laws.AnyState.{event-setup, far-move, near-move}
 use Rattle.loads.specs.Laws.Loads.{loads-length}
-use Rattle.loads.specs.Laws.Unused.{Unused, recorded-many, unused-loads, recorded-unused, replayed-unused}
+use Rattle.loads.specs.Laws.Unused.{Unused, unused-loads, recorded-unused, replayed-unused}
 use Rattle.agreement.specs.Agreement.{refusalOf}
 use Rattle.agreement.specs.WorkerCount.{namesNone, WorkerCount}
 
 -- ---- the start
-
--- The first of some conditions refuses, or does not.
-first-refuses : (v : Verdict) (vs : List Verdict) → (v .number ≡ 0 → ⊥) → firstRefused (v ∷ vs) ≡ v
-unfolding firstRefused
-first-refuses v vs n = rw (ne-eqb (v .number) 0 n) refl
-
-first-passes : (v : Verdict) (vs : List Verdict) → v .number ≡ 0 → firstRefused (v ∷ vs) ≡ firstRefused vs
-unfolding firstRefused
-first-passes v vs z = rw (eq-eqb (v .number) 0 z) refl
-
-count-outside : (w : ℕ) → (w < 1) ⊎ (mostWorkers < w) → countVerdict w ≡ record { number = 16; position = 0 }
-unfolding countVerdict refusedIf
-count-outside w (inl few) = rw (lt-leb 1 w few) refl
-count-outside w (inr many) = rw (le-leb 1 w (omega arith), lt-leb w 16 many) refl
-
-count-within : (w : ℕ) → 1 ≤ w → w ≤ mostWorkers → countVerdict w .number ≡ 0
-unfolding countVerdict refusedIf accepted
-count-within w some-worker few = rw (le-leb 1 w some-worker, le-leb w 16 few) refl
 
 module _ (p : ℕ) (tree : List ℕ) (w : ℕ) where
   policy-first : (policyVerdict p .number ≡ 0 → ⊥) → startVerdict w p tree ≡ policyVerdict p
@@ -71,7 +55,7 @@ module _ (p : ℕ) (tree : List ℕ) (w : ℕ) where
       ∙ sixteen
 
   start-within : 1 ≤ w → w ≤ mostWorkers → startVerdict w p tree ≡ firstRefused (policyVerdict p ∷ treeVerdict tree ∷ [])
-  unfolding startVerdict firstRefused
+  unfolding startVerdict firstRefused accepted
   start-within some-worker few = rw (count-within w some-worker few) refl
 
   start-stores : startVerdict w p tree .number ≡ 0 → startAnswer w p tree .state .workers ≡ w

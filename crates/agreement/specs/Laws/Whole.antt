@@ -24,7 +24,7 @@ use Rattle.run_state.specs.declared.RunState.{RunState}
 use Rattle.run_state.specs.Contract.{startAnswer}
 use Rattle.run_spec.specs.declared.Event.{Event}
 use Rattle.agreement.specs.Agreement.{entriesOf, replayedWorkers, liveWorkers, shortOutputs, shortList, live, steals}
-use Rattle.agreement.specs.Agreement.{Calls, entries, recorded, traced, logged, replayed, listed, Same, Agreement}
+use Rattle.agreement.specs.Agreement.{Compared, entries, recorded, traced, logged, replayed, listed, Same, Agreement}
 use Rattle.agreement.specs.Laws.Live.{pair, runAfter, call-number, live-same, live-accepted, live-runs, live-steals}
 use Rattle.agreement.specs.Laws.Records.{Small, entries-back, trace-back, workers-back}
 use Rattle.agreement.specs.Laws.Phases.{PhasesBelow, StepsBelow, below-small}
@@ -41,7 +41,7 @@ module _ (w p : ℕ) (tree : List ℕ) (starts : startVerdict w p tree .number �
   abbrev ks : List ℕ
   ks = kinds tree
 
-  abbrev calls : Calls RunState
+  abbrev calls : Compared RunState
   calls = entries w p tree
 
   frame : Frame tree

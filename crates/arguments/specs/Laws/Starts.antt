@@ -39,6 +39,17 @@ tree-position tree e =
     ∷ [])
     e
 
+-- ---- the count
+
+pub count-outside : (w : ℕ) → (w < 1) ⊎ (16 < w) → countVerdict w ≡ record { number = 16; position = 0 }
+unfolding countVerdict refusedIf
+count-outside w (inl few) = rw (lt-leb 1 w few) refl
+count-outside w (inr many) = rw (le-leb 1 w (omega arith), lt-leb w 16 many) refl
+
+pub count-within : (w : ℕ) → 1 ≤ w → w ≤ 16 → countVerdict w ≡ accepted
+unfolding countVerdict refusedIf
+count-within w some-worker few = rw (le-leb 1 w some-worker, le-leb w 16 few) refl
+
 -- ---- each answer
 
 module _ (w p : ℕ) (tree : List ℕ) where
@@ -56,16 +67,15 @@ module _ (w p : ℕ) (tree : List ℕ) where
           | no n ↦ rw (eq-eqb p 2 (omega arith), or-true (eqb p 1)) refl
         ]
 
-    pub start-count : (w ≤ 0) ⊎ (16 < w) → refusal 16 ≡ startJudged w p tree
-    unfolding startJudged countVerdict firstRefused refusedIf
-    start-count (inl none) = rw (by-count, lt-leb 1 w (omega arith)) refl
-    start-count (inr many) = rw (by-count, le-leb 1 w (omega arith), lt-leb w 16 many) refl
+    pub start-count : (w < 1) ⊎ (16 < w) → refusal 16 ≡ startJudged w p tree
+    unfolding startJudged firstRefused
+    start-count out = rw (by-count, count-outside w out) refl
 
     -- and it is from 1 to 16, so the tree does.
     module _ (few : (1 ≤ w) × (w ≤ 16)) where
       pub by-tree : startVerdict w p tree ≡ firstRefused (treeVerdict tree ∷ [])
-      unfolding countVerdict firstRefused refusedIf accepted
-      by-tree = by-count ∙ rw (le-leb 1 w (few .0), le-leb w 16 (few .1)) refl
+      unfolding firstRefused accepted
+      by-tree = by-count ∙ rw (count-within w (few .0) (few .1)) refl
 
       pub start-tree : (r : Accepted) → r ≡ acceptance tree → r ≡ startJudged w p tree
       unfolding startJudged acceptance

@@ -1,4 +1,4 @@
--- A run of w workers keeps its count, and a worker that it does not have has no phase, live or replayed, and no load.
+-- A worker that a run of w workers does not have has no phase, live or replayed, and no load.
 use Prim.Native.Nat.{ℕ, _≤_}
 use mathlib.Core.Path.{_≡_, refl, sym, _∙_}
 use mathlib.Core.Bool.{false}
@@ -6,7 +6,7 @@ use mathlib.Core.List.{List, [], _∷_, map}
 use mathlib.Core.Option.{Option, none, some}
 use native.Mathlib.Decide.{ℕ-discrete, decLt}
 use native.Mathlib.Omega.{arith}
-use lib.ListN.{length, getD, length-set, length-replicate, List·getD-eq-default}
+use lib.ListN.{length, getD, List·getD-eq-default}
 use lib.Dec.{eqb}
 use borrow.Author.Tests.{eq-eqb, ne-eqb, eqb-false, le-leb}
 use Rattle.rules.specs.Bytes.{any, sum}
@@ -18,6 +18,7 @@ use Rattle.tree.specs.Laws.Verdicts.{or-none}
 use Rattle.tree.specs.Laws.Walks.{walk-keeps}
 use Rattle.run_invariant.specs.Laws.Counts.{any-one}
 use Rattle.run_invariant.specs.Laws.Moves.{begin-map, ran, run-is, run-held, event-runs, first-within}
+use Rattle.run_invariant.specs.Laws.Crew.{event-many, start-many}
 use Rattle.loads.specs.Laws.Loads.{loads-length, loads-at}
 
 -- No phase is worker u's.
@@ -41,29 +42,6 @@ module _ (ks ws : List ℕ) (u : ℕ) where
         | yes few ↦ loads-at mostWorkers ks ws phs u few ∙ unused-load phs free
         | no n ↦ List·getD-eq-default (loads mostWorkers ks ws phs) 0 (omega (arith, loads-length mostWorkers ks ws phs))
       ]
-
--- ---- the run's count
-
-module _ (w p : ℕ) (ks : List ℕ) where
-  event-many : (r : Run) (e : List ℕ) → length (r .workers) ≡ w → judgeEvent ks r e ≡ 0 → length (nextRun p ks r e .workers) ≡ w
-  unfolding nextRun isRun steal ran
-  event-many r e many fine =
-      elim (ℕ-discrete (getD e 0 0) (getD e 1 0)) [
-        | yes same ↦
-            let held = run-held ks r (getD e 0 0) (event-runs ks r e fine same) in
-            rw (eq-eqb (getD e 0 0) (getD e 1 0) same, run-is p ks r (getD e 0 0) (held .0) (held .1))
-            (length-set (r .workers) (getD e 0 0) _ ∙ many)
-        | no n ↦ rw (ne-eqb (getD e 0 0) (getD e 1 0) n) (simp length-set many)
-      ]
-
-  start-many : length (start w .workers) ≡ w
-  unfolding start
-  start-many = simp (length-set, length-replicate)
-
-  -- A recording keeps the run's count.
-  pub recorded-many : (es : List (List ℕ)) → length (recordWalk w p ks es .state .workers) ≡ w
-  unfolding recordWalk
-  recorded-many es = walk-keeps (judgeEvent ks) (nextRun p ks) (λ (r : Run). length (r .workers) ≡ w) event-many es 0 (start w) start-many
 
 -- ---- phases
 

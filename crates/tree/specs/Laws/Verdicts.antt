@@ -28,3 +28,13 @@ first-position [] e = refl
 first-position (x ∷ xs) e =
     let both = first-accepts x xs e in
     rw (eq-eqb (x .number) 0 (both .0)) (first-position xs (both .1))
+
+-- A list whose first refuses, or does not.
+module _ (v : Verdict) (vs : List Verdict) where
+  pub first-refuses : (v .number ≡ 0 → ⊥) → firstRefused (v ∷ vs) ≡ v
+  unfolding firstRefused
+  first-refuses n = rw (ne-eqb (v .number) 0 n) refl
+
+  pub first-passes : v .number ≡ 0 → firstRefused (v ∷ vs) ≡ firstRefused vs
+  unfolding firstRefused
+  first-passes z = rw (eq-eqb (v .number) 0 z) refl
