@@ -2,50 +2,23 @@
 -- that stands, and what it accepts is short.
 use Prim.Native.Nat.{ℕ, zero, suc, _+_, _-_, _/_, _≤_, _<_}
 use mathlib.Core.Path.{_≡_, refl, ap, _∙_}
-use mathlib.Core.List.{List, [], _∷_, _++_}
+use mathlib.Core.List.{List, []}
 use mathlib.Core.Logic.{_⊎_, inl, inr, ⊎-elim}
 use native.Mathlib.Decide.{ℕ-discrete}
 use native.Mathlib.Omega.{arith}
-use lib.ListN.{length, take, drop, getD, length-append}
+use lib.ListN.{length, take, drop, getD}
 use lib.Seq.{take-suc, take-length}
-use borrow.Author.Tests.{eq-eqb, ne-eqb}
 use Rattle.rules.specs.Bytes.{records, accepted, Walked, walk}
 use Rattle.rules.specs.Tree.{kinds}
-use Rattle.rules.specs.Scheduling.{Run, start, isRun, steal, judgeEvent, nextRun}
-use Rattle.rules.specs.Calls.{eventCall, afterEvents, recordWalk, recordOf, recordVerdict, recordCall}
+use Rattle.rules.specs.Scheduling.{Run, start, judgeEvent, nextRun}
+use Rattle.rules.specs.Calls.{afterEvents, recordWalk, recordOf, recordVerdict, recordCall}
 use Rattle.tree.specs.Laws.Walks.{walk-on, walk-stop, walk-end}
 use Rattle.tree_scan.specs.Laws.Starts.{start-tree-accepts, start-workers}
 use Rattle.tree_scan.specs.Laws.Frames.{accepted-frame}
-use Rattle.run_invariant.specs.Laws.Moves.{ran, run-is, run-held, event-runs}
+use Rattle.run_invariant.specs.Laws.Events.{after-one, adds-one}
 use Rattle.run_invariant.specs.Laws.Always.{always}
 use Rattle.run_invariant.specs.Laws.Consequences.{runs-most, steals-most}
 use Rattle.record.specs.Laws.Cases.{accepts-both, by-accepted}
-
--- ---- one event more
-
-module _ (p : ℕ) (ks : List ℕ) where
-  -- The state after an event that the rules accept: alone, and as the last of a list.
-  event-next : (s : Run) (e : List ℕ) → judgeEvent ks s e ≡ 0 → eventCall p ks s e .state ≡ nextRun p ks s e
-  unfolding eventCall
-  event-next s e j = rw (eq-eqb (judgeEvent ks s e) 0 j) refl
-
-  after-one : (es : List (List ℕ)) (s : Run) (e : List ℕ) → judgeEvent ks (afterEvents p ks s es) e ≡ 0
-      → afterEvents p ks s (es ++ (e ∷ [])) ≡ nextRun p ks (afterEvents p ks s es) e
-  unfolding afterEvents
-  after-one [] s e j = event-next s e j
-  after-one (d ∷ es) s e j = after-one es (eventCall p ks s d .state) e j
-
-  -- Such an event runs one step or steals one.
-  adds-one : (s : Run) (e : List ℕ) → judgeEvent ks s e ≡ 0
-      → length (nextRun p ks s e .log) + length (nextRun p ks s e .steals) ≡ suc (length (s .log) + length (s .steals))
-  unfolding nextRun isRun ran steal
-  adds-one s e j =
-      elim (ℕ-discrete (getD e 0 0) (getD e 1 0)) [
-        | yes same ↦
-            let held = run-held ks s (getD e 0 0) (event-runs ks s e j same) in
-            rw (eq-eqb (getD e 0 0) (getD e 1 0) same, run-is p ks s (getD e 0 0) (held .0) (held .1), length-append) (omega arith)
-        | no n ↦ rw (ne-eqb (getD e 0 0) (getD e 1 0) n, length-append) (omega arith)
-      ]
 
 -- ---- the walk
 

@@ -52,6 +52,19 @@ module _ (f : ℕ → Bool) where
   count-all (suc m) a t =
       rw (t a (omega arith) (omega arith)) (count-all m (suc a) (λ j l u. t j (omega arith) (omega arith)))
 
+  -- A test that fails, fails somewhere.
+  pub some-fails : (m a : ℕ) → all f (count a m) ≡ false → (j : ℕ) × (a ≤ j) × (j < a + m) × (f j ≡ false)
+  unfolding all count
+  some-fails zero a e = absurd (true≢false e)
+  some-fails (suc m) a e = by (f a) refl (λ t. some-fails m (suc a) (rw t at e))
+    where
+      by : (b : Bool) → f a ≡ b → (f a ≡ true → (j : ℕ) × (suc a ≤ j) × (j < suc a + m) × (f j ≡ false))
+          → (j : ℕ) × (a ≤ j) × (j < a + suc m) × (f j ≡ false)
+      by true t later =
+          let rest = later t in
+          (rest .0, omega (arith, rest .1), omega (arith, rest .2), rest .3)
+      by false t later = (a, omega arith, omega arith, t)
+
 -- ---- members
 
 -- x stands in the list.

@@ -4,7 +4,7 @@ use Prim.Native.Nat.{ℕ, suc, _-_, _≤_, _<_}
 use mathlib.Core.Path.{_≡_, refl, sym, ap, _∙_}
 use mathlib.Core.Bool.{Bool, true, false, _||_, not}
 use mathlib.Core.List.{List, [], _∷_, _++_}
-use mathlib.Core.Option.{some}
+use mathlib.Core.Option.{Option, none, some}
 use native.Mathlib.Omega.{arith}
 use lib.ListN.{length}
 use lib.Dec.{eqb}
@@ -18,7 +18,7 @@ use Rattle.tree_scan.specs.Laws.Places.{finish-child, finish-cont}
 use Rattle.run_invariant.specs.Invariant.{Waited}
 use Rattle.run_invariant.specs.Laws.Counts.{any-one, all-count, count-all}
 
-finish-opens : (k : ℕ) → isFinish k ≡ true → isEnd k ≡ false
+pub finish-opens : (k : ℕ) → isFinish k ≡ true → isEnd k ≡ false
 unfolding isFinish isEnd
 finish-opens k f =
     let two = eqb-true k 2 f in
@@ -73,6 +73,18 @@ module _ (log : List Entry) (e : Entry) where
 
   pub run-stays : (j : ℕ) → hasRun log j ≡ true → hasRun (log ++ (e ∷ [])) j ≡ true
   run-stays j h = run-more j ∙ rw h refl
+
+-- What does not wait will not wait later.
+pub free-stays : (ks : List ℕ) (log : List Entry) (e : Entry) (i : ℕ) → waits ks log i ≡ false → waits ks (log ++ (e ∷ [])) i ≡ false
+unfolding waits
+free-stays ks log e i free = by (finishBefore ks i) refl
+  where
+    by : (o : Option ℕ) → finishBefore ks i ≡ o → waits ks (log ++ (e ∷ [])) i ≡ false
+    by none o = rw (o, waits) refl
+    by (some first) o =
+        let ran = not-false (all (hasRun log) (count first (i - first))) (rw (o, waits) at free) in
+        rw (o, waits) (ap not (count-all (hasRun (log ++ (e ∷ []))) (i - first) first
+        (λ j l u. run-stays log e j (all-count (hasRun log) (i - first) first ran j l u))))
 
 -- Running a step that does not wait keeps to the rule: whatever follows a finish child has run after the child.
 pub waited-more : (ks : List ℕ) (sh : Shape (length ks) (endAt ks) (sizeAt ks)) (log : List Entry) (e : Entry)

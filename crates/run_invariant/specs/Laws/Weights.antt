@@ -124,6 +124,10 @@ module _ (ks : List ℕ) where
   two-parts P p i a b =
       elim (pushesChild p (kindAt ks i)) as (λ x. P (cond x (cont ks i) (suc i)) (cond x (suc i) (cont ks i))) [ true ↦ b | false ↦ a ]
 
+  -- Either policy pushes the child or the continuation.
+  pub pushes-either : (P : ℕ → Type 0) (p i : ℕ) → P (suc i) → P (cont ks i) → P (pushes p ks i)
+  pushes-either P p i child rest = two-parts (λ a b. P b) p i rest child
+
 module _ (ks : List ℕ) (sh : Shape (length ks) (endAt ks) (sizeAt ks)) where
   pub end-within : (i : ℕ) → i < length ks → (i < taskEnd ks i) × (taskEnd ks i ≤ length ks)
   end-within i h = omega (arith, end-size ks sh i h, sh .at i h .some, sh .at i h .fits)

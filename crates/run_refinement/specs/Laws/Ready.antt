@@ -1,7 +1,7 @@
 -- A worker whose held step is not its `low` never waits: so at the start, and kept by every run and steal.
 use Prim.Native.Nat.{ℕ, zero, suc, _+_, _-_, _≤_, _<_}
 use mathlib.Core.Path.{_≡_, refl, sym, ap, _∙_}
-use mathlib.Core.Bool.{Bool, true, false, cond, not}
+use mathlib.Core.Bool.{Bool, true, false, cond}
 use mathlib.Core.List.{List, [], _∷_, _++_, map}
 use mathlib.Core.Option.{Option, none, some, Option·none-ne-some}
 use native.Mathlib.Decide.{ℕ-discrete, decLe}
@@ -9,19 +9,19 @@ use native.Mathlib.Omega.{arith}
 use lib.ListN.{length, getD, set, replicate, length-set}
 use lib.Seq.{getD-set-same, getD-set-other}
 use lib.Dec.{eqb}
-use borrow.Author.Tests.{ne-eqb, eqb-true, not-false, lt-ltb}
-use Rattle.rules.specs.Bytes.{count, all, any, sum}
-use Rattle.rules.specs.Tree.{kindAt, isAsync, isFinish, isEnd, taskEnd, cont, finishBefore}
+use borrow.Author.Tests.{ne-eqb, eqb-true, lt-ltb}
+use Rattle.rules.specs.Bytes.{any, sum}
+use Rattle.rules.specs.Tree.{kindAt, isAsync, isFinish, isEnd, taskEnd, cont}
 use Rattle.rules.specs.Scheduling.{mostWorkers, helpFirst, pushesChild, holds, pushes, pop, afterRun, Phase, phaseAt, firstPhases}
 use Rattle.rules.specs.Scheduling.{Worker, Entry, Run, idleWorker, start, workerAt, hasRun, waits, oldest, steal}
 use Rattle.tree_scan.specs.Laws.Shape.{Shape}
 use Rattle.tree_scan.specs.Laws.Frames.{endAt, sizeAt}
 use Rattle.run_invariant.specs.Invariant.{self, logOf, stack, PhaseFacts, Invariant}
-use Rattle.run_invariant.specs.Laws.Counts.{and-both, all-count, count-all, Has, has-head, has-tail, has-cases, has-none, any-one}
+use Rattle.run_invariant.specs.Laws.Counts.{and-both, Has, has-head, has-tail, has-cases, has-none, any-one}
 use Rattle.run_invariant.specs.Laws.Counts.{any-sum}
 use Rattle.run_invariant.specs.Laws.Weights.{span, self-same, span-weighs, span-most, span-in, span-inside, span-out, span-self}
-use Rattle.run_invariant.specs.Laws.Weights.{cont-inside, nested-end}
-use Rattle.run_invariant.specs.Laws.Waiting.{waits-no-longer, child-never-waits, async-never-waits, run-stays}
+use Rattle.run_invariant.specs.Laws.Weights.{cont-inside, pushes-either, nested-end}
+use Rattle.run_invariant.specs.Laws.Waiting.{waits-no-longer, child-never-waits, async-never-waits, free-stays}
 use Rattle.run_invariant.specs.Laws.Phase.{phase-runs, after-ended, after-kept}
 use Rattle.run_invariant.specs.Laws.Moves.{sum-one, getD-alike, log-own, some-holds, held-facts, onward, ran, ran-here, ran-other}
 use Rattle.run_invariant.specs.Laws.Moves.{begin-new, begin-robbed, begin-other, enriched, lightened, steal-thief, steal-other}
@@ -35,12 +35,6 @@ use Rattle.run_refinement.specs.Laws.Hands.{line-low, line-step}
 -- ---- the parts from steps pushed below an opening step
 
 module _ (p : ℕ) (ks : List ℕ) (sh : Shape (length ks) (endAt ks) (sizeAt ks)) where
-  -- Either policy pushes the child or the continuation.
-  pushes-either : (P : ℕ → Type 0) (q : ℕ) → P (suc q) → P (cont ks q) → P (pushes p ks q)
-  unfolding pushes
-  pushes-either P q child rest =
-      elim (pushesChild p (kindAt ks q)) as (λ b. P (cond b (suc q) (cont ks q))) [ true ↦ child | false ↦ rest ]
-
   -- Step q opens a child. A part from a step pushed below q that has a step of that child has the continuation too.
   module _ (q : ℕ) (h : q < length ks) (opens : isEnd (kindAt ks q) ≡ false) (j : ℕ) (past : q < j) (before : j < cont ks q) where
     child-shared : (y : ℕ) → PushedBelow p ks q y → y ≤ j → j < taskEnd ks y → (y ≤ cont ks q) × (cont ks q < taskEnd ks y)
@@ -49,7 +43,7 @@ module _ (p : ℕ) (ks : List ℕ) (sh : Shape (length ks) (endAt ks) (sizeAt ks
         let c = cont-inside ks sh q h opens in
         elim (decLe y q) [
           | yes s ↦ omega (arith, nested-end ks sh y q (omega arith) s (omega arith))
-          | no n ↦ absurd (pushes-either (λ z. y ≡ z → ⊥) (below .0) (λ e. omega (arith, below .1))
+          | no n ↦ absurd (pushes-either ks (λ z. y ≡ z → ⊥) p (below .0) (λ e. omega (arith, below .1))
               (λ e.
               let inner = nested-end ks sh (suc (below .0)) q (omega (arith, below .1)) (omega (arith, below .1)) (omega arith) in
               omega (arith, below .1, inner))
@@ -127,18 +121,6 @@ module _ (p : ℕ) (ks : List ℕ) (sh : Shape (length ks) (endAt ks) (sizeAt ks
 
 -- ---- waiting
 
--- What does not wait will not wait later.
-free-stays : (ks : List ℕ) (log : List Entry) (e : Entry) (i : ℕ) → waits ks log i ≡ false → waits ks (log ++ (e ∷ [])) i ≡ false
-unfolding waits
-free-stays ks log e i free = by (finishBefore ks i) refl
-  where
-    by : (o : Option ℕ) → finishBefore ks i ≡ o → waits ks (log ++ (e ∷ [])) i ≡ false
-    by none o = rw (o, waits) refl
-    by (some first) o =
-        let ran = not-false (all (hasRun log) (count first (i - first))) (rw (o, waits) at free) in
-        rw (o, waits) (ap not (count-all (hasRun (log ++ (e ∷ []))) (i - first) first
-        (λ j l u. run-stays log e j (all-count (hasRun log) (i - first) first ran j l u))))
-
 -- What a phase has run has run.
 logged-most : (k j : ℕ) (log : List Entry) → sum (self j) (logOf k log) ≤ sum (λ e. self j (e .step)) log
 unfolding logOf sum
@@ -170,7 +152,7 @@ module _ (p : ℕ) (ks : List ℕ) (sh : Shape (length ks) (endAt ks) (sizeAt ks
       → waits ks log (pushes p ks q) ≡ false
   unfolding endAt
   pushes-free ran =
-      pushes-either p ks sh (λ x. pushes p ks q ≡ x → waits ks log x ≡ false) q (λ e. child-never-waits ks sh log q h opens)
+      pushes-either ks (λ x. pushes p ks q ≡ x → waits ks log x ≡ false) p q (λ e. child-never-waits ks sh log q h opens)
       (λ e. by e (isFinish (kindAt ks q)) refl) refl
     where
       by : pushes p ks q ≡ cont ks q → (b : Bool) → isFinish (kindAt ks q) ≡ b → waits ks log (cont ks q) ≡ false

@@ -1,13 +1,14 @@
 -- Laws of walks, over any kind of record and state: a walk goes on past an accepted record, stops at a refused one, and ends
--- with the list; what every accepted record keeps, it keeps. A loop over positions holds `walk .. i s (drop i rs)`.
+-- with the list; an accepted walk takes one more accepted record; what every accepted record keeps, it keeps. A loop over positions
+-- holds `walk .. i s (drop i rs)`.
 use Prim.Native.Nat.{ℕ, suc, _<_, _≤_}
-use mathlib.Core.Path.{_≡_, refl}
-use mathlib.Core.List.{List, [], _∷_}
+use mathlib.Core.Path.{_≡_, refl, ap}
+use mathlib.Core.List.{List, [], _∷_, _++_}
 use native.Mathlib.Decide.{ℕ-discrete}
 use lib.ListN.{length, drop, getD, drop-of-length-le}
 use lib.Seq.{drop-cons}
 use borrow.Author.Tests.{eq-eqb, ne-eqb}
-use Rattle.rules.specs.Bytes.{accepted, walk}
+use Rattle.rules.specs.Bytes.{accepted, Walked, walk}
 
 module _ {R S : Type 0} (judge : S → R → ℕ) (next : S → R → S) (rs : List R) (d : R) (i : ℕ) (s : S) where
   pub walk-on : i < length rs → judge s (getD rs i d) ≡ 0
@@ -24,6 +25,20 @@ module _ {R S : Type 0} (judge : S → R → ℕ) (next : S → R → S) (rs : L
   pub walk-end : length rs ≤ i → walk judge next i s (drop i rs) ≡ record { verdict = accepted; state = s }
   unfolding walk
   walk-end h = rw (drop-of-length-le rs h) refl
+
+-- An accepted walk, and one more record that is accepted where it ends.
+module _ {R S : Type 0} (judge : S → R → ℕ) (next : S → R → S) where
+  pub walk-more : (rs : List R) (i : ℕ) (s t : S) (r : R) → walk judge next i s rs ≡ record { verdict = accepted; state = t }
+      → judge t r ≡ 0 → walk judge next i s (rs ++ (r ∷ [])) ≡ record { verdict = accepted; state = next t r }
+  unfolding walk accepted
+  walk-more [] i s t r w fine =
+      let same : s ≡ t = ap (λ (x : Walked S). x .state) w in
+      rw (same, fine) refl
+  walk-more (x ∷ rs) i s t r w fine =
+      elim (ℕ-discrete (judge s x) 0) [
+        | yes e ↦ rw e (walk-more rs (suc i) (next s x) t r (rw e at w) fine)
+        | no n ↦ absurd (n (ap (λ (y : Walked S). y .verdict .number) (rw (ne-eqb (judge s x) 0 n) at w)))
+      ]
 
 -- What holds of the first state and is kept by every accepted record holds of the state that a walk comes to.
 module _ {R S : Type 0} (judge : S → R → ℕ) (next : S → R → S) (P : S → Type 0)
