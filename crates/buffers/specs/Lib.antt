@@ -1,5 +1,5 @@
 -- Bytes read and written.
 --     Terms     what storing a record leaves in an array
---     Laws      records of four bytes, copies, a buffer written piece by piece (proved)
+--     Laws      records as bytes, copies, a buffer written piece by piece (proved)
 pub mod Terms
 pub mod Laws

@@ -7,3 +7,7 @@ use lib.ListN.{set}
 unfoldable pub recordPut : List ℕ → ℕ → ℕ → ℕ → ℕ → List ℕ
 recordPut bytes k first second number =
     set (set (set (set bytes (4 * k) first) (4 * k + 1) second) (4 * k + 2) (number % 256)) (4 * k + 3) (number / 256 % 256)
+
+-- Event k of a list: two bytes.
+unfoldable pub eventPut : List ℕ → ℕ → ℕ → ℕ → List ℕ
+eventPut bytes k first second = set (set bytes (2 * k) first) (2 * k + 1) second

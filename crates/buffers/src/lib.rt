@@ -1,11 +1,11 @@
-// Bytes as all layers read and write them: numbers of two bytes, whole records, the records of four bytes of a log, a trace or a
-// run list, and bytes copied to a lent buffer (document 01, "Trace, log, run list" and "Refusals").
+// Bytes as all layers read and write them: numbers of two bytes, whole records, events, the records of four bytes of a log, a trace
+// or a run list, and bytes copied to a lent buffer (document 01, "Trace, log, run list" and "Refusals").
 ghost use mathlib.Core.Path.{_≡_};
 ghost use Prim.Native.Nat.{_+_, _*_, _≤_};
 ghost use lib.ListN.{length, take};
 ghost use Rattle.rules.specs.Bytes.{wholeRecords};
 ghost use Rattle.rules.specs.Calls.{written};
-ghost use Rattle.buffers.specs.Terms.{recordPut};
+ghost use Rattle.buffers.specs.Terms.{eventPut, recordPut};
 
 // Bytes of a record of a log, a trace or a run list.
 pub const RECORD: usize = 4;
@@ -41,6 +41,16 @@ pub fn put_record(bytes: &mut [u8], k: usize, first: u8, second: u8, number: usi
     bytes[at + 1] = second;
     bytes[at + 2] = (number % 256) as u8;
     bytes[at + 3] = (number / 256 % 256) as u8;
+}
+
+// Stores event k.
+pub fn put_event(bytes: &mut [u8], k: usize, first: u8, second: u8)
+    requires { ⌜ 2 * k + 2 ≤ length (now bytes) ⌝ }
+    ensures { λ r. ⌜ now (bytes .exit) ≡ eventPut (now (bytes .entry)) k first second ⌝ }
+{
+    let at = EVENT * k;
+    bytes[at] = first;
+    bytes[at + 1] = second;
 }
 
 // Copies the first `count` bytes over the front of a lent buffer.

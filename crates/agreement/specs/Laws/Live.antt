@@ -1,18 +1,19 @@
 -- The live run by the calls of single events is the rules' run: the entries' calls and the rules' tell the same, event by event, and
 -- of the rules' it is shown by the rules.
-use Prim.Native.Nat.{ℕ, zero, suc, _+_, _/_, _<_}
+use Prim.Native.Nat.{ℕ, zero, suc, _+_, _<_}
 use mathlib.Core.Path.{_≡_, refl, sym, ap, _∙_}
 use mathlib.Core.Bool.{Bool, true, false}
-use mathlib.Core.List.{List, [], _∷_, _++_, map, flatten, append-nil, append-assoc}
+use mathlib.Core.List.{List, [], _∷_, _++_, map, append-nil, append-assoc}
 use mathlib.Core.Option.{none, some}
 use native.Mathlib.Decide.{ℕ-discrete}
 use native.Mathlib.Omega.{arith}
 use lib.ListN.{length, take, getD, length-append}
 use borrow.Author.Tests.{eq-eqb, ne-eqb}
-use Rattle.rules.specs.Bytes.{records, cut, sum}
+use Rattle.rules.specs.Bytes.{records, sum}
 use Rattle.rules.specs.Tree.{kinds}
 use Rattle.rules.specs.Scheduling.{Run, start, workerAt, isRun, oldest, steal, judgeEvent, nextRun}
 use Rattle.rules.specs.Calls.{startVerdict, eventCall, afterEvents}
+use Rattle.buffers.specs.Laws.Records.{wide-map, flatten-records}
 use Rattle.tree_scan.specs.Laws.Frames.{Frame, accepted-frame}
 use Rattle.run_invariant.specs.Invariant.{Invariant}
 use Rattle.run_invariant.specs.Laws.Moves.{ran, run-is, run-held, event-runs, first-within, enriched, steal-thief}
@@ -32,18 +33,10 @@ use Rattle.agreement.specs.Agreement.{tookOf, entryCall}
 unfoldable pub pair : Event → List ℕ
 pair e = e .first ∷ e .second ∷ []
 
-records-two : (a b : ℕ) (rest : List ℕ) → records 2 (a ∷ b ∷ rest) ≡ (a ∷ b ∷ []) ∷ records 2 rest
-unfolding records cut
-records-two a b rest =
-    let more : length (a ∷ b ∷ rest) / 2 ≡ suc (length rest / 2) = omega arith in
-    rw more refl
-
 -- The records of some events' bytes are the events.
 pub event-records : (es : List Event) → records 2 (eventBytes es) ≡ map pair es
-unfolding eventBytes pair flatten records cut
-event-records [] = refl
-event-records (e ∷ es) =
-    records-two (e .first) (e .second) (eventBytes es) ∙ ap (λ (l : List (List ℕ)). pair e ∷ l) (event-records es)
+unfolding eventBytes pair
+event-records es = flatten-records 2 (omega arith) (map pair es) (wide-map 2 pair (λ e. refl) es)
 
 -- ---- one event by the rules
 

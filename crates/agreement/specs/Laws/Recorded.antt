@@ -2,7 +2,7 @@
 use Prim.Native.Nat.{ℕ, suc, _*_, _/_, _%_, _≤_}
 use mathlib.Core.Path.{_≡_, refl, sym, ap, _∙_}
 use mathlib.Core.Bool.{Bool, true, false, cond}
-use mathlib.Core.List.{List, [], _∷_, _++_, map, flatten}
+use mathlib.Core.List.{List, [], _∷_, _++_, map}
 use native.Mathlib.Decide.{ℕ-discrete}
 use native.Mathlib.Omega.{arith}
 use lib.ListN.{length, take, getD, length-append, length-map, List·getD-append}
@@ -13,6 +13,7 @@ use Rattle.rules.specs.Tree.{kinds}
 use Rattle.rules.specs.Scheduling.{Run, start, judgeEvent}
 use Rattle.rules.specs.Calls.{startVerdict, afterEvents, Recorded, recordWalk, recordVerdict, recordOf, recordRefused, recordCall}
 use Rattle.rules.specs.Calls.{mostEvents}
+use Rattle.buffers.specs.Laws.Records.{flat-length}
 use Rattle.tree_scan.specs.Laws.Starts.{start-tree-accepts, start-workers}
 use Rattle.tree_scan.specs.Laws.Frames.{Frame, accepted-frame}
 use Rattle.run_invariant.specs.Laws.Moves.{map-one}
@@ -28,9 +29,8 @@ use Rattle.agreement.specs.Laws.Live.{pair, event-records}
 -- ---- bytes
 
 bytes-length : (es : List Event) → length (eventBytes es) ≡ 2 * length es
-unfolding eventBytes flatten
-bytes-length [] = refl
-bytes-length (e ∷ es) = omega (arith, bytes-length es)
+unfolding eventBytes pair
+bytes-length es = flat-length 2 pair (λ e. refl) es
 
 bytes-whole : (es : List Event) → length es ≤ mostEvents → wholeRecords 2 mostEvents (eventBytes es) ≡ true
 unfolding wholeRecords

@@ -1,17 +1,37 @@
 -- A buffer that is written piece by piece: each goes behind what is written, through the part of the buffer that begins there.
-use Prim.Native.Nat.{ℕ, _+_, _-_, _≤_}
+use Prim.Native.Nat.{ℕ, suc, _+_, _-_, _*_, _≤_}
 use mathlib.Core.Path.{_≡_, refl, sym, ap, _∙_}
-use mathlib.Core.List.{List, [], _++_, append-nil, append-assoc}
+use mathlib.Core.List.{List, [], _∷_, _++_, append-nil, append-assoc}
 use native.Mathlib.Omega.{arith}
 use lib.ListN.{length, take, drop, length-append, length-drop, drop-of-length-le}
-use lib.Seq.{take-all, take-at, drop-at, drop-drop}
+use lib.Seq.{take-all, take-at, drop-at, drop-drop, sets, sets-eq, take-append-seam, drop-append-add}
 use Rattle.rules.specs.Calls.{written}
+use Rattle.buffers.specs.Terms.{eventPut}
 
 -- What fits a buffer leaves its length.
 pub length-written : (bytes before : List ℕ) → length bytes ≤ length before → length (written bytes before) ≡ length before
 unfolding written
 length-written bytes before h =
     omega (arith, length-append bytes (drop (length bytes) before), length-drop (length bytes) before)
+
+-- Bytes that are stored behind what is written.
+pub sets-written : (bytes new before : List ℕ) → length bytes + length new ≤ length before
+    → sets (written bytes before) (length bytes) new ≡ written (bytes ++ new) before
+unfolding written
+sets-written bytes new before room =
+    let old = written bytes before in
+    let front : take (length bytes) old ≡ bytes = take-append-seam bytes (drop (length bytes) before) in
+    let rest : drop (length bytes + length new) old ≡ drop (length (bytes ++ new)) before =
+    rw (length-append, drop-append-add) (drop-drop (length new) (length bytes) before) in
+    sets-eq new old (length bytes) (omega (arith, length-written bytes before (omega arith))) ∙ rw (front, rest) refl
+
+-- An event that is stored behind k others.
+pub event-written : (bytes before : List ℕ) (k a b : ℕ) → length bytes ≡ 2 * k → 2 * k + 2 ≤ length before
+    → eventPut (written bytes before) k a b ≡ written (bytes ++ (a ∷ b ∷ [])) before
+unfolding eventPut
+event-written bytes before k a b e room =
+    let one : 2 * k + 1 ≡ suc (2 * k) = omega arith in
+    rw (one, ← e) (sets-written bytes (a ∷ b ∷ []) before (omega arith))
 
 -- The part of a buffer from `at` on, and the buffer once other bytes stand there.
 abbrev pub partOf : List ℕ → ℕ → List ℕ

@@ -1,39 +1,98 @@
--- Log and trace records as bytes, four each: how many bytes some of them have, one more at the end, and one more stored in an
--- array that has those before it at its front.
-use Prim.Native.Nat.{ℕ, suc, _+_, _*_, _/_, _%_, _≤_}
+-- Records as bytes, over their width: how many bytes some of them have, one more at the end, and the bytes cut into records again. Then
+-- those of a log and a trace, four bytes each; and one more stored in an array that has those before it at its front.
+use Prim.Native.Nat.{ℕ, suc, _+_, _*_, _/_, _%_, _≤_, _<_}
 use mathlib.Core.Path.{_≡_, refl, sym, _∙_}
-use mathlib.Core.List.{List, [], _∷_, _++_, map, flatten, append-nil, append-assoc}
+use mathlib.Core.Bool.{true, true≢false}
+use mathlib.Core.List.{List, [], _∷_, _++_, map, flatten, append-nil, append-assoc, map-append}
+use native.Mathlib.Decide.{ℕ-discrete}
+use native.Mathlib.Nat.{mul-zero, mul-suc, mul-div-cancel-left}
 use native.Mathlib.Omega.{arith}
-use lib.ListN.{length, take, drop, length-append, length-set}
-use lib.Seq.{sets, sets-eq, take-append-seam}
-use Rattle.rules.specs.Bytes.{twoBytes}
+use lib.ListN.{length, take, drop, length-append, length-map, length-set}
+use lib.Seq.{sets, sets-eq, take-at, drop-at, take-append-seam}
+use lib.Dec.{eqb}
+use borrow.Author.Tests.{eq-eqb, ne-eqb}
+use Rattle.rules.specs.Bytes.{twoBytes, cut, records, all}
 use Rattle.rules.specs.Scheduling.{Entry, Steal}
 use Rattle.rules.specs.Traces.{traceNumber, traceBytes, entryBytes}
 use Rattle.buffers.specs.Terms.{recordPut}
 
 -- ---- lists written one behind the other
 
+module _ {B : Type 0} where
+  flatten-append : (xs ys : List (List B)) → flatten (xs ++ ys) ≡ flatten xs ++ flatten ys
+  unfolding flatten
+  flatten-append [] ys = refl
+  flatten-append (x ∷ xs) ys = rw (flatten-append xs ys) (sym (append-assoc x (flatten xs) (flatten ys)))
+
+  pub flatten-one : (xs : List (List B)) (x : List B) → flatten (xs ++ (x ∷ [])) ≡ flatten xs ++ x
+  unfolding flatten
+  flatten-one xs x = flatten-append xs (x ∷ []) ∙ rw append-nil refl
+
 module _ {A B : Type 0} (f : A → List B) where
   flat-append : (xs ys : List A) → flatten (map f (xs ++ ys)) ≡ flatten (map f xs) ++ flatten (map f ys)
-  unfolding flatten
-  flat-append [] ys = refl
-  flat-append (x ∷ xs) ys = rw (flat-append xs ys) (sym (append-assoc (f x) (flatten (map f xs)) (flatten (map f ys))))
+  flat-append xs ys = rw map-append (flatten-append (map f xs) (map f ys))
 
   pub flat-one : (xs : List A) (x : A) → flatten (map f (xs ++ (x ∷ []))) ≡ flatten (map f xs) ++ f x
+  flat-one xs x = rw map-append (flatten-one (map f xs) (f x))
+
+-- ---- records of any width, as bytes
+
+-- Each record has w bytes.
+abbrev pub Wide : ℕ → List (List ℕ) → Type 0
+Wide w rs = all (λ r. eqb (length r) w) rs ≡ true
+
+module _ (w : ℕ) where
+  wide-cons : (r : List ℕ) (rs : List (List ℕ)) → length r ≡ w → Wide w rs → Wide w (r ∷ rs)
+  unfolding all
+  wide-cons r rs e each = rw (eq-eqb (length r) w e) each
+
+  -- The first record, and those behind it.
+  wide-both : (r : List ℕ) (rs : List (List ℕ)) → Wide w (r ∷ rs) → (length r ≡ w) × Wide w rs
+  unfolding all
+  wide-both r rs each =
+      elim (ℕ-discrete (length r) w) [
+        | yes e ↦ (e, rw (eq-eqb (length r) w e) at each)
+        | no n ↦ absurd (true≢false (sym (rw (ne-eqb (length r) w n) at each)))
+      ]
+
+  pub wide-one : (rs : List (List ℕ)) (r : List ℕ) → Wide w rs → length r ≡ w → Wide w (rs ++ (r ∷ []))
+  wide-one [] r each e = wide-cons r [] e (unfold all in refl)
+  wide-one (x ∷ rs) r each e =
+      let both = wide-both x rs each in
+      wide-cons x (rs ++ (r ∷ [])) (both .0) (wide-one rs r (both .1) e)
+
+  pub wide-map : {A : Type 0} (f : A → List ℕ) → ((x : A) → length (f x) ≡ w) → (xs : List A) → Wide w (map f xs)
+  wide-map f e [] = unfold all in refl
+  wide-map f e (x ∷ xs) = wide-cons (f x) (map f xs) (e x) (wide-map f e xs)
+
+  pub flatten-length : (rs : List (List ℕ)) → Wide w rs → length (flatten rs) ≡ w * length rs
   unfolding flatten
-  flat-one xs x = flat-append xs (x ∷ []) ∙ rw append-nil refl
+  flatten-length [] each = rw mul-zero refl
+  flatten-length (r ∷ rs) each =
+      let both = wide-both r rs each in
+      omega (arith, length-append r (flatten rs), both .0, flatten-length rs (both .1), mul-suc w (length rs))
+
+  pub flat-length : {A : Type 0} (f : A → List ℕ) → ((x : A) → length (f x) ≡ w) → (xs : List A)
+      → length (flatten (map f xs)) ≡ w * length xs
+  flat-length f e xs = flatten-length (map f xs) (wide-map f e xs) ∙ rw length-map refl
+
+  cut-flatten : (rs : List (List ℕ)) → Wide w rs → cut w (length rs) (flatten rs) ≡ rs
+  unfolding cut flatten
+  cut-flatten [] each = refl
+  cut-flatten (r ∷ rs) each =
+      let both = wide-both r rs each in
+      rw (take-at r (flatten rs) w (both .0), drop-at r (flatten rs) w (both .0), cut-flatten rs (both .1)) refl
+
+  -- Cut into records again, the bytes are what they were made of.
+  pub flatten-records : 0 < w → (rs : List (List ℕ)) → Wide w rs → records w (flatten rs) ≡ rs
+  unfolding records
+  flatten-records some rs each = rw (flatten-length rs each, mul-div-cancel-left (length rs) some) (cut-flatten rs each)
 
 -- ---- records of four bytes
 
-flat-length : {A : Type 0} (f : A → List ℕ) → ((x : A) → length (f x) ≡ 4)
-    → (xs : List A) → length (flatten (map f xs)) ≡ 4 * length xs
-unfolding flatten
-flat-length f four [] = refl
-flat-length f four (x ∷ xs) = omega (arith, length-append (f x) (flatten (map f xs)), four x, flat-length f four xs)
-
 pub length-entries : (entries : List Entry) → length (entryBytes entries) ≡ 4 * length entries
 unfolding entryBytes twoBytes
-length-entries entries = flat-length (λ e. twoBytes (e .phase) ++ twoBytes (e .step)) (λ e. refl) entries
+length-entries entries = flat-length 4 (λ e. twoBytes (e .phase) ++ twoBytes (e .step)) (λ e. refl) entries
 
 pub entries-append : (xs ys : List Entry) → entryBytes (xs ++ ys) ≡ entryBytes xs ++ entryBytes ys
 unfolding entryBytes
@@ -49,7 +108,7 @@ entries-one entries phase step =
 module _ (p : ℕ) (ks : List ℕ) where
   pub length-trace : (steals : List Steal) → length (traceBytes p ks steals) ≡ 4 * length steals
   unfolding traceBytes twoBytes
-  length-trace steals = flat-length (λ s. s .thief ∷ s .victim ∷ twoBytes (traceNumber p ks (s .step))) (λ s. refl) steals
+  length-trace steals = flat-length 4 (λ s. s .thief ∷ s .victim ∷ twoBytes (traceNumber p ks (s .step))) (λ s. refl) steals
 
   pub trace-one : (steals : List Steal) (thief victim step : ℕ)
       → traceBytes p ks (steals ++ (record { thief = thief; victim = victim; step = step } ∷ []))

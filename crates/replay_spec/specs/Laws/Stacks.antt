@@ -6,8 +6,8 @@ use mathlib.Core.Path.{_≡_, refl, sym, ap, _∙_}
 use mathlib.Core.Bool.{true, false, not}
 use mathlib.Core.List.{List, [], _∷_, _++_, map-append, flatten}
 use native.Mathlib.Omega.{arith}
-use lib.ListN.{length, take, drop, getD, set, length-append, length-set}
-use lib.Seq.{getD-set-same, getD-set-other, sets-eq, take-append-seam, drop-append-add, drop-drop}
+use lib.ListN.{length, getD, set, length-append, length-set}
+use lib.Seq.{getD-set-same, getD-set-other}
 use borrow.Author.Tests.{eq-eqb, ne-eqb}
 use Rattle.rules.specs.Bytes.{twoBytes}
 use Rattle.rules.specs.Tree.{mostSteps, kinds, kindAt, isEnd, treeVerdict}
@@ -21,7 +21,7 @@ use Rattle.replay_invariant.specs.Invariant.{Cut}
 use Rattle.replay_invariant.specs.Laws.Order.{Alone, alone-start, alone-end, alone-drops, alone-keeps, alone-done, alone-within}
 use Rattle.buffers.specs.Terms.{recordPut}
 use Rattle.buffers.specs.Laws.Records.{length-entries, entries-one, put-sets, put-length}
-use Rattle.buffers.specs.Laws.Fronts.{length-written}
+use Rattle.buffers.specs.Laws.Fronts.{length-written, sets-written}
 use Rattle.replay_spec.specs.Labels.{dropped}
 use Rattle.replay_spec.specs.Orders.{phaseOrder, inPhase, Writable}
 use Rattle.replay_spec.specs.Laws.Orders.{length-in-phase, stays-covered, order-labelled}
@@ -62,16 +62,9 @@ module _ (bytes before : List ℕ) where
   -- A record goes behind some bytes.
   put-written : (k a b n : ℕ) → length bytes ≡ 4 * k → 4 * k + 4 ≤ length before
       → recordPut (written bytes before) k a b n ≡ written (bytes ++ (a ∷ b ∷ twoBytes n)) before
-  unfolding written twoBytes
+  unfolding twoBytes
   put-written k a b n e room =
-      let record-bytes : List ℕ = a ∷ b ∷ twoBytes n in
-      let old = written bytes before in
-      let front : take (4 * k) old ≡ bytes = rw (← e) (take-append-seam bytes (drop (length bytes) before)) in
-      let rest : drop (4 * k + 4) old ≡ drop (length (bytes ++ record-bytes)) before =
-      rw (← e, length-append, drop-append-add) (drop-drop 4 (length bytes) before) in
-      put-sets old k a b n
-      ∙ sets-eq record-bytes old (4 * k) (omega (arith, length-written bytes before (omega arith)))
-      ∙ rw (front, rest) refl
+      put-sets (written bytes before) k a b n ∙ rw (← e) (sets-written bytes (a ∷ b ∷ twoBytes n) before (omega arith))
 
 steps-one : (k : ℕ) (log : List ℕ) (i : ℕ) → inPhase k (log ++ (i ∷ [])) ≡ inPhase k log ++ (record { phase = k; step = i } ∷ [])
 unfolding inPhase

@@ -1,7 +1,7 @@
 -- The worker of a phase by the bytes of a trace, and the loop that writes a line for each record of a run list.
 use Prim.Native.Nat.{ℕ, zero, suc, _+_, _-_, _*_, _≤_, _<_}
-use mathlib.Core.Path.{_≡_, refl, sym}
-use mathlib.Core.List.{List, [], _∷_, _++_, flatten, append-nil, append-assoc}
+use mathlib.Core.Path.{_≡_, refl}
+use mathlib.Core.List.{List, [], _∷_, _++_, flatten}
 use native.Mathlib.Nat.{zero-add}
 use native.Mathlib.Numerals.{add-one}
 use native.Mathlib.Omega.{arith}
@@ -10,9 +10,9 @@ use Rattle.rules.specs.Bytes.{count}
 use Rattle.rules.specs.Program.{line}
 use Rattle.rules.specs.Calls.{written}
 use Rattle.tree.specs.Laws.Counts.{count-snoc}
-use Rattle.run_invariant.specs.Laws.Moves.{map-one}
 use Rattle.phases_text.specs.Contract.{mostLine}
 use Rattle.phases_text.specs.Line.Terms.{numberAt, workerBy, lineOf, linesOf}
+use Rattle.buffers.specs.Laws.Records.{flat-one}
 use Rattle.buffers.specs.Laws.Fronts.{partOf, withPart, Front, front-none, front-next}
 use Rattle.phases_text.specs.Number.Laws.Texts.{text-is, line-most}
 
@@ -22,11 +22,6 @@ worker-later trace zero h = absurd (omega arith)
 worker-later trace (suc k) h =
     let same : suc k - 1 ≡ k = omega arith in
     rw same refl
-
-flatten-one : (xs : List (List ℕ)) (x : List ℕ) → flatten (xs ++ (x ∷ [])) ≡ flatten xs ++ x
-unfolding flatten
-flatten-one [] x = append-nil x
-flatten-one (y ∷ ys) x = rw (flatten-one ys x) (sym (append-assoc y (flatten ys) x))
 
 -- A trace and a run list.
 module _ (trace list : List ℕ) where
@@ -38,7 +33,7 @@ module _ (trace list : List ℕ) where
 
   lines-more : (k : ℕ) → linesOf trace list (suc k) ≡ linesOf trace list k ++ lineOf trace list k
   unfolding linesOf
-  lines-more k = rw (count-snoc k 0, zero-add, map-one, flatten-one) refl
+  lines-more k = rw (count-snoc k 0, zero-add) (flat-one (lineOf trace list) (count 0 k) k)
 
   pub lines-most : (k : ℕ) → length (linesOf trace list k) ≤ mostLine * k
   unfolding linesOf count flatten
