@@ -26,7 +26,7 @@ unfoldable asyncs : List ℕ
 asyncs = ofKinds (1 ∷ 1 ∷ 3 ∷ 3 ∷ 3 ∷ [])
 
 -- Four asyncs, each inside the one before.
-unfoldable deepAsyncs : List ℕ
+unfoldable pub deepAsyncs : List ℕ
 deepAsyncs = ofKinds (1 ∷ 1 ∷ 1 ∷ 1 ∷ 3 ∷ 3 ∷ 3 ∷ 3 ∷ 3 ∷ [])
 
 -- Two asyncs, one inside the other, and one more in the root.
@@ -34,7 +34,7 @@ unfoldable three : List ℕ
 three = ofKinds (1 ∷ 1 ∷ 3 ∷ 3 ∷ 1 ∷ 3 ∷ 3 ∷ [])
 
 -- A finish child with two asyncs in it, one after the other.
-unfoldable inside : List ℕ
+unfoldable pub inside : List ℕ
 inside = ofKinds (2 ∷ 1 ∷ 3 ∷ 1 ∷ 3 ∷ 3 ∷ 3 ∷ [])
 
 -- An async whose only child is a finish.
