@@ -33,7 +33,8 @@ use Rattle.run_invariant.specs.Laws.Moves.{some-stack, holds-some, none-
 
 -- ---- steps that have run
 
-run-counts : (log : List Entry) (j : ℕ) → hasRun log j ≡ ltb 0 (sum (λ e. self j (e .step)) log)
+-- A step has run where its count in the log is not 0.
+pub run-counts : (log : List Entry) (j : ℕ) → hasRun log j ≡ ltb 0 (sum (λ e. self j (e .step)) log)
 unfolding hasRun self
 run-counts log j = any-sum (λ e. eqb (e .step) j) log
 
@@ -210,10 +211,19 @@ module _ (p : ℕ) (ks : List ℕ) (some-step : 1 ≤ length ks) (sh : Shape (le
             idleWorker (s .workers) (λ w. held-inside p ks sh j (stack (workerAt s w .hand)) (chained w)),
       )
 
-  pub steals-most : length (s .steals) ≤ (length ks - 1) / 2
+  pushed-most : length (s .steals) + sum (λ (u : Worker). length (u .hand .deque)) (s .workers) ≤ (length ks - 1) / 2
   unfolding openings
-  steals-most =
+  pushed-most =
       omega (arith, inv .pushed, inv .total (openings ks) (opening ks) (openings-weigh ks sh), sh .whole, odd sh 0 some-step .1)
+
+  pub steals-most : length (s .steals) ≤ (length ks - 1) / 2
+  steals-most = omega (arith, pushed-most)
+
+  -- A deque has no more steps than there are spawned tasks.
+  pub deque-most : (w : ℕ) → length (workerAt s w .hand .deque) ≤ (length ks - 1) / 2
+  unfolding workerAt idleWorker
+  deque-most w =
+      omega (arith, pushed-most, sum-at (λ (u : Worker). length (u .hand .deque)) idleWorker refl (s .workers) w)
 
   pub phases-count : length (s .phases) ≡ suc (length (s .steals))
   phases-count =

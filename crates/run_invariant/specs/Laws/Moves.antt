@@ -1,5 +1,5 @@
 -- What a run or a steal changes in a run's state, and what it leaves.
-use Prim.Native.Nat.{ℕ, zero, suc, _+_, _≤_, _<_}
+use Prim.Native.Nat.{ℕ, zero, suc, pred, _+_, _≤_, _<_}
 use mathlib.Core.Path.{_≡_, refl, sym, ap, _∙_}
 use mathlib.Core.Bool.{Bool, true, false, cond, true≢false, or-true}
 use mathlib.Core.List.{List, [], _∷_, _++_, map, dropLast, append-nil, map-append}
@@ -163,12 +163,25 @@ module _ (p : ℕ) (ks : List ℕ) (i : ℕ) (xs : List ℕ) where
       by-kind (λ h. holdsStep (record { hand = h; phase = k }) ≡ false → h .deque ≡ [])
       (elim xs [ [] ↦ λ n. refl | y ∷ ys ↦ λ n. absurd (true≢false n) ]) (λ e n. absurd (true≢false n))
 
-  -- An opening step pushes one step, an end none.
+  -- An opening step pushes one step, an end pops one, where there is one.
+  pub after-length :
+      length (afterRun (λ x. false) p ks i xs .deque) ≡ cond (isEnd (kindAt ks i)) (pred (length xs)) (suc (length xs))
+  unfolding afterRun pop
+  after-length =
+      elim (isEnd (kindAt ks i)) as
+      (λ b. length (cond b (pop xs) (record { held = some (holds p ks i); deque = pushes p ks i ∷ xs }) .deque)
+      ≡ cond b (pred (length xs)) (suc (length xs)))
+      [ true ↦ elim xs [ [] ↦ refl | y ∷ ys ↦ refl ] | false ↦ refl ]
+
   pub after-deque : length (afterRun (λ x. false) p ks i xs .deque) ≤ length xs + opening ks i
-  unfolding pop opening
+  unfolding opening
   after-deque =
-      by-kind (λ h. length (h .deque) ≤ length xs + opening ks i) (elim xs [ [] ↦ omega arith | y ∷ ys ↦ omega arith ])
-      (λ e. rw e (omega arith))
+      rw after-length
+      (elim (isEnd (kindAt ks i)) as (λ b. cond b (pred (length xs)) (suc (length xs)) ≤ length xs + cond b 0 1)
+      [ true ↦ popped (length xs) | false ↦ omega arith ])
+    where
+      popped : (n : ℕ) → pred n ≤ n + 0
+      popped n = omega arith
 
 -- A worker, and the state, after worker w has run the step i that it held.
 unfoldable pub onward : ℕ → List ℕ → Worker → ℕ → Worker

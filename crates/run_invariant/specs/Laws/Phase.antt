@@ -2,14 +2,16 @@
 -- do not matter here.
 use Prim.Native.Nat.{ℕ, suc, _+_, _-_, _≤_, _<_}
 use mathlib.Core.Path.{_≡_, refl, ap, _∙_}
-use mathlib.Core.Bool.{Bool, true, false}
+use mathlib.Core.Bool.{Bool, true, false, and-false}
 use mathlib.Core.List.{List, [], _∷_, _++_, dropLast, append-assoc}
 use mathlib.Core.Option.{some}
 use native.Mathlib.Omega.{arith}
 use lib.ListN.{length, take, length-append}
+use lib.Dec.{eqb}
+use borrow.Author.Tests.{eqb-true}
 use Rattle.rules.specs.Bytes.{all, any, sum}
-use Rattle.rules.specs.Tree.{kindAt, isEnd, taskEnd, cont}
-use Rattle.rules.specs.Scheduling.{workFirst, pushesChild, holds, pushes, pop, afterRun, Phase, oldest}
+use Rattle.rules.specs.Tree.{kindAt, isAsync, isFinish, isEnd, taskEnd, cont}
+use Rattle.rules.specs.Scheduling.{workFirst, helpFirst, pushesChild, holds, pushes, pop, afterRun, Phase, oldest}
 use Rattle.rules.specs.Traces.{lastStolen, runAlone}
 use Rattle.tree.specs.Laws.Verdicts.{or-none}
 use Rattle.tree_scan.specs.Laws.Shape.{Shape}
@@ -110,6 +112,11 @@ module _ (p : ℕ) (ks : List ℕ) where
   pub first-pushes : (i : ℕ) → p ≡ workFirst → pushes p ks i ≡ cont ks i
   unfolding pushes pushesChild
   first-pushes i w = rw w
+
+  -- So does either policy where the child is a finish child.
+  pub finish-pushes : (i : ℕ) → isFinish (kindAt ks i) ≡ true → pushes p ks i ≡ cont ks i
+  unfolding pushes pushesChild isAsync isFinish
+  finish-pushes i f = rw (eqb-true (kindAt ks i) 2 f, and-false (eqb p helpFirst)) refl
 
 module _ (p : ℕ) (ks : List ℕ) (sh : Shape (length ks) (endAt ks) (sizeAt ks)) where
   -- A held step and the oldest step of a deque are steps of the tree.

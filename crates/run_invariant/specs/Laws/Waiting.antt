@@ -25,7 +25,8 @@ finish-opens k f =
     ne-eqb k 3 (omega arith)
 
 module _ (ks : List ℕ) (sh : Shape (length ks) (endAt ks) (sizeAt ks)) (log : List Entry) where
-  waits-finish : (q : ℕ) → q < length ks → endAt ks q ≡ false → isFinish (kindAt ks q) ≡ true
+  -- The step after a finish child waits while not all steps between it and the step that opens the child have run.
+  pub waits-finish : (q : ℕ) → q < length ks → endAt ks q ≡ false → isFinish (kindAt ks q) ≡ true
       → waits ks log (cont ks q) ≡ not (all (hasRun log) (count (suc q) (cont ks q - suc q)))
   unfolding waits
   waits-finish q h o f = rw (finish-cont ks sh q h o, f, waits) refl
@@ -62,6 +63,12 @@ pub waiting-refused : (ks : List ℕ) (s : Run) (w i : ℕ) → workerAt s w .ha
     → (holdsStep (workerAt s w) ≡ true) × (judgeRun ks s w ≡ 10)
 unfolding holdsStep judgeRun
 waiting-refused ks s w i e t = (rw (e, holdsStep) refl, rw (e, t, judgeRun) refl)
+
+-- The holder of a step that does not wait may run it.
+pub free-accepted : (ks : List ℕ) (s : Run) (w i : ℕ) → workerAt s w .hand .held ≡ some i → waits ks (s .log) i ≡ false
+    → judgeRun ks s w ≡ 0
+unfolding judgeRun
+free-accepted ks s w i e t = rw (e, t, judgeRun) refl
 
 -- ---- logs
 

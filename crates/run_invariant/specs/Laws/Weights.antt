@@ -3,7 +3,7 @@ use Prim.Native.Nat.{ℕ, suc, _+_, _-_, _/_, _≤_, _<_}
 use mathlib.Core.Path.{_≡_, refl, ap}
 use mathlib.Core.Bool.{true, false, cond}
 use mathlib.Core.List.{List, [], _∷_, _++_}
-use native.Mathlib.Decide.{ℕ-discrete, decLt}
+use native.Mathlib.Decide.{ℕ-discrete, decLt, decLe}
 use native.Mathlib.Numerals.{add-one}
 use native.Mathlib.Omega.{arith}
 use lib.ListN.{length}
@@ -220,3 +220,16 @@ module _ (ks : List ℕ) (sh : Shape (length ks) (endAt ks) (sizeAt ks)) where
   nested-end i j h l u =
       let here = end-size ks sh i h in
       omega (arith, end-size ks sh j (omega (arith, end-within i h)), nested sh i j h (l, omega arith))
+
+  -- Step q opens a child. A part from a step pushed below q that has a step of that child has the continuation too.
+  pub child-shared : (p q r y j : ℕ) → q < length ks → isEnd (kindAt ks q) ≡ false → r < q → y ≡ pushes p ks r
+      → q < j → j < cont ks q → 1 ≤ span ks j y → span ks (cont ks q) y ≡ 1
+  unfolding cont
+  child-shared p q r y j h opens below pushed past before has =
+      let c = cont-inside q h opens in
+      let at = span-inside ks j y has in
+      elim (decLe y q) [
+        | yes s ↦ span-in ks (cont ks q) y (omega arith) (omega (arith, nested-end y q (omega arith) s (omega arith)))
+        | no n ↦ absurd (pushes-either ks (λ z. y ≡ z → ⊥) p r (λ e. omega arith)
+            (λ e. omega (arith, nested-end (suc r) q (omega arith) below (omega arith))) pushed)
+      ]

@@ -1,5 +1,5 @@
 -- A worker whose held step is not its `low` never waits: so at the start, and kept by every run and steal.
-use Prim.Native.Nat.{ℕ, zero, suc, _+_, _-_, _≤_, _<_}
+use Prim.Native.Nat.{ℕ, zero, suc, _+_, _≤_, _<_}
 use mathlib.Core.Path.{_≡_, refl, sym, ap, _∙_}
 use mathlib.Core.Bool.{Bool, true, false, cond}
 use mathlib.Core.List.{List, [], _∷_, _++_, map}
@@ -11,21 +11,21 @@ use lib.Seq.{getD-set-same, getD-set-other}
 use lib.Dec.{eqb}
 use borrow.Author.Tests.{ne-eqb, eqb-true, lt-ltb}
 use Rattle.rules.specs.Bytes.{any, sum}
-use Rattle.rules.specs.Tree.{kindAt, isAsync, isFinish, isEnd, taskEnd, cont}
+use Rattle.rules.specs.Tree.{kindAt, isAsync, isFinish, isEnd, cont}
 use Rattle.rules.specs.Scheduling.{mostWorkers, helpFirst, pushesChild, holds, pushes, pop, afterRun, Phase, phaseAt, firstPhases}
 use Rattle.rules.specs.Scheduling.{Worker, Entry, Run, idleWorker, start, workerAt, hasRun, waits, oldest, steal}
 use Rattle.tree_scan.specs.Laws.Shape.{Shape}
 use Rattle.tree_scan.specs.Laws.Frames.{endAt, sizeAt}
 use Rattle.run_invariant.specs.Invariant.{self, logOf, stack, PhaseFacts, Invariant}
 use Rattle.run_invariant.specs.Laws.Counts.{and-both, Has, has-head, has-tail, has-cases, has-none, any-one}
-use Rattle.run_invariant.specs.Laws.Counts.{any-sum}
 use Rattle.run_invariant.specs.Laws.Weights.{span, self-same, span-weighs, span-most, span-in, span-inside, span-out, span-self}
-use Rattle.run_invariant.specs.Laws.Weights.{cont-inside, pushes-either, nested-end}
+use Rattle.run_invariant.specs.Laws.Weights.{cont-inside, pushes-either, nested-end, child-shared}
 use Rattle.run_invariant.specs.Laws.Waiting.{waits-no-longer, child-never-waits, async-never-waits, free-stays}
 use Rattle.run_invariant.specs.Laws.Phase.{phase-runs, after-ended, after-kept}
 use Rattle.run_invariant.specs.Laws.Moves.{sum-one, getD-alike, log-own, some-holds, held-facts, onward, ran, ran-here, ran-other}
 use Rattle.run_invariant.specs.Laws.Moves.{begin-new, begin-robbed, begin-other, enriched, lightened, steal-thief, steal-other}
 use Rattle.run_invariant.specs.Laws.Moves.{steal-victim}
+use Rattle.run_invariant.specs.Laws.Consequences.{run-counts}
 use Rattle.run_spec.specs.Running.{waitsFor}
 use Rattle.run_spec.specs.Moves.{Fields}
 use Rattle.run_refinement.specs.Tie.{Line, PushedBelow, Ready, AllReady, Shows}
@@ -35,30 +35,17 @@ use Rattle.run_refinement.specs.Laws.Hands.{line-low, line-step}
 -- ---- the parts from steps pushed below an opening step
 
 module _ (p : ℕ) (ks : List ℕ) (sh : Shape (length ks) (endAt ks) (sizeAt ks)) where
-  -- Step q opens a child. A part from a step pushed below q that has a step of that child has the continuation too.
+  -- Step q opens a child. Where no part of a list from a step pushed below q has the continuation, none has a step of the child.
   module _ (q : ℕ) (h : q < length ks) (opens : isEnd (kindAt ks q) ≡ false) (j : ℕ) (past : q < j) (before : j < cont ks q) where
-    child-shared : (y : ℕ) → PushedBelow p ks q y → y ≤ j → j < taskEnd ks y → (y ≤ cont ks q) × (cont ks q < taskEnd ks y)
-    unfolding cont
-    child-shared y below l u =
-        let c = cont-inside ks sh q h opens in
-        elim (decLe y q) [
-          | yes s ↦ omega (arith, nested-end ks sh y q (omega arith) s (omega arith))
-          | no n ↦ absurd (pushes-either ks (λ z. y ≡ z → ⊥) p (below .0) (λ e. omega (arith, below .1))
-              (λ e.
-              let inner = nested-end ks sh (suc (below .0)) q (omega (arith, below .1)) (omega (arith, below .1)) (omega arith) in
-              omega (arith, below .1, inner))
-              (below .2))
-        ]
-
-    -- So where no such part of a list has the continuation, none has a step of the child.
     child-missed : (l : List ℕ) → ((y : ℕ) → Has l y → PushedBelow p ks q y) → sum (span ks (cont ks q)) l ≡ 0 → sum (span ks j) l ≡ 0
     unfolding sum
     child-missed [] below z = refl
     child-missed (y ∷ l) below z =
-        let here : span ks j y ≡ 0 = span-out ks j y (λ a b.
-        let shared = child-shared y (below y (has-head y l)) a b in
-        omega (arith, span-in ks (cont ks q) y (shared .0) (shared .1))) in
-        omega (arith, here, child-missed l (λ x m. below x (has-tail x y l m)) (omega arith))
+        let by = below y (has-head y l) in
+        elim (decLe 1 (span ks j y)) [
+          | yes has ↦ absurd (omega (arith, child-shared ks sh p q (by .0) y j h opens (by .1) (by .2) past before has))
+          | no n ↦ omega (arith, child-missed l (λ x m. below x (has-tail x y l m)) (omega arith))
+        ]
 
   -- The steps of a deque were pushed below the held step.
   line-below : (low : ℕ) (qs : List ℕ) (x : ℕ) → Line ks low x qs → (y : ℕ) → Has (map (pushes p ks) qs) y → PushedBelow p ks x y
@@ -131,9 +118,8 @@ logged-most k j (e ∷ log) =
     [ true ↦ omega (arith, logged-most k j log) | false ↦ omega (arith, logged-most k j log) ]
 
 logged-run : (k j : ℕ) (log : List Entry) → 1 ≤ sum (self j) (logOf k log) → hasRun log j ≡ true
-unfolding hasRun self
 logged-run k j log some-time =
-    any-sum (λ e. eqb (e .step) j) log ∙ lt-ltb 0 (sum (λ e. self j (e .step)) log) (omega (arith, logged-most k j log))
+    run-counts log j ∙ lt-ltb 0 (sum (λ e. self j (e .step)) log) (omega (arith, logged-most k j log))
 
 -- Step q opens a task. What it leaves held never waits; what it pushes waits for a finish child at most.
 module _ (p : ℕ) (ks : List ℕ) (sh : Shape (length ks) (endAt ks) (sizeAt ks)) (log : List Entry) (q : ℕ) (h : q < length ks)
