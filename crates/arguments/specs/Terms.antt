@@ -1,13 +1,14 @@
--- What is answered of what a call is given, before its records are walked: the policy, the worker count and the tree of each call,
--- the events of a record call and the trace of a replay call, the room of the lent outputs.
+-- What is answered of what a call is given, before its records are walked or made: the policy, the worker count and the tree of each
+-- call, the events of a record call and the trace of a replay call, the room of the lent outputs.
 use Prim.Native.Nat.{ℕ, _-_, _*_}
-use mathlib.Core.Bool.{Bool, cond, not, _||_}
+use mathlib.Core.Bool.{Bool, true, cond, not, _||_}
 use mathlib.Core.List.{List, [], _∷_}
 use lib.ListN.{length}
 use lib.Dec.{eqb, ltb}
 use Rattle.rules.specs.Bytes.{wholeRecords, Verdict, refusedIf, firstRefused}
 use Rattle.rules.specs.Tree.{kinds}
 use Rattle.rules.specs.Calls.{mostEvents, mostTraceRecords, startVerdict}
+use Rattle.rules.specs.Schedules.{mostMade}
 use Rattle.tree.specs.declared.Accepted.{Accepted}
 
 -- The refusal and position of a policy, a worker count and a tree, or the tree's count of steps; what is not answered is 0.
@@ -41,6 +42,14 @@ recordJudged w p tree events log trace =
 -- and of a replay call whose lent run list has so many.
 unfoldable pub replayJudged : ℕ → ℕ → List ℕ → List ℕ → ℕ → Accepted
 replayJudged w p tree trace list = givenJudged w p tree (wholeRecords 4 mostTraceRecords trace) (ltb list (4 * length (kinds tree)))
+
+-- "The lent list needs 2 bytes for each of these", by its length.
+unfoldable pub listShort : ℕ → ℕ → Bool
+listShort n events = ltb events (2 * mostMade n)
+
+-- A schedule call has no records to judge: what is answered of one whose lent list has so many bytes.
+unfoldable pub scheduleJudged : ℕ → ℕ → List ℕ → ℕ → Accepted
+scheduleJudged w p tree events = givenJudged w p tree true (listShort (length (kinds tree)) events)
 
 -- A refusal that names no position.
 abbrev pub refusal : ℕ → Accepted

@@ -1,10 +1,11 @@
-// What a call is given, judged before any event or trace record is looked at (refusals 1 to 7 of document 01, 16 of document 02):
-// policy, worker count and tree, the length of the events or the trace, and the room of the lent outputs.
+// What a call is given, judged before any event or trace record is looked at or made (refusals 1 to 7 of document 01, 16 of document
+// 02): policy, worker count and tree, the length of the events or the trace, and the room of the lent outputs.
 ghost use mathlib.Core.Path.{_≡_};
 ghost use Prim.Native.Nat.{_≤_};
 ghost use Rattle.rules.specs.Tree.{mostSteps};
 ghost use Rattle.tree.specs.declared.Accepted.{Accepted};
-ghost use Rattle.arguments.specs.Terms.{startJudged, refusal, judged, tooShort, recordJudged, replayJudged};
+ghost use Rattle.arguments.specs.Terms.{startJudged, refusal, judged, tooShort, listShort, recordJudged, replayJudged};
+ghost use Rattle.arguments.specs.Terms.{scheduleJudged};
 use buffers::EVENT;
 use buffers::RECORD;
 use policy::HELP_FIRST;
@@ -100,4 +101,24 @@ pub fn judge_replay(tree: &[u8], setup: Setup, trace: &[u8], list: usize) -> Acc
     let whole = buffers::whole_records(trace, RECORD, MOST_STEALS);
     let short = list < RECORD * start.steps;
     judge_call(start, whole, short)
+}
+
+// Whether a lent list of events is short, for so many steps. No steps, as of a refused tree, need no room.
+fn list_short(steps: usize, events: usize) -> bool
+    requires { ⌜ steps ≤ mostSteps ⌝ }
+    ensures { λ r. ⌜ r ≡ listShort steps events ⌝ }
+{
+    if steps == 0 {
+        return false;
+    }
+    events < EVENT * (steps + (steps - 1) / 2)
+}
+
+// Judges a schedule call whose lent list has so many bytes: refusals 1, 16, 2 to 5 and 7, or how many steps the tree has.
+pub fn judge_schedule(tree: &[u8], setup: Setup, events: usize) -> Accepted
+    ensures { λ r. ⌜ r ≡ scheduleJudged (setup .workers) (setup .policy) (now (tree .entry)) events ⌝ }
+{
+    let start = judge_start(tree, setup);
+    let short = list_short(start.steps, events);
+    judge_call(start, true, short)
 }

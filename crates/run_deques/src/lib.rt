@@ -21,7 +21,7 @@ pub const RUN: u8 = 16;
 pub const NOT_RUN: u8 = 17;
 
 // The highest step marked with the worker among those from `low` to before `end`, by a scan.
-fn scan(place: &[u8; MOST_STEPS], worker: u8, low: Step, end: Step) -> Pusher
+pub fn scan(place: &[u8; MOST_STEPS], worker: u8, low: Step, end: Step) -> Pusher
     requires { ⌜ end .0 ≤ mostSteps ⌝ }
     ensures { λ r. ⌜ r ≡ pusherOf (newestMark (now (place .entry)) worker (low .0) (end .0)) ⌝ }
 {

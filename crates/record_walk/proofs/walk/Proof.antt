@@ -8,21 +8,24 @@ use borrow.Author.Needs.{needs}
 use Rattle.rules.specs.Tree.{kinds}
 use Rattle.run_spec.specs.declared.Event.{Event}
 use Rattle.run_spec.specs.Moves.{Fields, fieldsOf}
+use Rattle.run_spec.specs.Laws.Moves.{fresh-arrays}
 use Rattle.run_refinement.specs.Laws.Hints.{shows-hints}
 use Rattle.tree_tables.specs.Laws.Fronts.{start-frame}
 use Rattle.record_walk.specs.Laws.Recording.{Recording}
-use Rattle.record_walk.specs.Laws.Turns.{Turn, Weighed, fresh-arrays, turn-start, turn-done, turn-refused, ran-fits}
+use Rattle.record_walk.specs.Laws.Turns.{Turn, Weighed, turn-start, turn-done, turn-refused, ran-fits}
 use Rattle.record_walk.specs.Laws.Turns.{ran-turn, stole-fits, stole-movable, stole-turn}
 use Rattle.record_walk.proofs.walk.Statement.{statement}
 use Rattle.record_walk.proofs.walk.Tie as tie
 
 abbrev Inv-loop : tie.InvT-loop
-Inv-loop tree ends openers sums setup events log₀ trace₀ n place₀ held₀ latest₀ low₀ base₀ steals₀ loads₀ logs₀ k₀ log trace place held latest low base steals loads logs k =
+Inv-loop tree ends openers sums setup events log₀ trace₀ n place₀ held₀ latest₀ low₀ base₀ steals₀ loads₀ logs₀ k₀
+    log trace place held latest low base steals loads logs k =
     (k ≤ length events / 2)
     × Recording (setup .workers) (setup .policy) tree events k (fieldsOf place held latest low base steals setup) log trace loads logs steals
 
 abbrev μ-loop : tie.MeasureT-loop
-μ-loop tree ends openers sums setup events log₀ trace₀ n place₀ held₀ latest₀ low₀ base₀ steals₀ loads₀ logs₀ k₀ log trace place held latest low base steals loads logs k =
+μ-loop tree ends openers sums setup events log₀ trace₀ n place₀ held₀ latest₀ low₀ base₀ steals₀ loads₀ logs₀ k₀
+    log trace place held latest low base steals loads logs k =
     length events / 2 - k
 
 -- ---- the function's entry

@@ -1,6 +1,6 @@
 -- The loop over the events in the terms of the code: what a call on the arrays ensures, and what is stored then.
 use Prim.Native.Nat.{ℕ, _+_, _*_, _/_, _%_, _≤_, _<_}
-use mathlib.Core.Path.{_≡_, refl, sym, ap, subst, _∙_}
+use mathlib.Core.Path.{_≡_, sym, ap, subst, _∙_}
 use mathlib.Core.List.{List}
 use native.Mathlib.Omega.{arith}
 use lib.ListN.{length, getD, set, replicate}
@@ -9,12 +9,11 @@ use Rattle.rules.specs.Tree.{mostSteps, kinds, weights}
 use Rattle.rules.specs.Scheduling.{mostWorkers, Run}
 use Rattle.rules.specs.Calls.{mostTraceRecords, startVerdict}
 use Rattle.tree_tables.specs.Terms.{Ends, Sums, weightBefore}
-use Rattle.policy.specs.declared.Setup.{Setup}
 use Rattle.trace.specs.declared.number.TraceNumber.{TraceNumber}
 use Rattle.run_spec.specs.declared.Outcome.{Outcome}
 use Rattle.run_spec.specs.declared.Outcome.the-variants.{Ran, Stole, Refused}
 use Rattle.trace.specs.Contract.{numberValue}
-use Rattle.run_spec.specs.Moves.{Fields, Move, fieldsOf, moveOf, fresh, eventMove}
+use Rattle.run_spec.specs.Moves.{Fields, Move, moveOf, fresh, eventMove}
 use Rattle.buffers.specs.Terms.{recordPut}
 use Rattle.tree.specs.declared.Phase.{Phase}
 use Rattle.tree.specs.declared.Step.{Step}
@@ -32,13 +31,6 @@ at-state : {w p : ℕ} {tree events : List ℕ} {k : ℕ} {s : Fields} {log trac
 at-state {w} {p} {tree} {events} {k} {s} {log} {trace} {ls} {logs} after e so =
     subst (λ (x : Fields). Recording w p tree events k x log trace ls logs (x .steals)) e
     (rw (so .stealCount ∙ sym (so .shows .steals)) at so)
-
--- The arrays that the walk begins with are those of a start.
-pub fresh-arrays : (setup : Setup)
-    → (let none : List ℕ = replicate mostWorkers 0 in
-    fieldsOf (replicate mostSteps 17) (set (replicate mostWorkers 65535) 0 0) none none none 0 setup ≡ fresh setup)
-unfolding fresh
-fresh-arrays setup = refl
 
 -- The loop begins with all weight in worker 0's load.
 pub turn-start : (w p : ℕ) (tree events : List ℕ) → startVerdict w p tree .number ≡ 0

@@ -1,8 +1,8 @@
 -- What a scan of the places finds, from what is marked: the highest of the marked steps from above, the lowest from below, and whether all
 -- steps of a finish child have run.
 use Prim.Native.Nat.{ℕ, zero, suc, _+_, _-_, _≤_, _<_}
-use mathlib.Core.Path.{_≡_, refl, ap, _∙_}
-use mathlib.Core.Bool.{Bool, true, false, not, Bool·not-not}
+use mathlib.Core.Path.{_≡_, refl, sym, ap, _∙_}
+use mathlib.Core.Bool.{Bool, true, false, not, Bool·not-not, true≢false}
 use mathlib.Core.List.{List}
 use mathlib.Core.Option.{Option, none, some}
 use native.Mathlib.Decide.{ℕ-discrete, decLt, decLe}
@@ -38,6 +38,20 @@ module _ (place : List ℕ) (w low : ℕ) where
             ∙ (rw (no-mark end l (omega arith)) (newest-nothing end (λ j x y. no-mark j x (omega arith))))
         | no n ↦ newest-done place w low (suc end) (omega arith)
       ]
+
+  -- Where a step is marked, downwards it or a higher one is found.
+  pub newest-above : (end j : ℕ) → low ≤ j → j < end → marked place w j ≡ true
+      → (q : ℕ) × (newestMark place w low end ≡ some q) × (j ≤ q) × (q < end)
+  newest-above zero j l u m = absurd (omega arith)
+  newest-above (suc end) j l u m = by (marked place w end) refl (λ below. newest-above end j l below m)
+    where
+      by : (b : Bool) → marked place w end ≡ b → (j < end → (q : ℕ) × (newestMark place w low end ≡ some q) × (j ≤ q) × (q < end))
+          → (q : ℕ) × (newestMark place w low (suc end) ≡ some q) × (j ≤ q) × (q < suc end)
+      by true e later = (end, newest-turn place w low end (omega arith) ∙ rw e refl, omega arith, omega arith)
+      by false e later =
+          let below : j < end = elim (ℕ-discrete j end) [ yes s ↦ absurd (true≢false (sym m ∙ (rw s e))) | no n ↦ omega arith ] in
+          let found = later below in
+          (found .0, newest-turn place w low end (omega arith) ∙ (rw e (found .1)), found .2, omega (arith, found .3))
 
 module _ (place : List ℕ) (w end : ℕ) where
   found-within : (m low q : ℕ) → q < low + m → low ≤ q → q < end → marked place w q ≡ true

@@ -1,28 +1,39 @@
--- A run, a steal and an event as the code makes them: from what its parts answer, by the laws of those parts, follows the whole
--- move.
+-- The start, and a run, a steal and an event as the code makes them: from what its parts answer, by the laws of those parts, follows
+-- the whole move.
 use Prim.Native.Nat.{ℕ, _+_, _%_, _<_}
 use mathlib.Core.Path.{_≡_, refl, sym, _∙_}
 use mathlib.Core.List.{List, []}
 use native.Mathlib.Numerals.{add-one}
 use native.Mathlib.Omega.{arith}
-use lib.ListN.{length, getD, set}
+use lib.ListN.{length, getD, set, replicate}
 use borrow.Author.Tests.{eq-eqb, ne-eqb}
-use Rattle.rules.specs.Tree.{kinds}
+use Rattle.rules.specs.Tree.{mostSteps, kinds}
+use Rattle.rules.specs.Scheduling.{mostWorkers}
+use Rattle.policy.specs.declared.Setup.{Setup}
 use Rattle.policy.specs.Contract.{mostPhases}
 use Rattle.trace.specs.declared.number.TraceNumber.{TraceNumber}
 use Rattle.run_spec.specs.declared.Stolen.{Stolen}
 use Rattle.run_spec.specs.declared.Taken.{Taken}
 use Rattle.run_spec.specs.declared.Taken.the-variants.{Of, Nothing}
 use Rattle.run_spec.specs.declared.Outcome.the-variants.{Ran, Stole, Refused}
-use Rattle.run_spec.specs.Deques.{oldestMark, robbed}
-use Rattle.run_spec.specs.Running.{runNumber, heldNext, placeNext}
+use Rattle.run_spec.specs.Deques.{unrunMark, oldestMark, robbed}
+use Rattle.run_spec.specs.Running.{noStep, runNumber, heldNext, placeNext}
 use Rattle.trace.specs.Contract.{numberBy}
 use Rattle.run_spec.specs.Stealing.{stealNumber, takenOf}
-use Rattle.run_spec.specs.Moves.{Fields, fieldsOf, moveOf, refused, takenOrdinal, ranFields, runMove, nextPhase}
-use Rattle.run_spec.specs.Moves.{robbedFields, stealMove, eventMove}
+use Rattle.run_spec.specs.Moves.{Fields, fieldsOf, moveOf, fresh, refused, takenOrdinal, ranFields, runMove}
+use Rattle.run_spec.specs.Moves.{nextPhase, robbedFields, stealMove, eventMove}
 use Rattle.run_spec.specs.Laws.Marks.{robbed-nothing}
 use Rattle.run_spec.specs.Laws.Stealing.{took-nothing, took-step}
 use Rattle.run_spec.specs.Terms.{Climbs, Hints}
+
+-- ---- the start
+
+-- The arrays that a list of events begins with are those of a start.
+pub fresh-arrays : (setup : Setup)
+    → (let none : List ℕ = replicate mostWorkers 0 in
+    fieldsOf (replicate mostSteps unrunMark) (set (replicate mostWorkers noStep) 0 0) none none none 0 setup ≡ fresh setup)
+unfolding fresh
+fresh-arrays setup = refl
 
 -- ---- a run
 
