@@ -1,5 +1,5 @@
-/* The library from C: runs tree S of docs/FORMAT.md event by event, records the same events, replays their trace, and begins a run
- * of fewer workers. README.md says how to build it; examples/frame.txt is what it prints. */
+/* The library from C: runs tree S of docs/FORMAT.md event by event, records the same events, replays their trace, begins a run of
+ * fewer workers and makes a schedule for them. README.md says how to build it; examples/frame.txt is what it prints. */
 #include <inttypes.h>
 #include <stdio.h>
 
@@ -128,5 +128,18 @@ int main(void)
         return 1;
     printf("\nof %d workers %zu are idle\n", start.state.workers, frame_idle(start.state).count);
     FrameOutcome did = frame_event_in_place(&start.state, tree, sizeof tree, 4, 0);
-    return !refused("an event", did.number, did.position);
+    if (!refused("an event", did.number, did.position))
+        return 1;
+
+    /* A schedule for them, made from a seed: recording takes its events, which run every step. */
+    uint8_t made[FRAME_EVENTS_BYTES(STEPS)];
+    FrameSchedule schedule = frame_schedule(tree, sizeof tree, FRAME_WORK_FIRST, 4, 1640531527, made, sizeof made);
+    if (refused("the schedule", schedule.number, schedule.position))
+        return 1;
+    recorded = frame_record(tree, sizeof tree, FRAME_WORK_FIRST, 4, made, 2 * schedule.events, log, sizeof log, trace,
+                            sizeof trace);
+    if (refused("recording", recorded.number, recorded.position))
+        return 1;
+    printf("\na schedule of %zu events, %s\n", schedule.events, recorded.finished ? "finished" : "not finished");
+    return 0;
 }

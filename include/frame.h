@@ -1,6 +1,6 @@
-/* The C interface of the library, for C11 and C++11 or later on x86-64 Linux: a run event by event, recording and replay, and at
- * the end the questions about a tree. Link libframe.a, which bin/library makes; it needs memcpy and memset alone.
- * docs/FORMAT.md has the formats of tree, events, trace, log and run list, and the rules; examples/frame.c is an example.
+/* The C interface of the library, for C11 and C++11 or later on x86-64 Linux: a run event by event, recording and replay, the
+ * schedule maker, and at the end the questions about a tree. Link libframe.a, which bin/library makes; it needs memcpy and memset
+ * alone. docs/FORMAT.md has the formats of tree, events, trace, log and run list, and the rules; examples/frame.c is an example.
  *
  * What holds of every call:
  * - Any bytes and any numbers are safe. A call answers or refuses, and always ends.
@@ -25,7 +25,7 @@ extern "C" {
 
 /* Rises with each change of this header that a caller can see; docs/FORMAT.md lists them. 1 was the header without a version and
  * without a worker count. */
-#define FRAME_VERSION 2
+#define FRAME_VERSION 3
 
 /* Limits. */
 #define FRAME_MOST_STEPS 4095   /* of a tree, which has a record for each */
@@ -37,11 +37,12 @@ extern "C" {
 
 /* The bytes of a tree of n steps and of buffers to lend for it, as lengths of arrays: uint8_t trace[FRAME_TRACE_BYTES(n)]. Record
  * asks for 2 (n - 1) bytes of trace, which is none for one step. C has no array of none, so FRAME_TRACE_BYTES is one more: only a
- * short buffer is refused. */
+ * short buffer is refused. A schedule has at most n + (n - 1) / 2 events of 2 bytes each. */
 #define FRAME_TREE_BYTES(n) (8u * (n))
 #define FRAME_LOG_BYTES(n) (4u * (n))
 #define FRAME_TRACE_BYTES(n) (2u * ((n) - 1u) + 1u)
 #define FRAME_LIST_BYTES(n) (4u * (n))
+#define FRAME_EVENTS_BYTES(n) (3u * (n) - 1u)
 
 /* The kind of a tree's record. */
 enum {
@@ -66,7 +67,7 @@ typedef enum FrameRefusal {
     FRAME_REFUSED_OPEN_TASKS = 4,    /* a tree record opens a task while 64 are open */
     FRAME_REFUSED_ROOT = 5,          /* a record follows the root's end; or the root is still open at the end */
     FRAME_REFUSED_INPUT_LENGTH = 6,  /* the events or the trace are not whole records or too many */
-    FRAME_REFUSED_OUTPUT_LENGTH = 7, /* a lent output is short: 4 n bytes for log or run list, 2 (n - 1) for a trace */
+    FRAME_REFUSED_OUTPUT_LENGTH = 7, /* a lent output is short: 4 n bytes for log or run list, 2 (n - 1) for a trace, 3 n - 1 for events */
     FRAME_REFUSED_WORKER = 8,        /* a record names a worker at or above the run's count */
     FRAME_REFUSED_IDLE = 9,          /* a run event names an idle worker */
     FRAME_REFUSED_WAITS = 10,        /* a run event names a worker that waits */
@@ -150,6 +151,12 @@ typedef struct FrameReplay {
     size_t heaviest;
 } FrameReplay;
 
+typedef struct FrameSchedule {
+    size_t number;
+    size_t position;
+    size_t events; /* count of events, of 2 bytes each */
+} FrameSchedule;
+
 /* Begins a run of so many workers, 1 to FRAME_WORKERS: worker 0 holds step 0, the others are idle. The state keeps the count for
  * its events. Refuses with 1, 16 and 2 to 5; the state is all 0 then. */
 FrameStart frame_start(const uint8_t *tree, size_t tree_len, uint8_t policy, uint8_t workers);
@@ -178,6 +185,14 @@ FrameRecord frame_record(const uint8_t *tree, size_t tree_len, uint8_t policy, u
  * FRAME_LIST_BYTES(n). Refuses with 1, 16, 2 to 8 and 13 to 15. */
 FrameReplay frame_replay(const uint8_t *tree, size_t tree_len, uint8_t policy, uint8_t workers, const uint8_t *trace,
                          size_t trace_len, uint8_t *list, size_t list_len);
+
+/* Makes a schedule for so many workers: a list of events that frame_record, with the same tree, policy and count, accepts and
+ * finishes. The events stand at the front of the buffer; the bytes beyond keep what they held. events_len must be at least
+ * FRAME_EVENTS_BYTES(n), however few the events, and frame_record takes 2 bytes for each of them, not all that was lent. Any number
+ * is a seed. One seed gives one list, now and later: the same arguments make the same events in every version of the library, by
+ * the rule of docs/FORMAT.md. Another seed may give another list. Refuses with 1, 16, 2 to 5 and 7. */
+FrameSchedule frame_schedule(const uint8_t *tree, size_t tree_len, uint8_t policy, uint8_t workers, uint32_t seed,
+                             uint8_t *events, size_t events_len);
 
 /* Questions about a tree. frame_tree says whether it is one. The others refuse nothing and read the tree again at each call; where
  * frame_tree refuses it, or it has no such step, their answers mean nothing beyond what is said below. */

@@ -51,6 +51,10 @@ static void types(void)
     FIELD(FrameReplay, phases);
     FIELD(FrameReplay, loads);
     FIELD(FrameReplay, heaviest);
+    TYPE(FrameSchedule);
+    FIELD(FrameSchedule, number);
+    FIELD(FrameSchedule, position);
+    FIELD(FrameSchedule, events);
     TYPE(FrameTree);
     FIELD(FrameTree, number);
     FIELD(FrameTree, position);
@@ -77,11 +81,13 @@ static void constants(void)
     NUMBER(FRAME_LOG_BYTES(4095));
     NUMBER(FRAME_TRACE_BYTES(4095));
     NUMBER(FRAME_LIST_BYTES(4095));
+    NUMBER(FRAME_EVENTS_BYTES(4095));
     NUMBER(FRAME_TRACE_BYTES(1));
     NUMBER(FRAME_TREE_BYTES(1|2));
     NUMBER(FRAME_LOG_BYTES(1|2));
     NUMBER(FRAME_TRACE_BYTES(1|2));
     NUMBER(FRAME_LIST_BYTES(1|2));
+    NUMBER(FRAME_EVENTS_BYTES(1|2));
     NUMBER(FRAME_ASYNC);
     NUMBER(FRAME_FINISH);
     NUMBER(FRAME_END);

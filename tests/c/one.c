@@ -21,7 +21,7 @@ int main(void)
     static const uint8_t tree[FRAME_TREE_BYTES(1)] = { FRAME_END, 0, 0, 0, 9 };
     static const uint8_t events[2] = { 0, 0 };
     uint8_t log[FRAME_LOG_BYTES(1)] = { 7, 7, 7, 7 }, trace[FRAME_TRACE_BYTES(1)] = { 7 };
-    uint8_t list[FRAME_LIST_BYTES(1)] = { 7, 7, 7, 7 };
+    uint8_t list[FRAME_LIST_BYTES(1)] = { 7, 7, 7, 7 }, made[FRAME_EVENTS_BYTES(1)] = { 7, 7 };
 
     for (uint8_t policy = FRAME_WORK_FIRST; policy <= FRAME_HELP_FIRST; policy++) {
         FrameRecord recorded = frame_record(tree, sizeof tree, policy, 1, events, sizeof events, log, sizeof log, trace,
@@ -34,6 +34,8 @@ int main(void)
         FrameReplay replayed = frame_replay(tree, sizeof tree, policy, 1, trace, 4 * recorded.steals, list, sizeof list);
         EXPECT(replayed.number == FRAME_ACCEPTED && replayed.phases == 1 && replayed.loads[0] == 9);
         EXPECT(list[0] == 0 && list[1] == 0 && list[2] == 0 && list[3] == 0);
+        FrameSchedule schedule = frame_schedule(tree, sizeof tree, policy, FRAME_WORKERS, 9, made, sizeof made);
+        EXPECT(schedule.number == FRAME_ACCEPTED && schedule.events == 1 && made[0] == 0 && made[1] == 0);
     }
     return failures > 0;
 }

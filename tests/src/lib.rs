@@ -1,8 +1,8 @@
 //! A plain reference simulator of document 01, with a worker count for each
-//! run as document 02 has it: reading a task tree, running it under scheduler
-//! events, recording, replaying, and the listing program. It is written from
-//! these two documents alone and shares no code with the library it is meant
-//! to test.
+//! run and the schedule maker as document 02 has them: reading a task tree,
+//! running it under scheduler events, recording, replaying, making schedules,
+//! and the listing program. It is written from these two documents alone and
+//! shares no code with the library it is meant to test.
 
 pub mod cover;
 pub mod phases;
@@ -10,9 +10,11 @@ pub mod random;
 pub mod record;
 pub mod replay;
 pub mod run;
+pub mod schedule;
 pub mod tree;
 
 pub use record::{record, RecordAnswer};
 pub use replay::{replay, ReplayAnswer};
 pub use run::{Policy, Run};
+pub use schedule::{schedule, ScheduleAnswer};
 pub use tree::{Refusal, Tree};

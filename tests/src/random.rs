@@ -76,6 +76,19 @@ pub fn worker_at_the_edge(rng: &mut Rng, count: usize) -> u8 {
     rng.pick(&[count - 1, count, count + 1, 15, 16, 255])
 }
 
+// ---- Seeds ----
+
+/// A seed of the schedule maker: any, or one whose first draws are at an edge.
+/// From 1,640,531,527 the sum is 2 to the power 32.
+pub fn any_seed(rng: &mut Rng) -> u32 {
+    let edges = [0, 1, 1_640_531_526, 1_640_531_527, 1_640_531_528, 1 << 31, u32::MAX];
+    if rng.percent(30) {
+        rng.pick(&edges)
+    } else {
+        rng.next() as u32
+    }
+}
+
 // ---- Trees ----
 
 #[derive(Clone, Copy, Debug, PartialEq, Eq)]

@@ -9,11 +9,12 @@ use std::path::{Path, PathBuf};
 const DOCUMENT: &str = "docs/ARCHITECTURE.md";
 
 /// The entries in Rattle, by source. Those for C are found by their mark.
-const ENTRIES: [(&str, &[&str]); 10] = [
+const ENTRIES: [(&str, &[&str]); 11] = [
     ("crates/run_state/src/start.rt", &["start"]),
     ("crates/run_state/src/lib.rt", &["run", "steal", "event", "idle"]),
     ("crates/record/src/lib.rt", &["record"]),
     ("crates/replay/src/lib.rt", &["replay"]),
+    ("crates/schedule/src/lib.rt", &["schedule"]),
     ("crates/phases_text/src/lib.rt", &["list_phases"]),
     ("crates/tree/src/lib.rt", &["steps", "kind", "weight"]),
     ("crates/tree/src/validation.rt", &["accept"]),
@@ -147,8 +148,9 @@ fn statements(whole: &str) -> Vec<String> {
 
 // ---- Pages ----
 
-/// The page with two theorems, demand 3 and the worker count; every other has one.
-const BOTH: &str = "crates/agreement/specs/Theorem.antt";
+/// The pages with two theorems: demand 3 and the worker count; progress of a state with the invariant, and of one that events lead
+/// to. Every other has one.
+const TWO: [&str; 2] = ["crates/agreement/specs/Theorem.antt", "crates/run_progress/specs/Theorem.antt"];
 
 /// Every page to be believed, with what names it: an entry, a theorem or another page.
 fn believed() -> BTreeMap<String, String> {
@@ -161,11 +163,11 @@ fn believed() -> BTreeMap<String, String> {
         }
     }
     let theorems: Vec<String> = files("crates").into_iter().filter(|name| name.ends_with("/specs/Theorem.antt")).collect();
-    assert_eq!(theorems.len(), 4, "{theorems:#?}");
+    assert_eq!(theorems.len(), 6, "{theorems:#?}");
     for theorem in theorems {
         let whole = text(&theorem, "--");
         let statements = statements(&whole);
-        assert_eq!(statements.len(), if theorem == BOTH { 2 } else { 1 }, "{theorem}");
+        assert_eq!(statements.len(), if TWO.contains(&&theorem[..]) { 2 } else { 1 }, "{theorem}");
         for statement in statements {
             from.extend(named(&whole, &statement).into_iter().map(|page| (page, theorem.clone())));
         }

@@ -1,12 +1,16 @@
-//! The examples of document 01, and worked cases of a run's own worker count.
+//! The examples of document 01, and worked cases of a run's own worker count
+//! and of the schedule maker.
 
 #[path = "library/counts.rs"]
 mod counts;
+#[path = "library/schedules.rs"]
+mod schedules;
 
 use frame_tests::random::tree_of_kinds;
 use frame_tests::record::{record, record_to_vecs, RecordAnswer};
 use frame_tests::replay::{replay, replay_to_vecs, ReplayAnswer};
 use frame_tests::run::Run;
+use frame_tests::schedule::{schedule, Maker, ScheduleAnswer};
 use frame_tests::tree::{Kind, TaskKind, Tree};
 
 /// Tree S.
@@ -307,4 +311,72 @@ fn help_first_by_one_worker() {
     assert!(answer.finished);
     assert_eq!(log.chunks(4).map(|r| r[2]).collect::<Vec<_>>(), [0, 2, 3, 5, 4, 6, 1]);
     assert!(trace.is_empty());
+}
+
+#[test]
+fn worked_cases_of_the_maker() {
+    for (policy, workers, kinds, seed, list) in schedules::LISTS {
+        let tree = tree_of_kinds(kinds);
+        let case = format!("policy {policy}, {workers} workers, {kinds:?}, seed {seed}");
+        let mut events = vec![0xEE; 3 * kinds.len() + 2];
+        let answer = schedule(policy, workers, &tree, seed, &mut events);
+        let count = list.len() / 2;
+        assert_eq!(answer, ScheduleAnswer { number: 0, position: 0, events: count }, "{case}");
+        assert_eq!(events[..list.len()], *list, "{case}");
+        assert!(events[list.len()..].iter().all(|&byte| byte == 0xEE), "{case}");
+        let (recorded, _, _) = record_to_vecs(policy, workers, &tree, list);
+        assert!(recorded.number == 0 && recorded.finished, "{case}");
+    }
+    for (policy, workers, kinds, room, want) in schedules::ROOM {
+        for seed in [0, 1, 1_640_531_527, u32::MAX] {
+            let mut events = vec![0xEE; room];
+            let answer = schedule(policy, workers, &tree_of_kinds(kinds), seed, &mut events);
+            let case = format!("policy {policy}, {workers} workers, {kinds:?}, {room} bytes");
+            assert_eq!(refusal(answer.number, answer.position), want, "{case}");
+            if answer.number != 0 {
+                assert_eq!(answer.events, 0, "{case}");
+                assert_eq!(events, vec![0xEE; room], "{case}");
+            }
+        }
+    }
+}
+
+/// The list that docs/FORMAT.md decodes is the first worked case.
+#[test]
+fn the_schedule_of_the_format() {
+    let page = concat!(env!("CARGO_MANIFEST_DIR"), "/../docs/FORMAT.md");
+    let page = std::fs::read_to_string(page).unwrap();
+    let example = page.split_once("\n## A schedule by hand\n").unwrap().1;
+    let events = example.lines().filter_map(|line| line.strip_prefix("    "));
+    let bytes = events.flat_map(|line| line.split(' ').take(2));
+    let bytes: Vec<u8> = bytes.map(|byte| u8::from_str_radix(byte, 16).unwrap()).collect();
+    assert_eq!(bytes, schedules::LISTS[0].4);
+}
+
+/// The first worked case round by round.
+#[test]
+fn turns_of_sixteen_workers() {
+    let mut maker = Maker::new(Run::start(1, 16, &s()).unwrap(), 1_640_531_527);
+    // The first draw is 0 and names worker 0, which has just pushed step 2.
+    maker.turn(0);
+    maker.turn(1);
+    assert_eq!((maker.seed, maker.run.workers[1].held), (0, Some(2)));
+    for worker in 2..16 {
+        maker.turn(worker);
+    }
+    assert_eq!((maker.seed, &maker.events[..]), (2_802_362_398, &[[0, 0], [1, 0]][..]));
+    // The seed after each later round, and what the round writes. Worker 5
+    // waits in two of them; in the last one it alone does not draw.
+    let rounds: [(u64, &[[u8; 2]]); 4] = [
+        (1_309_757_500, &[[0, 0], [1, 1], [5, 1]]),
+        (4_112_119_898, &[[1, 1], [12, 1]]),
+        (4_260_046_527, &[[1, 1], [12, 12]]),
+        (1_126_910_102, &[[5, 5]]),
+    ];
+    for (seed, written) in rounds {
+        let before = maker.events.len();
+        maker.round();
+        assert_eq!((maker.seed, &maker.events[before..]), (seed, written));
+    }
+    assert!(maker.run.finished());
 }

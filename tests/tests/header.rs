@@ -11,19 +11,25 @@ use std::path::{Path, PathBuf};
 use std::process::Command;
 
 use frame_tests::cover::WORKERS;
-use frame_tests::record::MAX_EVENTS;
+use frame_tests::record::{EVENT_BYTES, MAX_EVENTS};
 use frame_tests::replay::{MAX_TRACE, TRACE_BYTES};
+use frame_tests::schedule::most_events;
 use frame_tests::tree::{MAX_OPEN, MAX_TREE_BYTES, TREE_RECORD};
 use library::{
-    FrameEvent, FrameIdle, FrameOutcome, FrameRecord, FrameReplay, FrameRunning, FrameStart, FrameTask, FrameTree, RunState,
+    FrameEvent, FrameIdle, FrameOutcome, FrameRecord, FrameReplay, FrameRunning, FrameSchedule, FrameStart, FrameTask, FrameTree,
+    RunState,
 };
 
 const HEADER: &str = "include/frame.h";
 const RUST: &str = "tests/tests/library/mod.rs";
 /// The crates whose functions the library exports.
-const SOURCES: [&str; 3] =
-    ["crates/frame_run/src/lib.rt", "crates/frame_traces/src/lib.rt", "crates/frame_tree/src/lib.rt"];
-/// The crate of the structs that `frame_run` and `frame_traces` answer.
+const SOURCES: [&str; 4] = [
+    "crates/frame_run/src/lib.rt",
+    "crates/frame_traces/src/lib.rt",
+    "crates/frame_schedule/src/lib.rt",
+    "crates/frame_tree/src/lib.rt",
+];
+/// The crate of the structs that `frame_run`, `frame_traces` and `frame_schedule` answer.
 const SOURCE_OF_ANSWERS: &str = "crates/frame_answers/src/lib.rt";
 const SOURCE_OF_STATE: &str = "crates/run_state/src/lib.rt";
 /// The crates of the constants that are lengths of arrays in these structs.
@@ -84,6 +90,7 @@ fn c_types(rust: &str) -> &[&str] {
         "FrameIdle" => &["FrameIdle"],
         "FrameRecord" => &["FrameRecord"],
         "FrameReplay" => &["FrameReplay"],
+        "FrameSchedule" => &["FrameSchedule"],
         _ => panic!("which type of C is {rust}?"),
     }
 }
@@ -205,6 +212,7 @@ fn layout() -> BTreeMap<String, Vec<usize>> {
     layout!(lines, "FrameIdle", FrameIdle { set, count, lowest });
     layout!(lines, "FrameRecord", FrameRecord { number, position, logs, steals, finished, loads, heaviest });
     layout!(lines, "FrameReplay", FrameReplay { number, position, phases, loads, heaviest });
+    layout!(lines, "FrameSchedule", FrameSchedule { number, position, events });
     layout!(lines, "FrameTree", FrameTree { number, position, steps });
     layout!(lines, "FrameTask", FrameTask { first, ordinal });
     layout!(lines, "FrameRunning", FrameRunning { opens, hold, push });
@@ -230,9 +238,10 @@ fn format_fields(heading: &str, offset: usize, bytes: usize) -> Vec<Vec<usize>> 
 #[test]
 fn the_layouts_of_the_format() {
     assert_eq!(format_fields("| offset | bytes | meaning |", 0, 1), fields("FrameState"));
-    let answers = "| offset, record | offset, replay | bytes | meaning |";
-    assert_eq!(format_fields(answers, 0, 2), fields("FrameRecord"));
-    assert_eq!(format_fields(answers, 1, 2), fields("FrameReplay"));
+    let answers = "| offset, record | offset, replay | offset, schedule | bytes | meaning |";
+    assert_eq!(format_fields(answers, 0, 3), fields("FrameRecord"));
+    assert_eq!(format_fields(answers, 1, 3), fields("FrameReplay"));
+    assert_eq!(format_fields(answers, 2, 3), fields("FrameSchedule"));
 }
 
 /// The fields of a state cover it from its first byte to its last.
@@ -276,6 +285,7 @@ fn constants() -> BTreeMap<String, Vec<usize>> {
         // A byte more than is asked for.
         ("FRAME_TRACE_BYTES(4095)", TRACE_BYTES * MAX_TRACE + 1),
         ("FRAME_LIST_BYTES(4095)", 4 * steps),
+        ("FRAME_EVENTS_BYTES(4095)", EVENT_BYTES * most_events(steps)),
         // Never 0, which no array may have.
         ("FRAME_TRACE_BYTES(1)", 1),
         // An argument is taken whole.
@@ -283,6 +293,7 @@ fn constants() -> BTreeMap<String, Vec<usize>> {
         ("FRAME_LOG_BYTES(1|2)", 3 * 4),
         ("FRAME_TRACE_BYTES(1|2)", TRACE_BYTES + 1),
         ("FRAME_LIST_BYTES(1|2)", 3 * 4),
+        ("FRAME_EVENTS_BYTES(1|2)", EVENT_BYTES * most_events(3)),
         ("FRAME_ASYNC", 1),
         ("FRAME_FINISH", 2),
         ("FRAME_END", 3),

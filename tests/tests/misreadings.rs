@@ -1,10 +1,14 @@
 //! Each misreading named in document 01, and those that a run's own worker
-//! count invites, each with a case it would fail.
+//! count and the schedule maker invite, each with a case it would fail.
+
+#[path = "library/schedules.rs"]
+mod schedules;
 
 use frame_tests::random::tree_of_kinds;
 use frame_tests::record::record_to_vecs;
 use frame_tests::replay::replay_to_vecs;
 use frame_tests::run::Run;
+use frame_tests::schedule::{schedule, schedule_to_vec};
 use frame_tests::tree::Refusal;
 
 fn s() -> Vec<u8> {
@@ -352,5 +356,123 @@ fn a_count_that_is_high_enough() {
     for workers in 3..16 {
         assert_eq!(record_to_vecs(1, workers, &s(), &events), recorded);
         assert_eq!(replay_to_vecs(1, workers, &s(), &recorded.2), replayed);
+    }
+}
+
+/// A way to read the schedule maker's rule.
+#[derive(Clone, Copy)]
+struct Reading {
+    /// So many rounds for a tree of so many steps.
+    rounds: fn(usize) -> usize,
+    /// Whose turn it is, at which place of a round of how many workers.
+    worker: fn(u8, u8) -> u8,
+    /// Whether the worker draws in its turn.
+    draws: fn(&Run, usize) -> bool,
+    /// Which seed a worker has.
+    seed_of: fn(u8) -> usize,
+    /// The next seed.
+    next: fn(u64) -> u64,
+    /// The victim named by the seed before the draw and the one after it, with
+    /// the count of workers.
+    victim: fn(u64, u64, u8) -> u64,
+    /// The seed that stays where there is no steal, of the same two.
+    missed: fn(u64, u64) -> u64,
+    /// A turn draws so often at most.
+    draws_of_a_turn: usize,
+    /// A worker that holds a step runs so often at most.
+    runs_of_a_turn: usize,
+    /// Whether a thief goes on to run its step.
+    thief_runs: bool,
+}
+
+const RIGHT: Reading = Reading {
+    rounds: |steps| steps,
+    worker: |place, _| place,
+    draws: |run, worker| run.is_idle(worker),
+    seed_of: |_| 0,
+    next: |seed| (seed + 2_654_435_769) % (1 << 32),
+    victim: |_, seed, _| seed >> 28,
+    missed: |_, seed| seed,
+    draws_of_a_turn: 1,
+    runs_of_a_turn: 1,
+    thief_runs: false,
+};
+
+/// The list for a worked case, read so.
+fn list_by(reading: Reading, (policy, workers, kinds, seed, _): schedules::Case) -> Vec<u8> {
+    let mut run = Run::start(policy, workers, &tree_of_kinds(kinds)).unwrap();
+    let mut seeds = vec![u64::from(seed); workers.into()];
+    let mut list = Vec::new();
+    // What the run refuses is not written.
+    let mut write = |run: &mut Run, worker: u8, other: u8| {
+        let accepted = run.event(worker, other).is_ok();
+        if accepted {
+            list.extend([worker, other]);
+        }
+        accepted
+    };
+    for place in (0..(reading.rounds)(kinds.len())).flat_map(|_| 0..workers) {
+        let worker = (reading.worker)(place, workers);
+        let idle = run.is_idle(worker.into());
+        let draws = if (reading.draws)(&run, worker.into()) { reading.draws_of_a_turn } else { 0 };
+        for _ in 0..draws {
+            let seed = &mut seeds[(reading.seed_of)(worker)];
+            let old = std::mem::replace(seed, (reading.next)(*seed));
+            let victim = (reading.victim)(old, *seed, workers).min(255) as u8;
+            if idle && write(&mut run, worker, victim) {
+                break;
+            }
+            *seed = (reading.missed)(old, *seed);
+        }
+        let runs = if idle { usize::from(reading.thief_runs) } else { reading.runs_of_a_turn };
+        for _ in 0..runs {
+            write(&mut run, worker, worker);
+        }
+    }
+    list
+}
+
+/// Each misreading of the maker, with a worked case for which it makes another
+/// list.
+#[test]
+fn misread_schedules() {
+    for case in schedules::LISTS {
+        assert_eq!(list_by(RIGHT, case), case.4, "{:?}", case);
+    }
+    let modulo: fn(u64, u64, u8) -> u64 = |_, seed, count| (seed >> 28) % u64::from(count);
+    let other_sum: fn(u64) -> u64 = |seed| (seed + 2_654_435_768) % (1 << 32);
+    let waiting: fn(&Run, usize) -> bool = |run, worker| run.is_idle(worker) || run.waits(worker);
+    let misreadings = [
+        ("the seed before the addition", 0, Reading { victim: |old, _, _| old >> 28, ..RIGHT }),
+        ("another number is added", 0, Reading { next: other_sum, ..RIGHT }),
+        ("no modulo", 0, Reading { next: |seed| seed + 2_654_435_769, ..RIGHT }),
+        ("the low four bits", 0, Reading { victim: |_, seed, _| seed % 16, ..RIGHT }),
+        ("the draw modulo the count", 1, Reading { victim: modulo, ..RIGHT }),
+        ("a seed for each worker", 2, Reading { seed_of: usize::from, ..RIGHT }),
+        ("a miss leaves the seed", 3, Reading { missed: |old, _| old, ..RIGHT }),
+        ("another draw after a miss", 3, Reading { draws_of_a_turn: 2, ..RIGHT }),
+        ("one who waits draws", 5, Reading { draws: waiting, ..RIGHT }),
+        ("everybody draws", 4, Reading { draws: |_, _| true, ..RIGHT }),
+        ("a thief runs at once", 0, Reading { thief_runs: true, ..RIGHT }),
+        ("a turn runs on", 4, Reading { runs_of_a_turn: 7, ..RIGHT }),
+        ("from worker 1 on", 0, Reading { worker: |place, n| (place + 1) % n, ..RIGHT }),
+        ("in falling order", 1, Reading { worker: |place, n| n - 1 - place, ..RIGHT }),
+        ("a round fewer than steps", 6, Reading { rounds: |steps| steps - 1, ..RIGHT }),
+    ];
+    for (misread, case, reading) in misreadings {
+        let case = schedules::LISTS[case];
+        assert_ne!(list_by(reading, case), case.4, "{}", misread);
+    }
+}
+
+/// The answer counts events and not bytes. The room is asked for the most
+/// events that a list can have, not for the steps alone and not for this list.
+#[test]
+fn count_and_room_of_a_schedule() {
+    let (answer, list) = schedule_to_vec(1, 16, &s(), 1_640_531_527);
+    assert_eq!((answer.events, list.len()), (10, 20));
+    // One worker makes a list of 14 bytes.
+    for (room, number) in [(14, 7), (19, 7), (20, 0)] {
+        assert_eq!(schedule(1, 1, &s(), 0, &mut vec![0; room]).number, number);
     }
 }

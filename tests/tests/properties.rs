@@ -7,6 +7,7 @@ use frame_tests::random::{self, Plan, Rng, Shape, Weights, SHAPES};
 use frame_tests::record::{record, record_to_vecs, MAX_EVENTS};
 use frame_tests::replay::{replay_to_vecs, Replay};
 use frame_tests::run::{Policy, Run};
+use frame_tests::schedule::{most_events, schedule, schedule_to_vec, Maker, ScheduleAnswer};
 use frame_tests::tree::{Kind, Tree};
 
 /// Names the seed if the test fails while this lives.
@@ -608,6 +609,175 @@ fn counts_beside_16() {
                         assert_eq!((answer.0.number, answer.0.position), want);
                     }
                     _ => assert_eq!(answer, replayed),
+                }
+            }
+        }
+    });
+}
+
+/// One turn of the maker, in document 02's words.
+fn one_turn(maker: &mut Maker, worker: usize) {
+    let before = maker.clone();
+    maker.turn(worker as u8);
+    let written = &maker.events[before.events.len()..];
+    let mut seed = before.seed;
+    let mut event = None;
+    if before.run.is_idle(worker) {
+        seed = (seed + 2_654_435_769) % 4_294_967_296;
+        let victim = (seed / 268_435_456) as usize;
+        let victims = &before.run.workers;
+        if victim != worker && victim < victims.len() && !victims[victim].deque.is_empty() {
+            event = Some([worker as u8, victim as u8]);
+        }
+    } else if !before.run.waits(worker) {
+        event = Some([worker as u8, worker as u8]);
+    }
+    assert_eq!(maker.seed, seed);
+    assert_eq!(written, event.as_slice());
+    if event.is_none() {
+        let (run, same) = (&maker.run, &before.run);
+        assert_eq!((&run.workers, &run.phases), (&same.workers, &same.phases));
+        assert_eq!((&run.log, &run.trace), (&same.log, &same.trace));
+    }
+}
+
+/// A schedule made round by round; the rounds end, and the call writes the
+/// same list, which is accepted, finishes, is short enough and replays. Hands
+/// back the count of steals.
+fn made_schedule(policy: u8, workers: u8, tree: &[u8], seed: u32, mut turns: bool) -> usize {
+    let mut maker = Maker::new(Run::start(policy, workers, tree).unwrap(), seed);
+    let n = maker.run.tree.count();
+    let mut rounds = 0;
+    while !maker.run.finished() {
+        let ran = maker.run.log.len();
+        if turns {
+            (0..workers.into()).for_each(|worker| one_turn(&mut maker, worker));
+        } else {
+            maker.round();
+        }
+        // Somebody has run a step, so the rounds end.
+        assert!(maker.run.log.len() > ran);
+        sound_state(&maker.run);
+        rounds += 1;
+        // The whole view of a large run is taken in its first rounds alone.
+        turns = turns && (n < 100 || rounds < 5);
+    }
+    assert!(rounds <= n);
+    let events = maker.events.concat();
+    assert!(maker.events.len() <= most_events(n));
+    assert_eq!(maker.events.len(), n + maker.run.trace.len());
+    same_phases(policy, tree, &maker.run, &events);
+    let (answer, list) = schedule_to_vec(policy, workers, tree, seed);
+    assert_eq!(answer, ScheduleAnswer { number: 0, position: 0, events: maker.events.len() });
+    assert_eq!(list, events);
+    // Behind the last step nothing more is written.
+    maker.round();
+    assert_eq!(maker.events.concat(), events);
+    maker.run.trace.len()
+}
+
+#[test]
+fn made_small_schedules() {
+    let mut full = 0;
+    for_seeds(120_000..121_500, |seed| {
+        let mut rng = Rng::new(seed);
+        let tasks = rng.between(0, 25);
+        let tree = random::tree(&mut rng, tasks);
+        for policy in [1, 2] {
+            let (workers, seed) = (rng.between(1, 16) as u8, random::any_seed(&mut rng));
+            let steals = made_schedule(policy, workers, &tree, seed, true);
+            assert!(workers > 1 || steals == 0);
+            full += usize::from(tasks > 0 && steals == tasks);
+        }
+    });
+    // Lists as long as they can be.
+    assert!(full > 100, "{} full lists", full);
+}
+
+/// Full trees of every shape, and smaller ones.
+#[test]
+fn made_large_schedules() {
+    for_seeds(125_000..125_024, |seed| {
+        let mut rng = Rng::new(seed);
+        let shape = SHAPES[seed as usize % 4];
+        let tasks = if seed % 8 < 4 { 2_047 } else { rng.between(100, 2_047) };
+        let finish = rng.pick(&[0, 20, 50, 100]);
+        let tree = random::tree_with(&mut rng, shape, tasks, finish, Weights::Mixed);
+        for policy in [1, 2] {
+            let workers = rng.pick(&[1, 2, 3, 8, 15, 16]);
+            made_schedule(policy, workers, &tree, random::any_seed(&mut rng), true);
+        }
+    });
+}
+
+/// All trees with up to four spawned tasks.
+#[test]
+fn all_small_trees_are_scheduled() {
+    let mut rng = Rng::new(126_000);
+    for tasks in 0..=4 {
+        for tree in random::all_trees(tasks) {
+            for (policy, workers) in [(1, 2), (2, 2), (1, 3), (2, 5), (1, 16), (2, 16)] {
+                made_schedule(policy, workers, &tree, random::any_seed(&mut rng), true);
+            }
+        }
+    }
+}
+
+/// Nobody is there to steal from, so the seed does not matter.
+#[test]
+fn schedules_of_one_worker() {
+    for_seeds(127_000..127_100, |seed| {
+        let mut rng = Rng::new(seed);
+        let tasks = rng.between(0, 40);
+        let tree = random::tree(&mut rng, tasks);
+        for policy in [1, 2] {
+            let (answer, list) = schedule_to_vec(policy, 1, &tree, random::any_seed(&mut rng));
+            assert_eq!(answer.events, 2 * tasks + 1);
+            assert!(list.iter().all(|&worker| worker == 0));
+        }
+    });
+}
+
+/// One scene has many schedules, and one seed makes one of them.
+#[test]
+fn seeds_make_many_schedules() {
+    let mut rng = Rng::new(128_000);
+    let tree = random::tree_with(&mut rng, Shape::Balanced, 100, 30, Weights::One);
+    for policy in [1, 2] {
+        let mut seen = HashSet::new();
+        for _ in 0..1_000 {
+            let seed = rng.next() as u32;
+            let made = schedule_to_vec(policy, 8, &tree, seed);
+            assert_eq!(schedule_to_vec(policy, 8, &tree, seed), made);
+            seen.insert(made.1);
+        }
+        assert!(seen.len() > 300, "{} lists", seen.len());
+    }
+}
+
+/// Every length of the lent list: short ones keep their bytes, and so do the
+/// bytes behind the list.
+#[test]
+fn rooms_for_schedules() {
+    for_seeds(129_000..129_200, |seed| {
+        let mut rng = Rng::new(seed);
+        let tasks = rng.between(0, 12);
+        let tree = random::tree(&mut rng, tasks);
+        for policy in [1, 2] {
+            let (workers, seed) = (rng.between(1, 16) as u8, random::any_seed(&mut rng));
+            let (made, events) = schedule_to_vec(policy, workers, &tree, seed);
+            let needed = 2 * most_events(2 * tasks + 1);
+            assert_eq!(needed, 3 * (2 * tasks + 1) - 1);
+            for room in 0..needed + 4 {
+                let lent = rng.bytes(room);
+                let mut list = lent.clone();
+                let answer = schedule(policy, workers, &tree, seed, &mut list);
+                if room < needed {
+                    assert_eq!(answer, ScheduleAnswer { number: 7, position: 0, events: 0 });
+                    assert_eq!(list, lent);
+                } else {
+                    assert_eq!(answer, made);
+                    assert_eq!(list, [&events[..], &lent[events.len()..]].concat());
                 }
             }
         }

@@ -4,6 +4,7 @@ use frame_tests::random::tree_of_kinds;
 use frame_tests::record::{record, RecordAnswer};
 use frame_tests::replay::{replay, ReplayAnswer};
 use frame_tests::run::Run;
+use frame_tests::schedule::{schedule, ScheduleAnswer};
 use frame_tests::tree::{Refusal, Tree};
 
 fn s() -> Vec<u8> {
@@ -64,7 +65,29 @@ fn replay_refusal_with(
     (answer.number, answer.position)
 }
 
-/// The refusal of a tree, the same from the start, record and replay.
+/// The refusal of a schedule call with any seed and an ample buffer.
+fn schedule_refusal_of(policy: u8, workers: u8, tree: &[u8]) -> (u32, usize) {
+    schedule_refusal_with(policy, workers, tree, 3 * 4_095 - 1)
+}
+
+/// All other results are 0 and the buffer keeps its bytes, whatever the seed.
+fn schedule_refusal_with(policy: u8, workers: u8, tree: &[u8], room: usize) -> (u32, usize) {
+    let refusals = [0, 1_640_531_527, u32::MAX].map(|seed| {
+        let mut events = vec![0xA5; room];
+        let answer = schedule(policy, workers, tree, seed, &mut events);
+        if answer.number != 0 {
+            let (number, position) = (answer.number, answer.position);
+            assert_eq!(answer, ScheduleAnswer { number, position, events: 0 });
+            assert!(events.iter().all(|&byte| byte == 0xA5));
+        }
+        (answer.number, answer.position)
+    });
+    assert!(refusals.iter().all(|&refusal| refusal == refusals[0]), "{:?}", refusals);
+    refusals[0]
+}
+
+/// The refusal of a tree, the same from the start, record, replay and the
+/// schedule maker.
 fn tree_refusal(tree: &[u8]) -> (u32, usize) {
     let seen = match Tree::parse(tree) {
         Ok(_) => (0, 0),
@@ -77,6 +100,7 @@ fn tree_refusal(tree: &[u8]) -> (u32, usize) {
     assert_eq!(seen, start);
     assert_eq!(seen, record_refusal(1, tree, &[]));
     assert_eq!(seen, replay_refusal(2, tree, &[]));
+    assert_eq!(seen, schedule_refusal_of(1, 16, tree));
     seen
 }
 
@@ -85,13 +109,15 @@ fn refusal_1() {
     for policy in [0, 3, 4, 255] {
         assert_eq!(record_refusal(policy, &s(), &[]), (1, 0));
         assert_eq!(replay_refusal(policy, &s(), &[]), (1, 0));
+        assert_eq!(schedule_refusal_of(policy, 16, &s()), (1, 0));
         assert_eq!(Run::start(policy, 16, &s()).unwrap_err(), Refusal::new(1, 0));
         // 1 before 2.
         assert_eq!(record_refusal(policy, &[], &[1]), (1, 0));
+        assert_eq!(schedule_refusal_of(policy, 16, &[]), (1, 0));
     }
 }
 
-/// The refusal of a start, the same from record and replay.
+/// The refusal of a start, the same from record, replay and the schedule maker.
 fn start_refusal(policy: u8, workers: u8, tree: &[u8]) -> (u32, usize) {
     let start = match Run::start(policy, workers, tree) {
         Ok(_) => (0, 0),
@@ -99,6 +125,7 @@ fn start_refusal(policy: u8, workers: u8, tree: &[u8]) -> (u32, usize) {
     };
     assert_eq!(start, record_refusal_of(policy, workers, tree, &[]));
     assert_eq!(start, replay_refusal_of(policy, workers, tree, &[]));
+    assert_eq!(start, schedule_refusal_of(policy, workers, tree));
     start
 }
 
@@ -126,6 +153,7 @@ fn refusal_16() {
         assert_eq!(replay_refusal_with(1, workers, &s(), &[0], 0), (16, 0));
         assert_eq!(replay_refusal_with(1, workers, &s(), &[], 0), (16, 0));
         assert_eq!(replay_refusal_of(1, workers, &s(), &[255, 255, 1, 0]), (16, 0));
+        assert_eq!(schedule_refusal_with(1, workers, &s(), 0), (16, 0));
     }
 }
 
@@ -298,6 +326,32 @@ fn refusal_7_replay() {
     assert_eq!(replay_refusal_with(1, 16, &s(), &[0; 5], 0), (6, 0));
     assert_eq!(replay_refusal_with(1, 16, &s(), &[16, 0, 1, 0], 27), (7, 0));
     assert_eq!(replay_refusal_with(1, 16, &s(), &[16, 0, 1, 0], 28), (8, 0));
+}
+
+#[test]
+fn refusal_7_schedule() {
+    for (policy, workers) in [(1, 16), (2, 16), (1, 1), (2, 5)] {
+        let refusal = |tree: &[u8], room| schedule_refusal_with(policy, workers, tree, room);
+        // S has 7 steps and 3 spawned tasks: 2 bytes for each of 10 events.
+        assert_eq!(refusal(&s(), 20), (0, 0));
+        assert_eq!(refusal(&s(), 21), (0, 0));
+        for room in 0..20 {
+            assert_eq!(refusal(&s(), room), (7, 0));
+        }
+        assert_eq!(refusal(&tree_of_kinds(&[3]), 2), (0, 0));
+        assert_eq!(refusal(&tree_of_kinds(&[3]), 1), (7, 0));
+        assert_eq!(refusal(&flat(4_095), 2 * 6_142), (0, 0));
+        assert_eq!(refusal(&flat(4_095), 2 * 6_142 - 1), (7, 0));
+        // 2 to 5 before 7.
+        assert_eq!(refusal(&[], 0), (2, 0));
+        assert_eq!(refusal(&[9; 8], 0), (3, 0));
+        assert_eq!(refusal(&chain(64, 1), 0), (4, 63));
+        assert_eq!(refusal(&s()[..48], 0), (5, 6));
+    }
+    // 1 and 16 before 7.
+    assert_eq!(schedule_refusal_with(0, 16, &s(), 0), (1, 0));
+    assert_eq!(schedule_refusal_with(3, 17, &s(), 0), (1, 0));
+    assert_eq!(schedule_refusal_with(2, 17, &s(), 0), (16, 0));
 }
 
 #[test]

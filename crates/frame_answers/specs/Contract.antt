@@ -8,12 +8,14 @@ use Rattle.run_state.specs.declared.Idle.{Idle}
 use Rattle.trace.specs.Contract.{numberValue}
 use Rattle.record.specs.declared.answer.Recorded.{Recorded}
 use Rattle.replay.specs.declared.answer.Replayed.{Replayed}
+use Rattle.schedule.specs.declared.Scheduled.{Scheduled}
 use Rattle.frame_answers.specs.declared.FrameStart.{FrameStart}
 use Rattle.frame_answers.specs.declared.FrameOutcome.{FrameOutcome}
 use Rattle.frame_answers.specs.declared.FrameEvent.{FrameEvent}
 use Rattle.frame_answers.specs.declared.FrameIdle.{FrameIdle}
 use Rattle.frame_answers.specs.declared.FrameRecord.{FrameRecord}
 use Rattle.frame_answers.specs.declared.FrameReplay.{FrameReplay}
+use Rattle.frame_answers.specs.declared.FrameSchedule.{FrameSchedule}
 
 -- A start's refusal and position, and the state.
 abbrev pub flatStart : Started → FrameStart
@@ -50,3 +52,7 @@ flatRecord a =
 abbrev pub flatReplay : Replayed → FrameReplay
 flatReplay a =
     record { number = a .number; position = a .position; phases = a .phases; loads = a .loads; heaviest = a .heaviest }
+
+-- A schedule's answer.
+abbrev pub flatSchedule : Scheduled → FrameSchedule
+flatSchedule a = record { number = a .number; position = a .position; events = a .events }

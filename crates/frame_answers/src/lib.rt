@@ -3,6 +3,7 @@
 // prove.
 ghost use mathlib.Core.Path.{_≡_};
 ghost use Rattle.frame_answers.specs.Contract.{flatStart, flatOutcome, flatEvent, flatIdle, flatRecord, flatReplay};
+ghost use Rattle.frame_answers.specs.Contract.{flatSchedule};
 use policy::WORKERS;
 use record::answer::Recorded;
 use replay::answer::Replayed;
@@ -11,6 +12,7 @@ use run_state::Answer;
 use run_state::Idle;
 use run_state::RunState;
 use run_state::Started;
+use schedule::Scheduled;
 
 // A start's refusal and position, or the first state. The state beside a refusal is all 0.
 #[repr(C)]
@@ -165,5 +167,24 @@ pub fn flat_replay(replayed: Replayed) -> FrameReplay
         phases: replayed.phases,
         loads,
         heaviest: replayed.heaviest,
+    }
+}
+
+// A schedule's refusal and position, or how many events its list has. What is not answered is 0.
+#[repr(C)]
+pub struct FrameSchedule {
+    pub number: usize,
+    pub position: usize,
+    pub events: usize,
+}
+
+// A schedule's answer for C.
+pub fn flat_schedule(scheduled: Scheduled) -> FrameSchedule
+    ensures { λ r. ⌜ r ≡ flatSchedule scheduled ⌝ }
+{
+    FrameSchedule {
+        number: scheduled.number as usize,
+        position: scheduled.position,
+        events: scheduled.events,
     }
 }

@@ -6,9 +6,9 @@ use std::fmt::Write;
 use frame_tests::cover::WORKERS;
 use frame_tests::phases::phases;
 use frame_tests::random::{
-    accepted_bytes, any_count, damaged_tree, drive, nearest_count, trace, tree, worker_at_the_edge, Plan, Rng,
+    accepted_bytes, any_count, any_seed, damaged_tree, drive, nearest_count, trace, tree, worker_at_the_edge, Plan, Rng,
 };
-use frame_tests::{record, replay, Policy, Run, Tree};
+use frame_tests::{record, replay, schedule, Policy, Run, Tree};
 
 /// How many rows a theorem has. antt computes each theorem within a fixed count of steps.
 const ROWS: u64 = 10;
@@ -18,6 +18,10 @@ const LONGEST: usize = 600;
 
 /// The rules' names of what program `phases` prints. `answerWith` of their table of cases has all others.
 const PROGRAM: &str = "inputPolicy inputCount inputTree inputTrace digits decimal line heading phaseLines refusedLine phasesText printed";
+
+/// The rules' names of the schedule maker.
+const MAKER: &str = "draw named begun write drawn robbable stealTurn turn round rounds made mostMade scheduleVerdict scheduleOf \
+     scheduleRefused scheduleCall";
 
 /// Bytes as the rules' tables write them: a hexadecimal numeral.
 fn bytes(list: &[u8]) -> String {
@@ -168,6 +172,26 @@ fn idle_row(out: &mut String, seed: u64) {
     .expect("a string takes all");
 }
 
+/// What the schedule maker answers and writes, from any seed.
+fn schedule_row(out: &mut String, seed: u64) {
+    let mut rng = Rng::new(seed);
+    let (policy, tree) = scene(&mut rng);
+    let (workers, start) = (any_count(&mut rng), any_seed(&mut rng));
+    let mut events = lent(&mut rng, (3 * (tree.len() / 8)).saturating_sub(1));
+    let call = format!("scheduleCall {workers} {policy} {} {start} {}", bytes(&tree), bytes(&events));
+    let answer = schedule(policy, workers, &tree, start, &mut events);
+    write!(
+        out,
+        "record {{ got = {call}; says = record {{ verdict = record {{ number = {}; position = {} }}; eventCount = {}; \
+         events = {} }} }} ∷ ",
+        answer.number,
+        answer.position,
+        answer.events,
+        bytes(&events)
+    )
+    .expect("a string takes all");
+}
+
 fn tables(out: &mut String, name: &str, row: &str, from: u64, theorems: u64, write_row: fn(&mut String, u64)) {
     for t in 0..theorems {
         let mut rows = String::new();
@@ -176,12 +200,12 @@ fn tables(out: &mut String, name: &str, row: &str, from: u64, theorems: u64, wri
         }
         writeln!(out, "unfoldable {name}-{t} : List {row}\n{name}-{t} = {rows}[]\n").expect("a string takes all");
         writeln!(out, "{name}-{t}-holds : map (λ r. r .got) {name}-{t} ≡ map (λ r. r .says) {name}-{t}").expect("a string takes all");
-        writeln!(out, "unfolding answerWith bytes {PROGRAM} {name}-{t}\n{name}-{t}-holds = refl\n").expect("a string takes all");
+        writeln!(out, "unfolding answerWith bytes {PROGRAM} {MAKER} {name}-{t}\n{name}-{t}-holds = refl\n").expect("a string takes all");
     }
 }
 
 fn main() {
-    let names = PROGRAM.replace(' ', ", ");
+    let [program, maker] = [PROGRAM, MAKER].map(|names| names.replace(' ', ", "));
     let mut args = std::env::args().skip(1).map(|a| a.parse::<u64>().expect("a number"));
     let (from, theorems) = (args.next().unwrap_or(0), args.next().unwrap_or(10));
     let mut out = String::from(
@@ -191,16 +215,20 @@ fn main() {
          use mathlib.Core.Bool.{true, false}\n\
          use mathlib.Core.List.{List, [], _∷_, map}\n\
          use Rattle.rules.specs.Calls.{Recorded, recordCall, Replayed, replayCall}\n\
-         use Rattle.rules.specs.Program.{NAMES}\n\
+         use Rattle.rules.specs.Program.{PROGRAM}\n\
+         use Rattle.rules.specs.Schedules.{Scheduled, MAKER}\n\
          use Rattle.rules.specs.Cases.{idling, Answer, idle, answerWith, bytes}\n\n\
          record RecordRow : Type 0 where\n  got : Recorded\n  says : Recorded\n\n\
          record ReplayRow : Type 0 where\n  got : Replayed\n  says : Replayed\n\n\
+         record ScheduleRow : Type 0 where\n  got : Scheduled\n  says : Scheduled\n\n\
          record IdleRow : Type 0 where\n  got : Answer\n  says : Answer\n\n\
          record TextRow : Type 0 where\n  got : List ℕ\n  says : List ℕ\n\n",
     )
-    .replace("NAMES", &names);
+    .replace("PROGRAM", &program)
+    .replace("MAKER", &maker);
     tables(&mut out, "recorded", "RecordRow", from, theorems, record_row);
     tables(&mut out, "replayed", "ReplayRow", from, theorems, replay_row);
+    tables(&mut out, "scheduled", "ScheduleRow", from, theorems, schedule_row);
     tables(&mut out, "idled", "IdleRow", from, theorems, idle_row);
     tables(&mut out, "listed", "TextRow", from, theorems, print_row);
     print!("{out}");

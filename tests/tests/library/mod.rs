@@ -4,7 +4,7 @@
 // A test program need not use them all.
 #![allow(dead_code)]
 
-use frame_tests::{RecordAnswer, ReplayAnswer};
+use frame_tests::{RecordAnswer, ReplayAnswer, ScheduleAnswer};
 
 #[repr(C)]
 #[derive(Clone, Copy, Debug, PartialEq, Eq)]
@@ -134,9 +134,25 @@ impl From<ReplayAnswer> for FrameReplay {
     }
 }
 
+#[repr(C)]
+#[derive(Clone, Copy, Debug, PartialEq, Eq)]
+pub struct FrameSchedule {
+    pub number: usize,
+    pub position: usize,
+    pub events: usize,
+}
+
+/// The simulator's answer as the library gives it.
+impl From<ScheduleAnswer> for FrameSchedule {
+    fn from(answer: ScheduleAnswer) -> FrameSchedule {
+        FrameSchedule { number: answer.number as usize, position: answer.position, events: answer.events }
+    }
+}
+
 mod c {
     use super::{
-        FrameEvent, FrameIdle, FrameOutcome, FrameRecord, FrameReplay, FrameRunning, FrameStart, FrameTask, FrameTree, RunState,
+        FrameEvent, FrameIdle, FrameOutcome, FrameRecord, FrameReplay, FrameRunning, FrameSchedule, FrameStart, FrameTask,
+        FrameTree, RunState,
     };
 
     extern "C" {
@@ -173,6 +189,15 @@ mod c {
             list: *mut u8,
             list_len: usize,
         ) -> FrameReplay;
+        pub fn frame_schedule(
+            tree: *const u8,
+            tree_len: usize,
+            policy: u8,
+            workers: u8,
+            seed: u32,
+            events: *mut u8,
+            events_len: usize,
+        ) -> FrameSchedule;
     }
 }
 
@@ -252,4 +277,8 @@ pub fn replay(tree: &[u8], policy: u8, workers: u8, trace: &[u8], list: &mut [u8
             list.len(),
         )
     }
+}
+
+pub fn schedule(tree: &[u8], policy: u8, workers: u8, seed: u32, events: &mut [u8]) -> FrameSchedule {
+    unsafe { c::frame_schedule(tree.as_ptr(), tree.len(), policy, workers, seed, events.as_mut_ptr(), events.len()) }
 }
