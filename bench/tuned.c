@@ -1,11 +1,12 @@
-// The baseline of the benchmarks: recording, replay and single events tuned by hand and proved by nothing. It reads the same
-// bytes as the library, refuses the same calls with the same numbers and positions, and writes the same bytes. It is for
-// little-endian machines only.
+// The baseline of the benchmarks: recording, replay, single events and the schedule maker, tuned by hand and proved by nothing.
+// It reads the same bytes as the library, refuses the same calls with the same numbers and positions, and writes the same
+// bytes. It is for little-endian machines only.
 //
 // What makes it fast: one pass checks the tree and finds the continuations; neither that nor running a step branches on a
 // record's kind, which a processor cannot foresee. A step that was popped never waits, because steals take the oldest step
 // first: whatever stood above a finish continuation in its deque has run. A stolen one waits while some worker holds a step
-// of the finish child, because every phase with steps left in the child holds one of them.
+// of the finish child, because every phase with steps left in the child holds one of them. Such a phase does not leave the
+// child before it ends: so the maker looks again only then.
 
 #include <stddef.h>
 #include <stdint.h>
@@ -52,6 +53,10 @@ struct replayed {
 
 struct outcome {
     size_t number, position, what, phase, step, trace;
+};
+
+struct scheduled {
+    size_t number, position, events;
 };
 
 // ---- The tree ----
@@ -229,29 +234,21 @@ static inline void begin_run(struct run *run, unsigned policy, unsigned workers)
     run->count = workers;
 }
 
-// Whether some worker holds a step between a stolen finish continuation and its pusher.
-static int waits(const struct run *run, size_t worker)
+// Who holds a step between the stolen finish continuation that a worker holds and its pusher: the lowest, or WORKERS.
+static size_t in_the_way(const struct run *run, size_t worker)
 {
-    size_t step = run->workers[worker].held % MAY_WAIT;
-    for (size_t w = 0; w < WORKERS; w++) {
+    size_t step = run->workers[worker].held % MAY_WAIT, w = 0;
+    for (; w < WORKERS; w++) {
         size_t held = run->workers[w].held % MAY_WAIT;
         if (run->stolen[worker].pusher < held && held < step)
-            return 1;
+            break;
     }
-    return 0;
+    return w;
 }
 
-// A worker runs its step: refusals 9 and 10, or 0 and the step.
-static inline unsigned run_step(struct run *run, const uint8_t *tree, unsigned policy, struct worker *worker, uint32_t *ran)
+// A worker has run this step.
+static inline void advance(const struct run *run, unsigned policy, struct worker *worker, uint32_t step)
 {
-    uint32_t step = worker->held;
-    if (step >= MAY_WAIT) {
-        if (step == NONE)
-            return 9;
-        if (waits(run, worker - run->workers))
-            return 10;
-        step -= MAY_WAIT;
-    }
     uint32_t move = run->moves[step], ends = move == 0;
     struct pushed *newest = worker->newest;
     uint32_t popped = newest->step;
@@ -263,12 +260,37 @@ static inline unsigned run_step(struct run *run, const uint8_t *tree, unsigned p
     else
         worker->held = select(ends, popped, held_by(move));
     worker->newest = newest;
+}
+
+// A worker runs its step: refusals 9 and 10, or 0 and the step.
+static inline unsigned run_step(struct run *run, const uint8_t *tree, unsigned policy, struct worker *worker, uint32_t *ran)
+{
+    uint32_t step = worker->held;
+    if (step >= MAY_WAIT) {
+        if (step == NONE)
+            return 9;
+        if (in_the_way(run, worker - run->workers) < WORKERS)
+            return 10;
+        step -= MAY_WAIT;
+    }
+    advance(run, policy, worker, step);
     worker->load += weight_of(record_at(tree, step));
     *ran = step;
     return 0;
 }
 
-// The thief takes the oldest step of the victim's deque: refusals 11 and 12, or 0 and the trace number.
+// The thief takes the oldest step of the victim's deque, which has one, and begins a phase.
+static inline void take(struct run *run, const uint8_t *tree, unsigned policy, size_t thief, size_t victim)
+{
+    struct worker *from = &run->workers[victim];
+    uint32_t step = from->oldest->step, pusher = from->oldest->pusher;
+    from->oldest++->step = NONE;
+    begin_phase(run, thief, policy);
+    run->workers[thief].held = kind_at(tree, pusher) == FINISH ? step + MAY_WAIT : step;
+    run->stolen[thief].pusher = pusher;
+}
+
+// A steal: refusals 11 and 12, or 0 and the trace number.
 static inline unsigned steal(struct run *run, const uint8_t *tree, unsigned policy, size_t thief, size_t victim, uint32_t *number)
 {
     struct worker *to = &run->workers[thief], *from = &run->workers[victim];
@@ -277,7 +299,6 @@ static inline unsigned steal(struct run *run, const uint8_t *tree, unsigned poli
     if (from->newest < from->oldest)
         return 12;
     uint32_t step = from->oldest->step, pusher = from->oldest->pusher;
-    from->oldest++->step = NONE;
     *number = step;
     if (policy == WORK_FIRST) {
         struct stolen *lost = &run->stolen[victim];
@@ -288,8 +309,7 @@ static inline unsigned steal(struct run *run, const uint8_t *tree, unsigned poli
         lost->ordinal = 0;
         *number = ordinal;
     }
-    begin_phase(run, thief, policy);
-    to->held = kind_at(tree, pusher) == FINISH ? step + MAY_WAIT : step;
+    take(run, tree, policy, thief, victim);
     to->phase = ++run->steals;
     run->stolen[thief] = (struct stolen){pusher, step, *number};
     return 0;
@@ -380,6 +400,106 @@ struct recorded tuned_record(const uint8_t *tree, size_t tree_length, uint8_t po
     }
     answer.heaviest = heaviest(answer.loads);
     return answer;
+}
+
+// ---- Making schedules ----
+
+// What an idle worker's turn adds to the seed.
+static const uint32_t DRAWN = 2654435769u;
+
+static inline uint8_t *put_event(uint8_t *event, size_t first, size_t second)
+{
+    event[0] = first;
+    event[1] = second;
+    return event + 2;
+}
+
+// A worker's phase has ended. Those that waited for it wait for another worker, or no longer: the latter are given, as bits.
+static inline uint32_t woken(struct run *run, uint32_t *waiting, size_t worker)
+{
+    uint32_t woken = 0;
+    for (uint32_t left = waiting[worker]; left != 0; left &= left - 1) {
+        size_t w = __builtin_ctz(left), other = in_the_way(run, w);
+        if (other < WORKERS) {
+            waiting[other] |= 1u << w;
+        } else {
+            run->workers[w].held -= MAY_WAIT;
+            woken |= 1u << w;
+        }
+    }
+    waiting[worker] = 0;
+    return woken;
+}
+
+// Makes the list, and gives the count of its events.
+static inline size_t make(struct run *restrict run, const uint8_t *tree, size_t n, unsigned policy, size_t workers,
+                          uint32_t seed, uint8_t *restrict events)
+{
+    uint8_t *event = events;
+    // Workers as bits: who holds a step, who does not wait, and for each worker who waits for it.
+    uint32_t busy = 1, awake = (1u << workers) - 1, waiting[WORKERS] = {0};
+    begin_run(run, policy, workers);
+    for (size_t left = n; left > 0;)
+        // One round, by those whose turn is yet to come: who waits is passed over, and once woken has its turn as others.
+        for (uint32_t turns = awake; turns != 0;) {
+            size_t w = __builtin_ctz(turns);
+            struct worker *worker = &run->workers[w];
+            if (busy >> w & 1) {
+                event = put_event(event, w, w);
+                left--;
+                advance(run, policy, worker, worker->held);
+                if (worker->held == NONE) {
+                    busy -= 1u << w;
+                    awake |= woken(run, waiting, w);
+                    turns = awake & -2u << w;
+                    continue;
+                }
+            } else {
+                seed += DRAWN;
+                size_t victim = seed >> 28;
+                struct worker *from = &run->workers[victim];
+                if (busy >> victim & 1 && from->oldest <= from->newest) {
+                    event = put_event(event, w, victim);
+                    take(run, tree, policy, w, victim);
+                    busy += 1u << w;
+                    if (worker->held >= MAY_WAIT) {
+                        // It does wait: the victim holds a step of the finish child.
+                        awake -= 1u << w;
+                        waiting[victim] |= 1u << w;
+                    }
+                }
+            }
+            turns &= turns - 1;
+        }
+    return (event - events) / 2;
+}
+
+__attribute__((noinline)) static size_t make_work_first(struct run *run, const uint8_t *tree, size_t n, size_t workers,
+                                                        uint32_t seed, uint8_t *events)
+{
+    return make(run, tree, n, WORK_FIRST, workers, seed, events);
+}
+
+__attribute__((noinline)) static size_t make_help_first(struct run *run, const uint8_t *tree, size_t n, size_t workers,
+                                                        uint32_t seed, uint8_t *events)
+{
+    return make(run, tree, n, HELP_FIRST, workers, seed, events);
+}
+
+struct scheduled tuned_schedule(const uint8_t *tree, size_t tree_length, uint8_t policy, uint8_t workers, uint32_t seed,
+                                uint8_t *events, size_t events_length)
+{
+    struct run run;
+    size_t n = tree_length / TREE_RECORD;
+    struct refusal refusal = read_tree(tree, tree_length, policy, workers, run.moves, NULL);
+    // A run event for each step, and a steal for each spawned task.
+    if (refusal.number == 0 && events_length < 2 * (n + (n - 1) / 2))
+        refusal.number = 7;
+    if (refusal.number != 0)
+        return (struct scheduled){refusal.number, refusal.position, 0};
+    size_t count = policy == WORK_FIRST ? make_work_first(&run, tree, n, workers, seed, events)
+                                        : make_help_first(&run, tree, n, workers, seed, events);
+    return (struct scheduled){0, 0, count};
 }
 
 // ---- Single events ----

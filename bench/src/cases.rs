@@ -105,6 +105,11 @@ pub fn tree((_, build): Shape, n: usize, seed: u64) -> Vec<u8> {
     bytes
 }
 
+/// The schedule maker's seed for an input. A draw reads the top bits, so that seeds near each other make the same lists.
+pub fn maker_seed(seed: u64) -> u32 {
+    Rng::new(seed).next() as u32
+}
+
 /// Events by so many workers, all accepted, that finish the run from this start.
 pub fn schedule(start: &Run, workers: usize, seed: u64) -> Vec<u8> {
     let plan = Plan { workers, events: MAX_EVENTS, bad: 0, steals: STEALS };

@@ -1,19 +1,20 @@
 //! Prints the tables of the benchmarks. `bench/run` builds all that they need and runs this; its words go here:
 //!
-//! - `record`, `replay`, `event`: only these tables
+//! - `record`, `replay`, `event`, `schedule`: only these tables
 //! - `--instructions`: instructions of whole calls on the largest trees in place of times
 //! - `--call WHAT CONTESTANT SHAPE POLICY WORKERS`: makes one such call
 
 use std::hint::black_box;
 use std::process::Command;
 
-use frame_bench::cases::{schedule, tree, Shape, COUNTS, LARGEST, POLICIES, RUN_WORKERS, SEEDS, SHAPES, WORKERS};
-use frame_bench::library::{self, FrameRecord, FrameReplay, RunState};
+use frame_bench::cases::{maker_seed, schedule, tree, Shape, COUNTS, LARGEST, POLICIES, RUN_WORKERS, SEEDS, SHAPES, WORKERS};
+use frame_bench::library::{self, FrameRecord, FrameReplay, FrameSchedule, RunState};
 use frame_bench::times::{divided, geometric_mean, least, medians, most, turn};
 use frame_bench::tuned;
 use frame_tests::random::robbed_in_turn;
 use frame_tests::record::{record, record_to_vecs, EVENT_BYTES};
 use frame_tests::replay::{replay, MAX_TRACE, TRACE_BYTES};
+use frame_tests::schedule::{self as maker, most_events};
 use frame_tests::tree::{MAX_OPEN, TREE_RECORD};
 use frame_tests::{Policy, Run};
 
@@ -377,6 +378,82 @@ fn event_table() {
     table.summary();
 }
 
+// ---- Making schedules ----
+
+struct ScheduleCase {
+    tree: Vec<u8>,
+    policy: u8,
+    workers: u8,
+    seed: u32,
+    /// What the list is written to.
+    events: Vec<u8>,
+}
+
+impl ScheduleCase {
+    /// A run of so many workers, which all take part.
+    fn new(tree: Vec<u8>, policy: u8, workers: usize, seed: u64) -> ScheduleCase {
+        let events = vec![0; EVENT_BYTES * most_events(tree.len() / TREE_RECORD)];
+        ScheduleCase { tree, policy, workers: workers as u8, seed: maker_seed(seed), events }
+    }
+
+    fn tuned(&mut self) -> FrameSchedule {
+        tuned::schedule(black_box(&self.tree), self.policy, self.workers, self.seed, &mut self.events)
+    }
+
+    fn library(&mut self) -> FrameSchedule {
+        library::schedule(black_box(&self.tree), self.policy, self.workers, self.seed, &mut self.events)
+    }
+
+    fn simulator(&mut self) -> FrameSchedule {
+        maker::schedule(self.policy, self.workers, black_box(&self.tree), self.seed, &mut self.events).into()
+    }
+
+    /// All three give the same answer and the same list, and leave the bytes behind it. Gives the counts of events and of steals.
+    fn check(&mut self) -> (usize, usize) {
+        self.events.fill(255);
+        let want = (self.simulator(), self.events.clone());
+        for call in [ScheduleCase::tuned, ScheduleCase::library] {
+            self.events.fill(255);
+            assert_eq!((call(self), &self.events), (want.0, &want.1));
+        }
+        assert_eq!(want.0.number, 0);
+        (want.0.events, want.0.events - self.tree.len() / TREE_RECORD)
+    }
+}
+
+/// The sizes between which the growth in flat trees is taken: there most draws meet an empty deque, which must not be scanned.
+const GROWTH: [usize; 2] = [COUNTS[1], LARGEST];
+
+fn schedule_table() {
+    let mut table = Table::new("schedule, ns", "events", CONTESTANTS);
+    let mut flat = GROWTH.map(|_| [const { Vec::new() }; CONTESTANTS.len()]);
+    for_each_case(|shape, n, (policy, byte), workers| {
+        let case = |seed| ScheduleCase::new(tree(shape, n, seed), byte, workers, seed);
+        let inputs: &mut Vec<_> = &mut SEEDS.map(case).collect();
+        let counts = inputs.iter_mut().map(ScheduleCase::check);
+        let (units, steals) = counts.fold((0, 0), |sum, counts| (sum.0 + counts.0, sum.1 + counts.1));
+        let times = medians(
+            inputs,
+            [ScheduleCase::tuned, ScheduleCase::library, ScheduleCase::simulator]
+                .map(|call| move |inputs: &mut [_]| turn(inputs, units, |_| (), |case, ()| _ = black_box(call(case))))
+                .each_ref()
+                .map(|turn| turn as &dyn Fn(&mut [_]) -> f64),
+        );
+        table.line(&Row::new(shape, n, policy, workers, units, steals), times);
+        if let (("flat", _), Some(size)) = (shape, GROWTH.iter().position(|&size| size == n)) {
+            flat[size].iter_mut().zip(times).for_each(|(times, time)| times.push(time));
+        }
+    });
+    table.summary();
+    let [first, last] = &flat;
+    let growth: Vec<_> = last.iter().zip(first).map(|(last, first)| divided(last, first)).collect();
+    print!("{:>50}", format!("growth from {} to {} in flat trees", GROWTH[0], GROWTH[1]));
+    growth.iter().for_each(|growth| print!("{:>11.2}", geometric_mean(growth)));
+    print!("\n{:>50}", "the most of a case");
+    growth.iter().for_each(|growth| print!("{:>11.2}", most(growth)));
+    println!("\n");
+}
+
 // ---- All cases ----
 
 fn for_each_case(mut each: impl FnMut(Shape, usize, (&'static str, u8), usize)) {
@@ -409,14 +486,23 @@ fn make_call(words: &[&str]) {
     let contestant = CONTESTANTS.iter().position(|name| name == contestant).expect("a contestant");
     let seed = SEEDS.start;
     let tree = tree(shape, LARGEST, seed);
-    if *what == "record" {
-        let mut case = RecordCase::new(tree, policy, workers, seed);
-        let call = [RecordCase::tuned, RecordCase::library, RecordCase::simulator][contestant];
-        measured_call(&mut || _ = black_box(call(&mut case)));
-    } else {
-        let mut case = ReplayCase::of_run(tree, policy, workers, seed);
-        let call = [ReplayCase::tuned, ReplayCase::library, ReplayCase::simulator][contestant];
-        measured_call(&mut || _ = black_box(call(&mut case)));
+    match *what {
+        "record" => {
+            let mut case = RecordCase::new(tree, policy, workers, seed);
+            let call = [RecordCase::tuned, RecordCase::library, RecordCase::simulator][contestant];
+            measured_call(&mut || _ = black_box(call(&mut case)));
+        }
+        "replay" => {
+            let mut case = ReplayCase::of_run(tree, policy, workers, seed);
+            let call = [ReplayCase::tuned, ReplayCase::library, ReplayCase::simulator][contestant];
+            measured_call(&mut || _ = black_box(call(&mut case)));
+        }
+        "schedule" => {
+            let mut case = ScheduleCase::new(tree, policy, workers, seed);
+            let call = [ScheduleCase::tuned, ScheduleCase::library, ScheduleCase::simulator][contestant];
+            measured_call(&mut || _ = black_box(call(&mut case)));
+        }
+        _ => panic!("record, replay or schedule, not {what}"),
     }
 }
 
@@ -438,15 +524,20 @@ fn instructions(words: [&str; 5]) -> f64 {
 }
 
 fn instructions_table(what: &str) {
-    let units = if what == "record" { "events" } else { "steps" };
+    let units = if what == "replay" { "steps" } else { "events" };
     let mut table = Table::new(&format!("{what}, instructions of a call"), units, CONTESTANTS);
     for shape in SHAPES {
         for (policy, byte) in POLICIES {
             for workers in WORKERS {
                 let seed = SEEDS.start;
-                let mut case = RecordCase::new(tree(shape, LARGEST, seed), byte, workers, seed);
-                let (events, steals) = (case.events(), case.check());
-                let units = if what == "record" { events } else { LARGEST };
+                let tree = tree(shape, LARGEST, seed);
+                let (events, steals) = if what == "schedule" {
+                    ScheduleCase::new(tree, byte, workers, seed).check()
+                } else {
+                    let mut case = RecordCase::new(tree, byte, workers, seed);
+                    (case.events(), case.check())
+                };
+                let units = if what == "replay" { LARGEST } else { events };
                 let count = |contestant| instructions([what, contestant, shape.0, policy, &workers.to_string()]);
                 let counts = CONTESTANTS.map(|contestant| count(contestant) / units as f64);
                 table.line(&Row { shape: shape.0, n: LARGEST, policy, workers, units, steals }, counts);
@@ -461,9 +552,10 @@ fn main() {
     let words: Vec<&str> = words.iter().map(String::as_str).collect();
     match words[..] {
         ["--call", ref words @ ..] => make_call(words),
-        ["--instructions"] => ["record", "replay"].into_iter().for_each(instructions_table),
+        ["--instructions"] => ["record", "replay", "schedule"].into_iter().for_each(instructions_table),
         _ => {
-            let tables: [(&str, fn()); 3] = [("record", record_table), ("replay", replay_table), ("event", event_table)];
+            let tables: [(&str, fn()); 4] =
+                [("record", record_table), ("replay", replay_table), ("event", event_table), ("schedule", schedule_table)];
             for word in &words {
                 assert!(tables.iter().any(|(name, _)| name == word), "there is no table {word}");
             }

@@ -1,6 +1,6 @@
 //! The baseline of `tuned.c`: all declarations, and safe calls.
 
-use crate::library::{FrameOutcome, FrameRecord, FrameReplay};
+use crate::library::{FrameOutcome, FrameRecord, FrameReplay, FrameSchedule};
 
 #[repr(C)]
 #[derive(Clone, Copy, Debug, PartialEq, Eq)]
@@ -10,7 +10,7 @@ pub struct Refusal {
 }
 
 mod c {
-    use super::{FrameOutcome, FrameRecord, FrameReplay, Refusal};
+    use super::{FrameOutcome, FrameRecord, FrameReplay, FrameSchedule, Refusal};
 
     extern "C" {
         pub fn tuned_record(
@@ -35,6 +35,15 @@ mod c {
             list: *mut u8,
             list_len: usize,
         ) -> FrameReplay;
+        pub fn tuned_schedule(
+            tree: *const u8,
+            tree_len: usize,
+            policy: u8,
+            workers: u8,
+            seed: u32,
+            events: *mut u8,
+            events_len: usize,
+        ) -> FrameSchedule;
         pub fn tuned_state_bytes() -> usize;
         pub fn tuned_start(state: *mut u64, tree: *const u8, tree_len: usize, policy: u8, workers: u8) -> Refusal;
         pub fn tuned_restart(state: *mut u64);
@@ -72,6 +81,10 @@ pub fn replay(tree: &[u8], policy: u8, workers: u8, trace: &[u8], list: &mut [u8
             list.len(),
         )
     }
+}
+
+pub fn schedule(tree: &[u8], policy: u8, workers: u8, seed: u32, events: &mut [u8]) -> FrameSchedule {
+    unsafe { c::tuned_schedule(tree.as_ptr(), tree.len(), policy, workers, seed, events.as_mut_ptr(), events.len()) }
 }
 
 /// A run by single events, with the tree that it began with.

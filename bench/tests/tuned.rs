@@ -1,10 +1,13 @@
 //! The tuned baseline against the simulator, so that what the benchmarks compare with does the same work.
 
-use frame_bench::library::{FrameRecord, FrameReplay};
+use frame_bench::library::{FrameRecord, FrameReplay, FrameSchedule};
 use frame_bench::tuned;
-use frame_tests::random::{self, any_count, any_event, events_to_record, nearest_count, robbed_in_turn, trace_to_replay, Rng};
-use frame_tests::record::record;
+use frame_tests::random::{
+    self, any_count, any_event, any_seed, events_to_record, nearest_count, robbed_in_turn, trace_to_replay, Rng,
+};
+use frame_tests::record::{record, EVENT_BYTES};
 use frame_tests::replay::{replay, MAX_TRACE};
+use frame_tests::schedule::{most_events, schedule};
 use frame_tests::{Policy, Run, Tree};
 
 /// How many random calls a test makes; `BENCH_CHECKS` asks for another count.
@@ -112,6 +115,23 @@ fn replaying_long_ranges() {
             assert_eq!(answer.phases, MAX_TRACE + 1);
         }
     }
+}
+
+#[test]
+fn making_schedules() {
+    let mut refusals = [0; 17];
+    for seed in 0..checks() {
+        let rng = &mut Rng::new(seed);
+        let (policy, workers, tree, drawn) = (policy(rng), any_count(rng), tree(rng), any_seed(rng));
+        let events = buffer(rng, EVENT_BYTES * most_events((tree.len() / 8).max(1)));
+        let (mut got, mut want) = (events.clone(), events);
+        let answer = tuned::schedule(&tree, policy, workers, drawn, &mut got);
+        let expected: FrameSchedule = schedule(policy, workers, &tree, drawn, &mut want).into();
+        assert_eq!(answer, expected, "seed {seed}");
+        assert!(got == want, "seed {seed}: the events");
+        refusals[answer.number] += 1;
+    }
+    assert!([0, 1, 2, 3, 4, 5, 7, 16].iter().all(|&number| refusals[number] > 0), "numbers seen: {refusals:?}");
 }
 
 /// Single events, refused ones among them, each with the answer of the simulator.
