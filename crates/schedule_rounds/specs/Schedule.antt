@@ -53,7 +53,7 @@ module _ (w p : ℕ) (tree : List ℕ) (seed : ℕ) (lent : List ℕ) where
     -- They are no more than the steps.
     pub most : rounds ≤ n
     -- More of them would write nothing.
-    pub idle : (k : ℕ) → again w p (kinds tree) (rounds + k) (begun w seed) .events ≡ again w p (kinds tree) rounds (begun w seed) .events
+    pub idle : (k : ℕ) → after (rounds + k) .events ≡ after rounds .events
     -- The list has the events of these rounds, and no others.
     pub events : records 2 listed ≡ after rounds .events
 
