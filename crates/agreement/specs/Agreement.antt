@@ -5,15 +5,15 @@
 -- is the same in all of them. Nothing is assumed but an accepted start and, where document 01 says so, outputs that are not short.
 use Prim.Native.Nat.{ℕ, suc, _+_, _-_, _*_, _/_, _≤_, _<_}
 use mathlib.Core.Path.{_≡_}
-use mathlib.Core.Bool.{Bool, true, false, cond, _||_}
+use mathlib.Core.Bool.{true, false, cond}
 use mathlib.Core.List.{List, [], _∷_, _++_, map, flatten}
 use mathlib.Core.Option.{Option, none, some}
 use lib.ListN.{length, take, drop, getD}
-use lib.Dec.{eqb, ltb}
+use lib.Dec.{eqb}
 use Rattle.rules.specs.Bytes.{littleEndian, cut, sum}
 use Rattle.rules.specs.Tree.{kinds}
 use Rattle.rules.specs.Scheduling.{Entry, Steal}
-use Rattle.rules.specs.Calls.{Recorded, recordCall, Replayed, replayCall}
+use Rattle.rules.specs.Calls.{shortOutputs, shortList, Recorded, recordCall, Replayed, replayCall}
 use Rattle.run_invariant.specs.Invariant.{logOf, self}
 use Rattle.run_state.specs.declared.RunState.{RunState}
 use Rattle.run_spec.specs.declared.Event.{Event}
@@ -82,13 +82,6 @@ replayedWorkers m trace = 0 ∷ map (λ r. getD r 0 0) (cut 4 m trace)
 -- "A leading part of a list is its first entries, none to all, in the same order."
 abbrev pub Leads : List ℕ → List ℕ → Type 0
 Leads part whole = (rest : List ℕ) × (part ++ rest ≡ whole)
-
--- "A lent output is short", for recording and for replay.
-unfoldable pub shortOutputs : List ℕ → List ℕ → List ℕ → Bool
-shortOutputs tree log trace = ltb (length log) (4 * length (kinds tree)) || ltb (length trace) (2 * (length (kinds tree) - 1))
-
-unfoldable pub shortList : List ℕ → List ℕ → Bool
-shortList tree list = ltb (length list) (4 * length (kinds tree))
 
 -- ---- the calls that are compared
 

@@ -55,6 +55,14 @@ afterEvents p ks s (e ∷ es) = afterEvents p ks (eventCall p ks s e .state) es
 unfoldable pub written : List ℕ → List ℕ → List ℕ
 written bytes buffer = bytes ++ drop (length bytes) buffer
 
+-- "A lent output is short: 4 × n bytes for log or run list, 2 × (n - 1) for a trace": of recording, log or trace,
+abbrev pub shortOutputs : List ℕ → List ℕ → List ℕ → Bool
+shortOutputs tree log trace = ltb (length log) (4 * length (kinds tree)) || ltb (length trace) (2 * (length (kinds tree) - 1))
+
+-- and of replay the run list.
+abbrev pub shortList : List ℕ → List ℕ → Bool
+shortList tree list = ltb (length list) (4 * length (kinds tree))
+
 -- ---- record
 
 -- What a record call answers, with the lent log and trace as it leaves them.
@@ -73,14 +81,14 @@ unfoldable pub recordWalk : ℕ → ℕ → List ℕ → List (List ℕ) → Wal
 recordWalk w p ks es = walk (judgeEvent ks) (nextRun p ks) 0 (start w) es
 
 --     6  "The events or the trace are not whole records or too many", here the events.
---     7  "A lent output is short: 4 × n bytes for log or run list, 2 × (n - 1) for a trace", here log or trace.
+--     7  "A lent output is short", here log or trace.
 --     8 to 12  by the events, in one walk.
 unfoldable pub recordVerdict : ℕ → ℕ → List ℕ → List ℕ → List ℕ → List ℕ → Verdict
 recordVerdict w p tree events log trace =
     firstRefused
     (startVerdict w p tree
     ∷ refusedIf (not (wholeRecords 2 mostEvents events)) 6 0
-    ∷ refusedIf (ltb (length log) (4 * length (kinds tree)) || ltb (length trace) (2 * (length (kinds tree) - 1))) 7 0
+    ∷ refusedIf (shortOutputs tree log trace) 7 0
     ∷ recordWalk w p (kinds tree) (records 2 events) .verdict
     ∷ [])
 
@@ -141,7 +149,7 @@ replayVerdict w p tree trace list =
     firstRefused
     (startVerdict w p tree
     ∷ refusedIf (not (wholeRecords 4 mostTraceRecords trace)) 6 0
-    ∷ refusedIf (ltb (length list) (4 * length (kinds tree))) 7 0
+    ∷ refusedIf (shortList tree list) 7 0
     ∷ replayWalk w p (kinds tree) (records 4 trace) .verdict
     ∷ [])
 

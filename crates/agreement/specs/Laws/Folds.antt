@@ -15,7 +15,7 @@ use Rattle.rules.specs.Calls.{afterEvents, recordWalk, recordOf, recordVerdict,
 use Rattle.tree.specs.Laws.Walks.{walk-on, walk-stop, walk-end}
 use Rattle.tree_scan.specs.Laws.Starts.{start-tree-accepts, start-workers}
 use Rattle.tree_scan.specs.Laws.Frames.{accepted-frame}
-use Rattle.run_invariant.specs.Laws.Events.{after-one, adds-one}
+use Rattle.run_invariant.specs.Laws.Events.{after-last, adds-one}
 use Rattle.run_invariant.specs.Laws.Always.{always}
 use Rattle.run_invariant.specs.Laws.Consequences.{runs-most, steals-most}
 use Rattle.record.specs.Laws.Cases.{accepts-both, by-accepted}
@@ -33,7 +33,7 @@ module _ (w p : ℕ) (ks : List ℕ) (es : List (List ℕ)) where
 
   before-next : (k : ℕ) → k < length es → judgeEvent ks (before k) (getD es k []) ≡ 0
       → before (suc k) ≡ nextRun p ks (before k) (getD es k [])
-  before-next k h j = rw (take-suc es k [] h) (after-one p ks (take k es) (start w) (getD es k []) j)
+  before-next k h j = rw (take-suc es k [] h) (after-last p ks (take k es) (start w) (getD es k []) j)
 
   -- The walk goes past events that the rules accept, and its state is that of the single events.
   walks-on : (k : ℕ) → k ≤ length es → AcceptedTo k

@@ -12,7 +12,7 @@ use Rattle.rules.specs.Bytes.{wholeRecords, Verdict, accepted, refusedIf, first
 use Rattle.rules.specs.Tree.{kinds}
 use Rattle.rules.specs.Scheduling.{Run, start, judgeEvent}
 use Rattle.rules.specs.Calls.{startVerdict, afterEvents, Recorded, recordWalk, recordVerdict, recordOf, recordRefused, recordCall}
-use Rattle.rules.specs.Calls.{mostEvents}
+use Rattle.rules.specs.Calls.{mostEvents, shortOutputs}
 use Rattle.buffers.specs.Laws.Records.{flat-length}
 use Rattle.tree_scan.specs.Laws.Starts.{start-tree-accepts, start-workers}
 use Rattle.tree_scan.specs.Laws.Frames.{Frame, accepted-frame}
@@ -23,7 +23,7 @@ use Rattle.arguments.specs.Terms.{tooShort}
 use Rattle.record.specs.Laws.Cases.{Ready, record-event, record-all}
 use Rattle.agreement.specs.Laws.Folds.{AcceptedTo, accepted-walks, refused-walks, walk-folds, counts}
 use Rattle.run_spec.specs.declared.Event.{Event}
-use Rattle.agreement.specs.Agreement.{eventBytes, shortOutputs}
+use Rattle.agreement.specs.Agreement.{eventBytes}
 use Rattle.agreement.specs.Laws.Live.{pair, event-records}
 
 -- ---- bytes
@@ -96,13 +96,13 @@ module _ (w p : ℕ) (tree : List ℕ) (starts : startVerdict w p tree .number �
   module _ (log trace : List ℕ) where
     short-number : (es : List Event) → length es ≤ mostEvents → shortOutputs tree log trace ≡ true
         → recordCall w p tree (eventBytes es) log trace .verdict .number ≡ 7
-    unfolding recordCall recordVerdict recordRefused firstRefused refusedIf accepted shortOutputs
+    unfolding recordCall recordVerdict recordRefused firstRefused refusedIf accepted
     short-number es h short = rw (eq-eqb (startVerdict w p tree .number) 0 starts, bytes-whole es h, short) refl
 
     -- Past the lent outputs, the rules decide.
     module _ (room : shortOutputs tree log trace ≡ false) where
       ready : (es : List Event) → length es ≤ mostEvents → Ready w p tree (eventBytes es) log trace
-      unfolding shortOutputs tooShort
+      unfolding tooShort
       ready es h = record { started = starts; listed = bytes-whole es h; room = room }
 
       by-walk : (es : List Event) → length es ≤ mostEvents

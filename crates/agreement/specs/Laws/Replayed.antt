@@ -11,7 +11,7 @@ use Rattle.rules.specs.Bytes.{records, wholeRecords, accepted, refusedIf, first
 use Rattle.rules.specs.Tree.{kinds}
 use Rattle.rules.specs.Scheduling.{Phase, Steal, Run, start}
 use Rattle.rules.specs.Traces.{traceBytes, replayWalk}
-use Rattle.rules.specs.Calls.{startVerdict, afterEvents, Replayed, replayVerdict, replayOf, replayRefused, replayCall}
+use Rattle.rules.specs.Calls.{shortList, startVerdict, afterEvents, Replayed, replayVerdict, replayOf, replayRefused, replayCall}
 use Rattle.rules.specs.Calls.{mostTraceRecords}
 use Rattle.tree_scan.specs.Laws.Starts.{start-tree-accepts, start-workers, admitted-policy}
 use Rattle.tree_scan.specs.Laws.Frames.{Frame, accepted-frame}
@@ -19,7 +19,6 @@ use Rattle.run_invariant.specs.Laws.Always.{always}
 use Rattle.run_invariant.specs.Laws.Consequences.{steals-most}
 use Rattle.replay_invariant.specs.Laws.Traces.{trace-replays}
 use Rattle.buffers.specs.Laws.Records.{length-trace}
-use Rattle.agreement.specs.Agreement.{shortList}
 
 -- ---- bytes
 
@@ -39,13 +38,13 @@ module _ (w p : ℕ) (tree trace list : List ℕ) (starts : startVerdict w p tre
   fine = eq-eqb (startVerdict w p tree .number) 0 starts
 
   call-short : shortList tree list ≡ true → replayCall w p tree trace list .verdict .number ≡ 7
-  unfolding replayCall replayVerdict replayRefused firstRefused refusedIf accepted shortList
+  unfolding replayCall replayVerdict replayRefused firstRefused refusedIf accepted
   call-short short = rw (fine, listed, short) refl
 
   call-is : shortList tree list ≡ false → (phs : List Phase)
       → replayWalk w p (kinds tree) (records 4 trace) ≡ record { verdict = accepted; state = phs }
       → replayCall w p tree trace list ≡ replayOf p tree phs list
-  unfolding replayCall replayVerdict firstRefused refusedIf accepted shortList
+  unfolding replayCall replayVerdict firstRefused refusedIf accepted
   call-is room phs e = rw (fine, listed, room, e) refl
 
 -- ---- the trace of a run

@@ -10,7 +10,8 @@ use Rattle.rules.specs.Bytes.{records}
 use Rattle.rules.specs.Tree.{kinds}
 use Rattle.rules.specs.Scheduling.{Entry, Steal, Run, judgeEvent}
 use Rattle.rules.specs.Traces.{traceBytes, runList}
-use Rattle.rules.specs.Calls.{startVerdict, written, finished, Recorded, recordOf, Replayed, replayOf, replayCall}
+use Rattle.rules.specs.Calls.{startVerdict, written, shortOutputs, shortList, finished, Recorded, recordOf, Replayed, replayOf}
+use Rattle.rules.specs.Calls.{replayCall}
 use Rattle.tree_scan.specs.Laws.Starts.{start-tree-accepts, start-workers, admitted-policy}
 use Rattle.tree_scan.specs.Laws.Frames.{Frame, accepted-frame}
 use Rattle.run_invariant.specs.Invariant.{Invariant}
@@ -23,7 +24,7 @@ use Rattle.replay_invariant.specs.Laws.Consequences.{list-none, list-length, li
 use Rattle.run_state.specs.declared.RunState.{RunState}
 use Rattle.run_state.specs.Contract.{startAnswer}
 use Rattle.run_spec.specs.declared.Event.{Event}
-use Rattle.agreement.specs.Agreement.{entriesOf, replayedWorkers, liveWorkers, shortOutputs, shortList, live, steals}
+use Rattle.agreement.specs.Agreement.{entriesOf, replayedWorkers, liveWorkers, live, steals}
 use Rattle.agreement.specs.Agreement.{Compared, entries, recorded, traced, logged, replayed, listed, Same, Agreement}
 use Rattle.agreement.specs.Laws.Live.{pair, runAfter, call-number, live-same, live-accepted, live-runs, live-steals}
 use Rattle.agreement.specs.Laws.Records.{Small, entries-back, trace-back, workers-back}

@@ -12,15 +12,16 @@ use borrow.Author.Tests.{eq-eqb, ne-eqb, le-leb}
 use Rattle.rules.specs.Bytes.{records, wholeRecords, accepted, refusedIf, firstRefused}
 use Rattle.rules.specs.Tree.{kinds}
 use Rattle.rules.specs.Scheduling.{start}
-use Rattle.rules.specs.Calls.{mostEvents, startVerdict, written, finished, recordWalk, recordVerdict, recordOf, recordRefused, recordCall}
+use Rattle.rules.specs.Calls.{mostEvents, startVerdict, written, shortOutputs, finished, recordWalk, recordVerdict}
+use Rattle.rules.specs.Calls.{recordOf, recordRefused, recordCall}
 use Rattle.rules.specs.Schedules.{Making, begun, made, mostMade, Scheduled, scheduleVerdict, scheduleOf, scheduleRefused, scheduleCall}
 use Rattle.tree.specs.Laws.Verdicts.{first-accepts}
 use Rattle.tree_scan.specs.Laws.Starts.{start-tree-accepts, start-workers}
 use Rattle.tree_scan.specs.Laws.Frames.{Frame, accepted-frame}
-use Rattle.schedule_rounds.specs.Schedule.{shortOutputs, answered, listed, recorded, Schedule}
+use Rattle.schedule_rounds.specs.Schedule.{answered, listed, recorded, Schedule}
 use Rattle.schedule_rounds.specs.Terms.{Going}
 use Rattle.schedule_rounds.specs.Laws.Turns.{going-start, going-short, going-bytes, going-records}
-use Rattle.schedule_rounds.specs.Laws.Rounds.{rounds-stop, rounds-finish, idle-again, again-more}
+use Rattle.schedule_rounds.specs.Laws.Rounds.{rounds-stop, rounds-finish, idle-again, again-more, rest-idle}
 
 -- ---- recording a list in the making
 
@@ -49,12 +50,12 @@ module _ (w p : ℕ) (tree : List ℕ) (starts : startVerdict w p tree .number �
         ) refl
 
     judged : recordVerdict w p tree bytes log trace ≡ refusedIf (shortOutputs tree log trace) 7 0
-    unfolding recordVerdict shortOutputs firstRefused refusedIf accepted
+    unfolding recordVerdict firstRefused refusedIf accepted
     judged =
         rw (eq-eqb (startVerdict w p tree .number) 0 starts, whole, going-records w p (kinds tree) m is, is .walked)
         (only-short (shortOutputs tree log trace))
 
-    pub recorded-verdict : recordCall w p tree bytes log trace .verdict ≡ refusedIf (shortOutputs tree log trace) 7 0
+    recorded-verdict : recordCall w p tree bytes log trace .verdict ≡ refusedIf (shortOutputs tree log trace) 7 0
     unfolding recordCall recordOf recordRefused refusedIf accepted
     recorded-verdict = rw judged (by (shortOutputs tree log trace))
       where
@@ -64,7 +65,7 @@ module _ (w p : ℕ) (tree : List ℕ) (starts : startVerdict w p tree .number �
         by true = refl
         by false = refl
 
-    pub recorded-finished : finished (kinds tree) (m .run) ≡ true → shortOutputs tree log trace ≡ false
+    recorded-finished : finished (kinds tree) (m .run) ≡ true → shortOutputs tree log trace ≡ false
         → recordCall w p tree bytes log trace .finished ≡ true
     unfolding recordCall recordOf refusedIf accepted
     recorded-finished done room = rw (judged, room, going-records w p (kinds tree) m is, is .walked) done
@@ -89,12 +90,16 @@ module _ (w p : ℕ) (tree : List ℕ) (seed : ℕ) (lent : List ℕ) (accepts :
   unfolding scheduleCall
   call-is = rw (eq-eqb (scheduleVerdict w p tree lent .number) 0 verdict-accepts) refl
 
+  begins : Going w p (kinds tree) (begun w seed)
+  begins =
+      let f = frame w p tree starts in
+      going-start w p (kinds tree) (f .some) (f .shape) seed (start-workers w p tree starts .0)
+
   ended : (finished (kinds tree) (list .run) ≡ true) × Going w p (kinds tree) list
   unfolding made begun start
   ended =
       let f = frame w p tree starts in
-      rounds-finish w p (kinds tree) (f .some) (f .shape) (length (kinds tree)) (begun w seed)
-      (going-start w p (kinds tree) (f .some) (f .shape) seed (start-workers w p tree starts .0)) (omega arith)
+      rounds-finish w p (kinds tree) (f .some) (f .shape) (length (kinds tree)) (begun w seed) begins (omega arith)
 
   answered-is : answered w p tree seed lent ≡ length (list .events)
   unfolding answered scheduleOf
@@ -126,9 +131,10 @@ module _ (w p : ℕ) (tree : List ℕ) (seed : ℕ) (lent : List ℕ) (accepts :
               rw (again-more w p (kinds tree) (stop .many) k (begun w seed))
               (idle-again p (kinds tree) (f .some) (f .shape) w k _ (rw (stop .same) at (ended .1 .invariant))
               (rw (stop .same) at (ended .0)) .1);
+          quiet = λ k j few done. rest-idle w p (kinds tree) (f .some) (f .shape) k j (begun w seed) begins few done;
           events = events-are ∙ ap (λ (x : Making). x .events) (stop .same);
         };
         accepted = λ log trace. rw listed-is (recorded-verdict w p tree starts list (ended .1) log trace);
         finishes = λ log trace room. rw listed-is (recorded-finished w p tree starts list (ended .1) log trace (ended .0) room);
-        short = omega (arith, answered-is, going-short w p (kinds tree) (f .some) (f .shape) list (ended .1));
+        atMost = omega (arith, answered-is, going-short w p (kinds tree) (f .some) (f .shape) list (ended .1));
       }
