@@ -20,7 +20,8 @@ pub const RUN: u8 = 16;
 // A step that has not run.
 pub const NOT_RUN: u8 = 17;
 
-// The highest step marked with the worker among those from `low` to before `end`, by a scan.
+// The highest step marked with the worker, or with NOT_RUN, among those from `low` to before `end`, by a scan. With NOT_RUN that is no
+// pusher, but the last step that has not run.
 pub fn scan(place: &[u8; MOST_STEPS], worker: u8, low: Step, end: Step) -> Pusher
     requires { ⌜ end .0 ≤ mostSteps ⌝ }
     ensures { λ r. ⌜ r ≡ pusherOf (newestMark (now (place .entry)) worker (low .0) (end .0)) ⌝ }

@@ -1,7 +1,8 @@
 // A run, a steal and an event on the fields of a run's state, lent as arrays (document 01, "Scheduling"): whether it is
-// refused, and else what it stores. Single events lend the arrays of a state by value, recording its own. Module `run` judges
-// and makes a run, `steal` a steal, `ordinal` counts the ordinal of its step. Any fields and any bytes are safe: a held
-// step beyond the tree is none, a tree with more records than a tree may have is refused with 2, and a count above 16 is 16.
+// refused, and else what it stores. Single events lend the arrays of a state by value, recording and the schedule maker their
+// own. Module `run` judges and makes a run, `steal` a steal, `ordinal` counts the ordinal of its step. Any fields and any bytes
+// are safe: a held step beyond the tree is none, a tree with more records than a tree may have is refused with 2, and a count
+// above 16 is 16.
 pub mod ordinal;
 pub mod run;
 pub mod steal;

@@ -10,8 +10,8 @@ use Rattle.rules.specs.Schedules.{Making, round, rounds, made}
 use Rattle.policy.specs.declared.Setup.{Setup}
 use Rattle.schedule_turn.specs.Terms.{Arrays, Stands}
 
--- From one to the other: whatever list the first show, the second show it after the turns of the first k workers.
-pub record Rounds (setup : Setup) (tree : List ℕ) (k : ℕ) (start end : Arrays) : Type 0 where
+-- From one to the other: whatever list in the making the first show, the second show what the turns of the first k workers make of it.
+pub record FirstTurns (setup : Setup) (tree : List ℕ) (k : ℕ) (start end : Arrays) : Type 0 where
   pub shown : (lent : List ℕ) (m : Making) → Stands setup tree lent m start
       → Stands setup tree lent (round (setup .policy) (kinds tree) (count 0 k) m) end
 
@@ -25,6 +25,6 @@ pub record Underway (setup : Setup) (tree lent : List ℕ) (seed : ℕ) (a : Arr
   pub enough : length (kinds tree) ≤ length (making .run .log) + left
 
 -- The list's count of events is answered, and they stand at the front of the lent list.
-pub record Lists (list : Making) (lent : List ℕ) (count : ℕ) (after : List ℕ) : Type 0 where
+pub record ListWritten (list : Making) (lent : List ℕ) (count : ℕ) (after : List ℕ) : Type 0 where
   pub counted : count ≡ length (list .events)
   pub listed : after ≡ written (flatten (list .events)) lent

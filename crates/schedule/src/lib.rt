@@ -9,7 +9,7 @@ ghost use Rattle.rules.specs.Tree.{kinds};
 ghost use Rattle.rules.specs.Calls.{startVerdict};
 ghost use Rattle.rules.specs.Schedules.{made, mostMade, scheduleCall};
 ghost use Rattle.schedule.specs.Contract.{answers};
-ghost use Rattle.schedule.specs.Terms.{Lists};
+ghost use Rattle.schedule.specs.Terms.{ListWritten};
 use policy::Setup;
 use tree::MOST_STEPS;
 
@@ -26,7 +26,7 @@ fn make(tree: &[u8], setup: Setup, seed: u32, events: &mut [u8]) -> usize
     requires { ⌜ 2 * mostMade (length (kinds (now tree))) ≤ length (now events) ⌝ }
     ensures { λ r.
         let list = made (setup .workers) (setup .policy) (kinds (now (tree .entry))) seed in
-        ⌜ Lists list (now (events .entry)) r (now (events .exit)) ⌝ }
+        ⌜ ListWritten list (now (events .entry)) r (now (events .exit)) ⌝ }
 {
     let n = tree::steps(tree);
     let mut ends: [u16; MOST_STEPS] = [0; MOST_STEPS];

@@ -8,7 +8,7 @@ ghost use Rattle.rules.specs.Calls.{startVerdict};
 ghost use Rattle.rules.specs.Schedules.{made, mostMade};
 ghost use Rattle.tree_tables.specs.Terms.{Ends, Openers};
 ghost use Rattle.schedule_turn.specs.Terms.{arraysOf, Standing};
-ghost use Rattle.schedule.specs.Terms.{Lists, Rounds};
+ghost use Rattle.schedule.specs.Terms.{ListWritten, FirstTurns};
 use policy::Setup;
 use policy::WORKERS;
 use run_deques::NOT_RUN;
@@ -44,7 +44,7 @@ fn round(
         let end =
         arraysOf (now (place .exit)) (now (held .exit)) (now (phase .exit)) (now (low .exit)) (now (base .exit))
         (now (sizes .exit)) (now (awaited .exit)) (now (events .exit)) setup r in
-        ⌜ Rounds setup (now (tree .entry)) (setup .workers) start end ⌝ }
+        ⌜ FirstTurns setup (now (tree .entry)) (setup .workers) start end ⌝ }
 {
     let mut turned = before;
     let mut next: u8 = 0;
@@ -86,7 +86,7 @@ pub fn make_events(
     requires { ⌜ 2 * mostMade (length (kinds (now tree))) ≤ length (now events) ⌝ }
     ensures { λ r.
         let list = made (setup .workers) (setup .policy) (kinds (now (tree .entry))) seed in
-        ⌜ Lists list (now (events .entry)) r (now (events .exit)) ⌝ }
+        ⌜ ListWritten list (now (events .entry)) r (now (events .exit)) ⌝ }
 {
     let n = tree::steps(tree);
     let mut place: [u8; MOST_STEPS] = [NOT_RUN; MOST_STEPS];

@@ -32,7 +32,7 @@ pub record Sized (s : Run) (sizes : List ℕ) : Type 0 where
 
 -- ---- the steps that workers wait for
 
--- The highest step before step `end` that has not run.
+-- The highest step before step `end` that has not run, or noStep where there is none.
 unfoldable pub lastUnrun : List ℕ → ℕ → ℕ
 lastUnrun place end = elim (newestMark place unrunMark 0 end) [ none ↦ noStep | some j ↦ j ]
 
@@ -41,7 +41,7 @@ unfoldable pub unrunStill : List ℕ → ℕ → Bool
 unrunStill place j = ltb j mostSteps && marked place unrunMark j
 
 -- Worker u holds a step that follows a finish child, and step j is a step of that child or of its descendants.
-pub record Inside (ks : List ℕ) (s : Run) (u j : ℕ) : Type 0 where
+pub record Awaits (ks : List ℕ) (s : Run) (u j : ℕ) : Type 0 where
   pub step : ℕ
   pub holds : workerAt s u .hand .held ≡ some step
   pub first : ℕ
@@ -53,7 +53,7 @@ pub record Inside (ks : List ℕ) (s : Run) (u j : ℕ) : Type 0 where
 pub record Awaited (ks : List ℕ) (s : Run) (awaited : List ℕ) : Type 0 where
   pub sixteen : length awaited ≡ mostWorkers
   pub each : (u : ℕ) → u < mostWorkers → getD awaited u 0 < mostSteps
-      → (getD awaited u 0 < length ks) × (hasRun (s .log) (getD awaited u 0) ≡ false → Inside ks s u (getD awaited u 0))
+      → (getD awaited u 0 < length ks) × (hasRun (s .log) (getD awaited u 0) ≡ false → Awaits ks s u (getD awaited u 0))
 
 -- ---- a list in the making
 
@@ -95,7 +95,7 @@ pub record Standing (setup : Setup) (tree : List ℕ) (a : Arrays) : Type 0 wher
   pub making : Making
   pub stands : Stands setup tree lent making a
 
--- From one to the other: whatever list the first show, the second show it after worker u's turn.
+-- From one to the other: whatever list in the making the first show, the second show what worker u's turn makes of it.
 pub record Turns (setup : Setup) (tree : List ℕ) (u : ℕ) (start end : Arrays) : Type 0 where
   pub shown : (lent : List ℕ) (m : Making) → Stands setup tree lent m start
       → Stands setup tree lent (turn (setup .policy) (kinds tree) m u) end

@@ -1,6 +1,6 @@
 // One turn of the schedule maker (document 02, #102), on the arrays of a run and on the list that is being made: a worker whose step
-// may run runs it, an idle one draws a victim. Two tables beside the run keep a turn that passes from looking through it: the length of
-// each deque, and for each worker the step that it was last seen to wait for.
+// may run runs it, an idle one draws a victim. Two tables beside the run keep nearly every turn that passes from looking through it: the
+// length of each deque, and for each worker the step that it was last seen to wait for.
 mod draw;
 mod waiting;
 
@@ -91,6 +91,7 @@ fn run_turn(
                 runs: runs + 1,
             }
         }
+        // A run never steals.
         Outcome::Stole(number) => Turned { seed, steals, runs },
         Outcome::Refused(number) => {
             awaited[w] = waiting::last_unrun(place, Step(wide(held[w])));
@@ -133,10 +134,12 @@ fn steal_turn(
     let seed = draw::next_seed(before.seed);
     let victim = draw::named(seed);
     let v = victim as usize;
+    // It is another worker, and below the count: an idle worker's own deque, and that of nobody, has no step.
     let size = sizes[v];
     if size == 0 {
         return Turned { seed, steals, runs };
     }
+    // The victim has a step, so the rules accept the steal.
     let moved = run_event::steal_on(
         tree,
         ends,

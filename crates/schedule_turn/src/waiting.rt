@@ -1,5 +1,5 @@
-// What a worker that waits is seen to wait for: the highest step of the finish child that has not run, with the child's descendants.
-// While that has not run the worker waits, and the child need not be looked through.
+// What a worker that waits is noted to wait for: of the finish child and its descendants the highest step that has not run. While that
+// has not run the worker waits, and the child need not be looked through.
 ghost use mathlib.Core.Path.{_≡_};
 ghost use Prim.Native.Nat.{_≤_};
 ghost use Rattle.rules.specs.Tree.{mostSteps};

@@ -82,9 +82,9 @@ module _ (log : List Entry) (e : Entry) where
   run-stays j h = run-more j ∙ rw h refl
 
 -- What does not wait will not wait later.
-pub free-stays : (ks : List ℕ) (log : List Entry) (e : Entry) (i : ℕ) → waits ks log i ≡ false → waits ks (log ++ (e ∷ [])) i ≡ false
+pub stays-free : (ks : List ℕ) (log : List Entry) (e : Entry) (i : ℕ) → waits ks log i ≡ false → waits ks (log ++ (e ∷ [])) i ≡ false
 unfolding waits
-free-stays ks log e i free = by (finishBefore ks i) refl
+stays-free ks log e i free = by (finishBefore ks i) refl
   where
     by : (o : Option ℕ) → finishBefore ks i ≡ o → waits ks (log ++ (e ∷ [])) i ≡ false
     by none o = rw (o, waits) refl

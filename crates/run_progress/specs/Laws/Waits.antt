@@ -24,7 +24,7 @@ use Rattle.run_invariant.specs.Laws.Waiting.{finish-opens, waits-finish, first-
 -- ---- what a step waits for
 
 -- Step i follows the finish child that step `opener` opens, and of the steps between them `unrun` has not run.
-pub record WaitsFor (ks : List ℕ) (log : List Entry) (i : ℕ) : Type 0 where
+pub record Blocked (ks : List ℕ) (log : List Entry) (i : ℕ) : Type 0 where
   pub opener : ℕ
   pub within : opener < length ks
   pub finish : isFinish (kindAt ks opener) ≡ true
@@ -37,7 +37,7 @@ pub record WaitsFor (ks : List ℕ) (log : List Entry) (i : ℕ) : Type 0 where
 module _ (ks : List ℕ) (sh : Shape (length ks) (endAt ks) (sizeAt ks)) (log : List Entry) where
   -- A continuation waits only where its child is a finish child, and while not all of that child has run.
   cont-waits-for : (q : ℕ) → q < length ks → isEnd (kindAt ks q) ≡ false → waits ks log (cont ks q) ≡ true
-      → (b : Bool) → isFinish (kindAt ks q) ≡ b → WaitsFor ks log (cont ks q)
+      → (b : Bool) → isFinish (kindAt ks q) ≡ b → Blocked ks log (cont ks q)
   unfolding endAt
   cont-waits-for q h opens w true finish =
       let ran = all (hasRun log) (count (suc q) (cont ks q - suc q)) in
@@ -56,7 +56,7 @@ module _ (ks : List ℕ) (sh : Shape (length ks) (endAt ks) (sizeAt ks)) (log : 
   cont-waits-for q h opens w false async = absurd (true≢false (sym w ∙ async-never-waits ks sh log q h opens async))
 
   -- Every step but the first is the first of a child, which never waits, or a continuation.
-  pub waits-for : (i : ℕ) → i < length ks → waits ks log i ≡ true → WaitsFor ks log i
+  pub waits-for : (i : ℕ) → i < length ks → waits ks log i ≡ true → Blocked ks log i
   unfolding endAt
   waits-for zero h w = absurd (true≢false (sym w ∙ first-never-waits ks sh log))
   waits-for (suc e) h w =
@@ -67,7 +67,7 @@ module _ (ks : List ℕ) (sh : Shape (length ks) (endAt ks) (sizeAt ks)) (log : 
 
 -- ---- who has it pending
 
-module _ (p : ℕ) (ks : List ℕ) (sh : Shape (length ks) (endAt ks) (sizeAt ks)) (log : List Entry) (i : ℕ) (f : WaitsFor ks log i) where
+module _ (p : ℕ) (ks : List ℕ) (sh : Shape (length ks) (endAt ks) (sizeAt ks)) (log : List Entry) (i : ℕ) (f : Blocked ks log i) where
   -- A finish child's opener is no end.
   opens : isEnd (kindAt ks (f .opener)) ≡ false
   opens = finish-opens (kindAt ks (f .opener)) (f .finish)

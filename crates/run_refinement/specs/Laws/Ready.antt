@@ -20,7 +20,7 @@ use Rattle.run_invariant.specs.Invariant.{self, logOf, stack, PhaseFacts, Invar
 use Rattle.run_invariant.specs.Laws.Counts.{and-both, Has, has-head, has-tail, has-cases, has-none, any-one}
 use Rattle.run_invariant.specs.Laws.Weights.{span, self-same, span-weighs, span-most, span-in, span-inside, span-out, span-self}
 use Rattle.run_invariant.specs.Laws.Weights.{cont-inside, pushes-either, nested-end, child-shared}
-use Rattle.run_invariant.specs.Laws.Waiting.{waits-no-longer, child-never-waits, async-never-waits, free-stays}
+use Rattle.run_invariant.specs.Laws.Waiting.{waits-no-longer, child-never-waits, async-never-waits, stays-free}
 use Rattle.run_invariant.specs.Laws.Phase.{phase-runs, after-ended, after-kept}
 use Rattle.run_invariant.specs.Laws.Moves.{sum-one, getD-alike, log-own, some-holds, held-facts, onward, ran, ran-here, ran-other}
 use Rattle.run_invariant.specs.Laws.Moves.{begin-new, begin-robbed, begin-other, enriched, lightened, steal-thief, steal-other}
@@ -207,7 +207,7 @@ module _ (p : ℕ) (ks : List ℕ) (sh : Shape (length ks) (endAt ks) (sizeAt ks
           | no n ↦
               let now = ran-other p ks r w i u n in
               let before = ready u x small (ap (λ (y : Worker). y .hand .held) (sym now) ∙ e) in
-              rw now (record { stolenBelow = before .stolenBelow; free = λ m. free-stays ks (r .log) entry x (before .free m) })
+              rw now (record { stolenBelow = before .stolenBelow; free = λ m. stays-free ks (r .log) entry x (before .free m) })
         ]
 
   -- ---- a steal

@@ -14,7 +14,7 @@ use Rattle.arguments.specs.Terms.{listShort, scheduleJudged}
 use Rattle.arguments.specs.Laws.Cases.{callVerdict, given-refused, given, given-last}
 use Rattle.schedule.specs.declared.Scheduled.{Scheduled}
 use Rattle.schedule.specs.Contract.{answers}
-use Rattle.schedule.specs.Terms.{Lists}
+use Rattle.schedule.specs.Terms.{ListWritten}
 
 -- What a return is to meet: the call's answers, and the lent list as it leaves it.
 abbrev pub Meets : Call → Scheduled → List ℕ → Type 0
@@ -44,7 +44,7 @@ module _ (w p : ℕ) (tree : List ℕ) (seed : ℕ) (events : List ℕ) where
       unfolding scheduleJudged listShort
       room = ltb-false (length events) (2 * mostMade (length (kinds tree))) (given w p tree true _ a is z .room)
 
-      pub list-meets : (count : ℕ) (after : List ℕ) → Lists (made w p (kinds tree) seed) events count after
+      pub list-meets : (count : ℕ) (after : List ℕ) → ListWritten (made w p (kinds tree) seed) events count after
           → Meets (scheduleCall w p tree seed events) (record { number = 0; position = 0; events = count }) after
       unfolding scheduleCall scheduleOf scheduleJudged answers firstRefused accepted
       list-meets count after so =

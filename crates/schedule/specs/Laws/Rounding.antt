@@ -26,21 +26,21 @@ use Rattle.schedule_turn.specs.Terms.{Arrays, Stands, Standing, Turns}
 use Rattle.schedule_turn.specs.Laws.Sizes.{sized-start}
 use Rattle.schedule_turn.specs.Laws.Awaits.{awaited-start}
 use Rattle.schedule_turn.specs.Laws.Listing.{frame, listed-count}
-use Rattle.schedule.specs.Terms.{Rounds, Underway, Lists}
+use Rattle.schedule.specs.Terms.{FirstTurns, Underway, ListWritten}
 
 -- ---- a round, turn by turn
 
 module _ {setup : Setup} {tree : List ℕ} {a : Arrays} where
-  pub round-begins : Rounds setup tree 0 a a
+  pub round-begins : FirstTurns setup tree 0 a a
   unfolding round count
   round-begins = record { shown = λ lent m stands. stands }
 
   -- After some turns the arrays show some list in the making.
-  pub round-standing : {k : ℕ} {b : Arrays} → Standing setup tree a → Rounds setup tree k a b → Standing setup tree b
+  pub round-standing : {k : ℕ} {b : Arrays} → Standing setup tree a → FirstTurns setup tree k a b → Standing setup tree b
   round-standing standing so =
       record { lent = standing .lent; making = _; stands = so .shown (standing .lent) (standing .making) (standing .stands) }
 
-  pub round-goes-on : {k : ℕ} {b c : Arrays} → Rounds setup tree k a b → Turns setup tree k b c → Rounds setup tree (k + 1) a c
+  pub round-goes-on : {k : ℕ} {b c : Arrays} → FirstTurns setup tree k a b → Turns setup tree k b c → FirstTurns setup tree (k + 1) a c
   round-goes-on {k} so turns =
       record {
         shown = λ lent m stands.
@@ -103,7 +103,7 @@ module _ {setup : Setup} {tree lent : List ℕ} {seed : ℕ} {a : Arrays} (on : 
   making-standing = record { lent = lent; making = m; stands = on .stands }
 
   -- Some step has not run: a round runs one.
-  module _ (more : a .runs < length ks) {b : Arrays} (rounded : Rounds setup tree w a b) where
+  module _ (more : a .runs < length ks) {b : Arrays} (rounded : FirstTurns setup tree w a b) where
     abbrev next : Making
     next = round p ks (count 0 w) m
 
@@ -139,7 +139,7 @@ module _ {setup : Setup} {tree lent : List ℕ} {seed : ℕ} {a : Arrays} (on : 
             }
 
   -- None is left: the list in the making is the list made.
-  pub making-ends : length ks ≤ a .runs → Lists (made w p ks seed) lent (a .runs + a .fields .steals) (a .events)
+  pub making-ends : length ks ≤ a .runs → ListWritten (made w p ks seed) lent (a .runs + a .fields .steals) (a .events)
   making-ends all-run =
       let s = on .stands in
       let inv = s .going .invariant in

@@ -1,99 +1,32 @@
 -- Rounds: some worker may run when a round begins, and still may when its turn comes; so each round runs a step, and as many rounds as
--- there are steps left finish. No turn after that writes an event.
-use Prim.Native.Nat.{ℕ, zero, suc, _+_, _≤_, _<_}
+-- there are steps left finish. No turn afterTurns that writes an event.
+use Prim.Native.Nat.{ℕ, zero, suc, _+_, _-_, _≤_, _<_}
 use mathlib.Core.Path.{_≡_, refl, sym, ap, _∙_}
-use mathlib.Core.Bool.{Bool, true, false, cond, _&&_, not, true≢false, and-false}
+use mathlib.Core.Bool.{Bool, true, false, _&&_, not, true≢false, and-false}
 use mathlib.Core.List.{List, [], _∷_, _++_}
 use mathlib.Core.Option.{Option, none, some}
 use native.Mathlib.Decide.{ℕ-discrete}
-use native.Mathlib.Nat.{zero-add}
+use native.Mathlib.Nat.{zero-add, add-zero}
 use native.Mathlib.Omega.{arith}
-use lib.ListN.{length, getD, length-append}
+use lib.ListN.{length, length-append}
 use lib.Dec.{eqb, ltb}
-use borrow.Author.Tests.{eq-eqb, ne-eqb}
+use borrow.Author.Tests.{eq-eqb}
 use Rattle.rules.specs.Bytes.{count}
-use Rattle.rules.specs.Scheduling.{Worker, Run, workerAt, isRun, judgeRun, runStep, holdsStep, steal, judgeEvent, nextRun}
-use Rattle.rules.specs.Calls.{eventCall, finished}
+use Rattle.rules.specs.Scheduling.{Worker, workerAt, isRun, judgeRun, holdsStep, nextRun}
+use Rattle.rules.specs.Calls.{finished}
 use Rattle.rules.specs.Schedules.{draw, named, Making, write, drawn, robbable, turn, round, rounds}
 use Rattle.tree.specs.Laws.Counts.{count-snoc}
 use Rattle.tree_scan.specs.Laws.Shape.{Shape}
 use Rattle.tree_scan.specs.Laws.Frames.{endAt, sizeAt}
 use Rattle.run_invariant.specs.Invariant.{Invariant}
-use Rattle.run_invariant.specs.Laws.Waiting.{free-accepted, free-stays}
-use Rattle.run_invariant.specs.Laws.Moves.{ran, run-is, ran-other, lightened, steal-other, steal-victim, run-held, run-free}
-use Rattle.run_invariant.specs.Laws.Moves.{some-holds, second-within, event-runs}
-use Rattle.run_invariant.specs.Laws.Events.{event-next, event-same}
+use Rattle.run_invariant.specs.Laws.Moves.{ran, run-is, run-held, run-free}
+use Rattle.run_invariant.specs.Laws.Moves.{some-holds}
+use Rattle.run_invariant.specs.Laws.Events.{event-grows, event-leaves}
 use Rattle.run_invariant.specs.Laws.Consequences.{runs-most, finished-idle, runs-finished}
 use Rattle.run_progress.specs.Laws.Progress.{progress}
 use Rattle.schedule_rounds.specs.Schedule.{again}
 use Rattle.schedule_rounds.specs.Terms.{Going}
 use Rattle.schedule_rounds.specs.Laws.Turns.{tried, turn-runs, turn-passes, turn-tries, going-turn}
-
--- ---- one event
-
-module _ (p : ℕ) (ks : List ℕ) where
-  -- A run makes the log one longer, a steal leaves it.
-  next-log : (s : Run) (e : List ℕ) → judgeEvent ks s e ≡ 0
-      → length (nextRun p ks s e .log) ≡ length (s .log) + cond (isRun e) 1 0
-  unfolding nextRun isRun ran steal
-  next-log s e fine =
-      elim (ℕ-discrete (getD e 0 0) (getD e 1 0)) [
-        | yes same ↦
-            let held = run-held ks s (getD e 0 0) (event-runs ks s e fine same) in
-            rw (eq-eqb (getD e 0 0) (getD e 1 0) same, run-is p ks s (getD e 0 0) (held .0) (held .1)) (length-append (s .log) _)
-        | no n ↦ rw (ne-eqb (getD e 0 0) (getD e 1 0) n) (omega arith)
-      ]
-
-  event-grows : (s : Run) (e : List ℕ) → length (s .log) ≤ length (eventCall p ks s e .state .log)
-  event-grows s e =
-      elim (ℕ-discrete (judgeEvent ks s e) 0) [
-        | yes fine ↦ rw (event-next p ks s e fine) (omega (arith, next-log s e fine))
-        | no bad ↦ rw (event-same p ks s e bad) (omega arith)
-      ]
-
-  -- A worker that may run still may after another worker's run, and after its steal: a victim keeps the step that it holds.
-  run-leaves : (s : Run) (x u : ℕ) → judgeRun ks s x ≡ 0 → (u ≡ x → ⊥) → judgeRun ks s u ≡ 0 → judgeRun ks (runStep p ks s x) u ≡ 0
-  unfolding ran
-  run-leaves s x u fine other free =
-      let held = run-held ks s x fine in
-      let own = run-held ks s u free in
-      rw (run-is p ks s x (held .0) (held .1))
-      (free-accepted ks (ran p ks s x (held .0)) u (own .0)
-      (ap (λ (y : Worker). y .hand .held) (ran-other p ks s x (held .0) u other) ∙ own .1)
-      (free-stays ks (s .log) _ (own .0) (run-free ks s u free (own .0) (own .1))))
-
-  steal-leaves : (s : Run) (x v u : ℕ) → (x ≡ v → ⊥) → v < length (s .workers) → (u ≡ x → ⊥) → judgeRun ks s u ≡ 0
-      → judgeRun ks (steal s x v) u ≡ 0
-  unfolding steal lightened
-  steal-leaves s x v u two within other free =
-      let own = run-held ks s u free in
-      free-accepted ks (steal s x v) u (own .0) (kept ∙ own .1) (run-free ks s u free (own .0) (own .1))
-    where
-      kept : workerAt (steal s x v) u .hand .held ≡ workerAt s u .hand .held
-      kept =
-          elim (ℕ-discrete u v) [
-            | yes robbed ↦ rw robbed (ap (λ (y : Worker). y .hand .held) (steal-victim s x v two within))
-            | no apart ↦ ap (λ (y : Worker). y .hand .held) (steal-other s x v u other apart)
-          ]
-
-  next-leaves : (s : Run) (e : List ℕ) (u : ℕ) → judgeEvent ks s e ≡ 0 → (u ≡ getD e 0 0 → ⊥) → judgeRun ks s u ≡ 0
-      → judgeRun ks (nextRun p ks s e) u ≡ 0
-  unfolding nextRun isRun
-  next-leaves s e u fine other free =
-      elim (ℕ-discrete (getD e 0 0) (getD e 1 0)) [
-        | yes same ↦ rw (eq-eqb (getD e 0 0) (getD e 1 0) same)
-            (run-leaves s (getD e 0 0) u (event-runs ks s e fine same) other free)
-        | no two ↦ rw (ne-eqb (getD e 0 0) (getD e 1 0) two)
-            (steal-leaves s (getD e 0 0) (getD e 1 0) u two (second-within ks s e fine) other free)
-      ]
-
-  pub event-leaves : (s : Run) (e : List ℕ) (u : ℕ) → (u ≡ getD e 0 0 → ⊥) → judgeRun ks s u ≡ 0
-      → judgeRun ks (eventCall p ks s e .state) u ≡ 0
-  event-leaves s e u other free =
-      elim (ℕ-discrete (judgeEvent ks s e) 0) [
-        | yes fine ↦ rw (event-next p ks s e fine) (next-leaves s e u fine other free)
-        | no bad ↦ rw (event-same p ks s e bad) free
-      ]
 
 -- ---- one turn
 
@@ -139,34 +72,34 @@ module _ (p : ℕ) (ks : List ℕ) where
 module _ (w p : ℕ) (ks : List ℕ) (some-step : 1 ≤ length ks) (sh : Shape (length ks) (endAt ks) (sizeAt ks))
     (m : Making) (is : Going w p ks m) where
   -- After the first k turns.
-  abbrev after : ℕ → Making
-  after k = round p ks (count 0 k) m
+  abbrev afterTurns : ℕ → Making
+  afterTurns k = round p ks (count 0 k) m
 
-  pub going-turns : (k : ℕ) → k ≤ w → Going w p ks (round p ks (count 0 k) m)
+  going-turns : (k : ℕ) → k ≤ w → Going w p ks (round p ks (count 0 k) m)
   unfolding round count
   going-turns zero h = is
-  going-turns (suc k) h = rw (round-last p ks k m) (going-turn w p ks some-step sh (after k) k (going-turns k (omega arith)) h)
+  going-turns (suc k) h = rw (round-last p ks k m) (going-turn w p ks some-step sh (afterTurns k) k (going-turns k (omega arith)) h)
 
-  at-turn : (k : ℕ) → k < w → k < length (after k .run .workers)
+  at-turn : (k : ℕ) → k < w → k < length (afterTurns k .run .workers)
   at-turn k h = omega (arith, going-turns k (omega arith) .workers)
 
-  turns-grow : (k : ℕ) → k ≤ w → length (m .run .log) ≤ length (after k .run .log)
+  turns-grow : (k : ℕ) → k ≤ w → length (m .run .log) ≤ length (afterTurns k .run .log)
   unfolding round count
   turns-grow zero h = omega arith
   turns-grow (suc k) h =
-      rw (round-last p ks k m) (omega (arith, turns-grow k (omega arith), turn-grows p ks (after k) k (at-turn k h)))
+      rw (round-last p ks k m) (omega (arith, turns-grow k (omega arith), turn-grows p ks (afterTurns k) k (at-turn k h)))
 
   -- A worker that may run when the round begins still may when its turn comes,
-  turns-leave : (u : ℕ) → judgeRun ks (m .run) u ≡ 0 → (k : ℕ) → k ≤ w → k ≤ u → judgeRun ks (after k .run) u ≡ 0
+  turns-leave : (u : ℕ) → judgeRun ks (m .run) u ≡ 0 → (k : ℕ) → k ≤ w → k ≤ u → judgeRun ks (afterTurns k .run) u ≡ 0
   unfolding round count
   turns-leave u free zero h l = free
   turns-leave u free (suc k) h l =
       rw (round-last p ks k m)
-      (turn-leaves p ks (after k) k (at-turn k h) u (omega arith) (turns-leave u free k (omega arith) (omega arith)))
+      (turn-leaves p ks (afterTurns k) k (at-turn k h) u (omega arith) (turns-leave u free k (omega arith) (omega arith)))
 
   -- and then runs.
   turns-run : (u : ℕ) → judgeRun ks (m .run) u ≡ 0 → (k : ℕ) → k ≤ w → u < k
-      → suc (length (m .run .log)) ≤ length (after k .run .log)
+      → suc (length (m .run .log)) ≤ length (afterTurns k .run .log)
   turns-run u free zero h l = absurd (omega arith)
   turns-run u free (suc k) h l =
       rw (round-last p ks k m)
@@ -175,12 +108,12 @@ module _ (w p : ℕ) (ks : List ℕ) (some-step : 1 ≤ length ks) (sh : Shape (
             omega (
               arith,
               turns-grow k (omega arith),
-              own-turn p ks (after k) k (at-turn k h) (rw e at (turns-leave u free k (omega arith) (omega arith))),
+              own-turn p ks (afterTurns k) k (at-turn k h) (rw e at (turns-leave u free k (omega arith) (omega arith))),
             )
-        | no n ↦ omega (arith, turns-run u free k (omega arith) (omega arith), turn-grows p ks (after k) k (at-turn k h))
+        | no n ↦ omega (arith, turns-run u free k (omega arith) (omega arith), turn-grows p ks (afterTurns k) k (at-turn k h))
       ])
 
-  pub going-round : Going w p ks (round p ks (count 0 w) m)
+  going-round : Going w p ks (round p ks (count 0 w) m)
   going-round = going-turns w (omega arith)
 
   -- Each round runs a step, until every step has run.
@@ -295,3 +228,36 @@ again-more w p ks zero k m = rw zero-add refl
 again-more w p ks (suc j) k m =
     let e : suc j + k ≡ suc (j + k) = omega arith in
     rw e (again-more w p ks j k (round p ks (count 0 w) m))
+
+-- ---- within a round
+
+count-split : (j k a : ℕ) → count a (j + k) ≡ count a j ++ count (a + j) k
+unfolding count
+count-split zero k a = rw (zero-add, add-zero) refl
+count-split (suc j) k a =
+    let e : suc j + k ≡ suc (j + k) = omega arith in
+    let f : a + suc j ≡ suc a + j = omega arith in
+    rw (e, f) (ap (λ (l : List ℕ). a ∷ l) (count-split j k (suc a)))
+
+module _ (w p : ℕ) (ks : List ℕ) (some-step : 1 ≤ length ks) (sh : Shape (length ks) (endAt ks) (sizeAt ks)) where
+  going-again : (k : ℕ) (m : Making) → Going w p ks m → Going w p ks (again w p ks k m)
+  unfolding again
+  going-again zero m is = is
+  going-again (suc k) m is = going-again k (round p ks (count 0 w) m) (going-round w p ks some-step sh m is)
+
+  -- Once every step has run, the turns that are left of a round write nothing.
+  pub rest-idle : (k j : ℕ) (m : Making) → Going w p ks m → j ≤ w
+      → finished ks (round p ks (count 0 j) (again w p ks k m) .run) ≡ true
+      → again w p ks (suc k) m .events ≡ round p ks (count 0 j) (again w p ks k m) .events
+  unfolding again
+  rest-idle k j m is few done =
+      let before = again w p ks k m in
+      let part = round p ks (count 0 j) before in
+      let one : suc k ≡ k + 1 = omega arith in
+      let all : w ≡ j + (w - j) = omega arith in
+      let turns : round p ks (count 0 w) before ≡ round p ks (count (0 + j) (w - j)) part =
+      ap (λ (x : ℕ). round p ks (count 0 x) before) all
+      ∙ ap (λ (us : List ℕ). round p ks us before) (count-split j (w - j) 0)
+      ∙ round-append p ks (count 0 j) (count (0 + j) (w - j)) before in
+      let going = going-turns w p ks some-step sh before (going-again k m is) j few in
+      rw (one, again-more w p ks k 1 m, turns) (idle-round p ks some-step sh (count (0 + j) (w - j)) part (going .invariant) done .1)

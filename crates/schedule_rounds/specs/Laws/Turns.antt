@@ -61,19 +61,19 @@ tried p ks m e seed =
     }
 
 module _ (p : ℕ) (ks : List ℕ) (m : Making) (e : List ℕ) (seed : ℕ) where
-  pub tried-written : judgeEvent ks (m .run) e ≡ 0
+  tried-written : judgeEvent ks (m .run) e ≡ 0
       → tried p ks m e seed ≡ record { run = nextRun p ks (m .run) e; seed = seed; events = m .events ++ (e ∷ []) }
   unfolding tried
   tried-written fine = rw (event-next p ks (m .run) e fine, eq-eqb (judgeEvent ks (m .run) e) 0 fine) refl
 
-  pub tried-passed : (judgeEvent ks (m .run) e ≡ 0 → ⊥)
+  tried-passed : (judgeEvent ks (m .run) e ≡ 0 → ⊥)
       → tried p ks m e seed ≡ record { run = m .run; seed = seed; events = m .events }
   unfolding tried
   tried-passed bad = rw (event-same p ks (m .run) e bad, ne-eqb (judgeEvent ks (m .run) e) 0 bad) refl
 
 -- What the rules say of the events that a turn tries.
 module _ (ks : List ℕ) (s : Run) (u : ℕ) (within : u < length (s .workers)) where
-  pub own-judged : judgeEvent ks s (u ∷ u ∷ []) ≡ judgeRun ks s u
+  own-judged : judgeEvent ks s (u ∷ u ∷ []) ≡ judgeRun ks s u
   unfolding judgeEvent isRun
   own-judged = rw (lt-leb (length (s .workers)) u within, eq-eqb u u refl) refl
 
@@ -104,7 +104,7 @@ module _ (ks : List ℕ) (s : Run) (u : ℕ) (within : u < length (s .workers)) 
 -- A turn tries one event.
 module _ (p : ℕ) (ks : List ℕ) (m : Making) (u : ℕ) (within : u < length (m .run .workers)) where
   -- A worker that holds a step tries to run it,
-  pub turn-tries-run : (i : ℕ) → workerAt (m .run) u .hand .held ≡ some i
+  turn-tries-run : (i : ℕ) → workerAt (m .run) u .hand .held ≡ some i
       → turn p ks m u ≡ tried p ks m (u ∷ u ∷ []) (m .seed)
   unfolding write
   turn-tries-run i held = by (waits ks (m .run .log) i) refl

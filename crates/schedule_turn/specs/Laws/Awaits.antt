@@ -19,7 +19,7 @@ use Rattle.run_invariant.specs.Laws.Waiting.{run-stays}
 use Rattle.run_spec.specs.Deques.{unrunMark, marked, newestMark}
 use Rattle.run_spec.specs.Running.{noStep}
 use Rattle.run_refinement.specs.Laws.Scans.{newest-above}
-use Rattle.schedule_turn.specs.Terms.{lastUnrun, Inside, Awaited}
+use Rattle.schedule_turn.specs.Terms.{lastUnrun, Awaits, Awaited}
 
 -- What a worker holds.
 abbrev heldOf : Run → ℕ → Option ℕ
@@ -35,7 +35,7 @@ awaited-start ks w =
 
 module _ (ks : List ℕ) (s : Run) where
   -- A step that follows a finish child waits while a step of the child has not run.
-  pub unrun-waits : (u j : ℕ) (f : Inside ks s u j) → hasRun (s .log) j ≡ false → waits ks (s .log) (f .step) ≡ true
+  pub unrun-waits : (u j : ℕ) (f : Awaits ks s u j) → hasRun (s .log) j ≡ false → waits ks (s .log) (f .step) ≡ true
   unfolding waits
   unrun-waits u j f unrun =
       let some-unrun =
@@ -63,7 +63,7 @@ module _ (ks : List ℕ) (s : Run) where
 
 module _ (ks : List ℕ) (s t : Run) (awaited : List ℕ) (so : Awaited ks s awaited)
     (grows : (j : ℕ) → hasRun (s .log) j ≡ true → hasRun (t .log) j ≡ true)
-    (same : (u j : ℕ) → Inside ks s u j → hasRun (s .log) j ≡ false → heldOf t u ≡ heldOf s u) where
+    (same : (u j : ℕ) → Awaits ks s u j → hasRun (s .log) j ≡ false → heldOf t u ≡ heldOf s u) where
   awaited-next : Awaited ks t awaited
   awaited-next =
       record {
@@ -120,7 +120,7 @@ module _ (p : ℕ) (ks : List ℕ) (s : Run) (awaited : List ℕ) (so : Awaited 
 module _ (ks place : List ℕ) (s : Run) (awaited : List ℕ) (so : Awaited ks s awaited) (w i : ℕ) (few : w < mostWorkers)
     (holds : heldOf s w ≡ some i) (within : i < length ks) (waiting : waits ks (s .log) i ≡ true)
     (marks : (j : ℕ) → j < length ks → marked place unrunMark j ≡ not (hasRun (s .log) j)) where
-  pub last-unrun : (q : ℕ) × (newestMark place unrunMark 0 i ≡ some q) × (q < i) × Inside ks s w q
+  last-unrun : (q : ℕ) × (newestMark place unrunMark 0 i ≡ some q) × (q < i) × Awaits ks s w q
   last-unrun =
       let x = waits-after ks s i waiting in
       let j = x .2 in

@@ -1,13 +1,12 @@
 -- A list in the making on the maker's arrays: how many events it has, that there is room for one more, and how that is written.
-use Prim.Native.Nat.{ℕ, _+_, _*_, _≤_, _<_}
+use Prim.Native.Nat.{ℕ, _+_, _*_, _≤_}
 use mathlib.Core.Path.{_≡_, sym, ap, _∙_}
 use mathlib.Core.List.{List, [], _∷_, _++_, flatten}
 use native.Mathlib.Omega.{arith}
 use lib.ListN.{length, length-append}
 use Rattle.rules.specs.Tree.{mostSteps, kinds}
-use Rattle.rules.specs.Scheduling.{mostWorkers}
 use Rattle.rules.specs.Calls.{written}
-use Rattle.rules.specs.Schedules.{Making, turn, mostMade}
+use Rattle.rules.specs.Schedules.{Making, mostMade}
 use Rattle.buffers.specs.Terms.{eventPut}
 use Rattle.buffers.specs.Laws.Records.{flatten-one}
 use Rattle.buffers.specs.Laws.Fronts.{length-written, event-written}
@@ -17,7 +16,7 @@ use Rattle.policy.specs.declared.Setup.{Setup}
 use Rattle.run_invariant.specs.Laws.Consequences.{runs-most}
 use Rattle.run_refinement.specs.Laws.Moves.{Known}
 use Rattle.schedule_rounds.specs.Terms.{Going}
-use Rattle.schedule_rounds.specs.Laws.Turns.{going-turn, going-short, going-bytes}
+use Rattle.schedule_rounds.specs.Laws.Turns.{going-short, going-bytes}
 use Rattle.schedule_turn.specs.Terms.{Arrays, Stands}
 
 module _ {setup : Setup} {tree lent : List ℕ} {m : Making} {a : Arrays} (s : Stands setup tree lent m a) where

@@ -32,7 +32,7 @@ use Rattle.run_invariant.specs.Laws.Events.{event-next}
 use Rattle.run_refinement.specs.Tie.{Shows, heldStep, told}
 use Rattle.run_refinement.specs.Laws.AnyState.{keeps-run}
 use Rattle.run_refinement.specs.Laws.Events.{event-tells, event-shows}
-use Rattle.run_refinement.specs.Laws.Moves.{Known, held-none, held-some}
+use Rattle.run_refinement.specs.Laws.Moves.{held-none, held-some}
 use Rattle.schedule_rounds.specs.Laws.Turns.{turn-runs, turn-waits, held-judged, turn-steals, turn-passes, turn-tries-steal, tried}
 use Rattle.schedule_rounds.specs.Laws.Turns.{going-turn}
 use Rattle.tree_scan.specs.Laws.Frames.{Frame}

@@ -7,7 +7,7 @@ use lib.ListN.{length}
 use borrow.Author.Needs.{needs}
 use Rattle.rules.specs.Scheduling.{mostWorkers}
 use Rattle.schedule_turn.specs.Terms.{arraysOf}
-use Rattle.schedule.specs.Terms.{Rounds}
+use Rattle.schedule.specs.Terms.{FirstTurns}
 use Rattle.schedule.specs.Laws.Rounding.{round-begins, round-standing, round-goes-on}
 use Rattle.schedule.proofs.rounds.round.Statement.{statement}
 use Rattle.schedule.proofs.rounds.round.Tie as tie
@@ -16,7 +16,7 @@ abbrev Inv-loop : tie.InvT-loop
 Inv-loop tree ends openers place₀ held₀ phase₀ low₀ base₀ sizes₀ awaited₀ events₀ setup turned₀ next₀
     place held phase low base sizes awaited events turned next =
     (next ≤ setup .workers) × (length events ≡ length events₀)
-    × Rounds setup tree next (arraysOf place₀ held₀ phase₀ low₀ base₀ sizes₀ awaited₀ events₀ setup turned₀)
+    × FirstTurns setup tree next (arraysOf place₀ held₀ phase₀ low₀ base₀ sizes₀ awaited₀ events₀ setup turned₀)
     (arraysOf place held phase low base sizes awaited events setup turned)
 
 abbrev μ-loop : tie.MeasureT-loop
