@@ -405,7 +405,7 @@ struct recorded tuned_record(const uint8_t *tree, size_t tree_length, uint8_t po
 // ---- Making schedules ----
 
 // What an idle worker's turn adds to the seed.
-static const uint32_t DRAWN = 2654435769u;
+static const uint32_t ADDED = 2654435769u;
 
 static inline uint8_t *put_event(uint8_t *event, size_t first, size_t second)
 {
@@ -455,7 +455,7 @@ static inline size_t make(struct run *restrict run, const uint8_t *tree, size_t 
                     continue;
                 }
             } else {
-                seed += DRAWN;
+                seed += ADDED;
                 size_t victim = seed >> 28;
                 struct worker *from = &run->workers[victim];
                 if (busy >> victim & 1 && from->oldest <= from->newest) {

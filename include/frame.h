@@ -186,11 +186,11 @@ FrameRecord frame_record(const uint8_t *tree, size_t tree_len, uint8_t policy, u
 FrameReplay frame_replay(const uint8_t *tree, size_t tree_len, uint8_t policy, uint8_t workers, const uint8_t *trace,
                          size_t trace_len, uint8_t *list, size_t list_len);
 
-/* Makes a schedule for so many workers: a list of events that frame_record, with the same tree, policy and count, accepts and
- * finishes. The events stand at the front of the buffer; the bytes beyond keep what they held. events_len must be at least
+/* Makes a schedule for so many workers: a list of events that frame_record, with the same tree, policy and count, accepts, and that
+ * run every step. The events stand at the front of the buffer; the bytes beyond keep what they held. events_len must be at least
  * FRAME_EVENTS_BYTES(n), however few the events, and frame_record takes 2 bytes for each of them, not all that was lent. Any number
- * is a seed. One seed gives one list, now and later: the same arguments make the same events in every version of the library, by
- * the rule of docs/FORMAT.md. Another seed may give another list. Refuses with 1, 16, 2 to 5 and 7. */
+ * is a seed. One seed gives one list, now and later: every version of the library that accepts these arguments makes the same
+ * events of them, by the rule of docs/FORMAT.md. Another seed may give another list. Refuses with 1, 16, 2 to 5 and 7. */
 FrameSchedule frame_schedule(const uint8_t *tree, size_t tree_len, uint8_t policy, uint8_t workers, uint32_t seed,
                              uint8_t *events, size_t events_len);
 

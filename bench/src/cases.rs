@@ -8,7 +8,7 @@ use frame_tests::{Run, Tree};
 pub const POLICIES: [(&str, u8); 2] = [("work-first", 1), ("help-first", 2)];
 /// How many workers take part in a schedule.
 pub const WORKERS: [usize; 3] = [1, 4, 16];
-/// The count that every call is given: whoever takes part, the run has so many.
+/// The count that every call but the schedule maker's is given: whoever takes part, the run has so many.
 pub const RUN_WORKERS: u8 = 16;
 pub const COUNTS: [usize; 4] = [63, 255, 1_023, 4_095];
 pub const LARGEST: usize = COUNTS[COUNTS.len() - 1];
@@ -105,7 +105,7 @@ pub fn tree((_, build): Shape, n: usize, seed: u64) -> Vec<u8> {
     bytes
 }
 
-/// The schedule maker's seed for an input. A draw reads the top bits, so that seeds near each other make the same lists.
+/// The schedule maker's seed for an input. A draw reads the top bits, so that seeds near each other mostly make the same lists.
 pub fn maker_seed(seed: u64) -> u32 {
     Rng::new(seed).next() as u32
 }

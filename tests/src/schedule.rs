@@ -52,8 +52,9 @@ impl Maker {
     // Reading: one who waits holds a step and is not idle, so it does not draw.
     pub fn turn(&mut self, worker: u8) {
         let other = if self.run.is_idle(worker.into()) { self.draw() } else { worker };
-        if self.run.event(worker, other).is_ok() {
-            self.events.push([worker, other]);
+        match self.run.event(worker, other) {
+            Ok(_) => self.events.push([worker, other]),
+            Err(refusal) => assert!([8, 9, 10, 12].contains(&refusal.number), "a turn is refused with {}", refusal.number),
         }
     }
 

@@ -102,7 +102,7 @@ impl Both {
         if got.number == 0 {
             let steals = runs_to_the_end(call, &lent_events[..2 * got.events], case);
             self.seen.steals += steals;
-            self.seen.full += usize::from(2 * got.events == needed(&call.tree));
+            self.seen.full += usize::from(steals > 0 && 2 * got.events == needed(&call.tree));
         }
         got
     }
@@ -168,7 +168,7 @@ fn small_calls() {
         both.same(&call, format_args!("seed {seed}"));
     }
     let seen = both.seen;
-    assert!(seen.numbers[0] > 50_000 && seen.steals > 400_000 && seen.full > 5_000, "{seen:?}");
+    assert!(seen.numbers[0] > 50_000 && seen.steals > 400_000 && seen.full > 2_000, "{seen:?}");
     assert!([1, 7, 16].iter().all(|&number| seen.numbers[number] > 2_000), "{seen:?}");
 }
 
@@ -218,10 +218,10 @@ fn seeds_at_the_edge() {
         for draws in 1..=16 {
             let before = 2_654_435_769_u32.wrapping_mul(draws);
             let victim = rng.below(16) as u32;
-            for start in [0, 1, u32::MAX, victim << 28, (victim << 28).wrapping_sub(1)] {
+            for wanted in [0, 1, u32::MAX, victim << 28, (victim << 28).wrapping_sub(1)] {
                 let (policy, workers) = (rng.between(1, 2) as u8, rng.between(2, 16) as u8);
-                // After so many draws the seed is this one.
-                let start = start.wrapping_sub(before);
+                // After so many draws the seed is the one wanted.
+                let start = wanted.wrapping_sub(before);
                 let call = Call::new(&mut rng, &bytes, policy, workers, start, needed(&bytes));
                 both.numbered(&call, (0, 0), format_args!("seed {seed}, policy {policy}, {workers} workers from {start}"));
             }
