@@ -50,7 +50,7 @@ module _ (w p : ℕ) (tree : List ℕ) (seed : ℕ) (lent : List ℕ) where
     pub most : rounds ≤ n
     -- More of them would write nothing;
     pub idle : (k : ℕ) → after (rounds + k) .events ≡ after rounds .events
-    -- nor do the turns of a round in which every step has run before its end: asked after each turn, the list would be the same.
+    -- nor do the turns that are left of a round once every step has run: asked after each turn, the list would be the same.
     pub quiet : (k j : ℕ) → j ≤ w → finished (kinds tree) (round p (kinds tree) (count 0 j) (after k) .run) ≡ true
         → after (suc k) .events ≡ round p (kinds tree) (count 0 j) (after k) .events
     -- The list has the events of these rounds, and no others.
