@@ -16,7 +16,7 @@ use Rattle.run_spec.specs.Deques.{unrunMark, marked, newestMark}
 use Rattle.run_spec.specs.Running.{noStep}
 use Rattle.run_spec.specs.Moves.{Fields, fieldsOf}
 use Rattle.run_refinement.specs.Tie.{Shows}
-use Rattle.schedule_rounds.specs.Terms.{Going}
+use Rattle.schedule_invariant.specs.Terms.{Going}
 use Rattle.schedule_turn.specs.declared.Turned.{Turned}
 
 -- ---- the lengths of the deques

@@ -108,13 +108,16 @@ module _ (x : Worker) where
       by none e = absurd (true≢false (sym (rw (holdsStep, e) at h)))
       by (some i) e = (i, e)
 
+  pub idle-none : holdsStep x ≡ false → x .hand .held ≡ none
+  idle-none h = by (x .hand .held) refl
+    where
+      by : (o : Option ℕ) → x .hand .held ≡ o → x .hand .held ≡ none
+      by none e = e
+      by (some i) e = absurd (true≢false (sym (some-holds i e) ∙ h))
+
   pub none-stack : holdsStep x ≡ false → stack (x .hand) ≡ []
   unfolding stack
-  none-stack h = by (x .hand .held) refl
-    where
-      by : (o : Option ℕ) → x .hand .held ≡ o → stack (x .hand) ≡ []
-      by none e = rw (stack, e) refl
-      by (some i) e = absurd (true≢false (sym (some-holds i e) ∙ h))
+  none-stack h = rw (stack, idle-none h) refl
 
   pub worker-facts : (s : Run) (w : ℕ) → workerAt s w ≡ x → (holdsStep x ≡ false → x .hand .deque ≡ [])
       → (holdsStep x ≡ true → (x .phase < length (s .phases)) × (phaseAt (s .phases) (x .phase) .worker ≡ w)) → WorkerFacts s w

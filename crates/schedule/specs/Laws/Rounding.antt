@@ -20,8 +20,8 @@ use Rattle.run_spec.specs.Moves.{Fields, fresh}
 use Rattle.run_invariant.specs.Laws.Counts.{not-so}
 use Rattle.run_invariant.specs.Laws.Consequences.{runs-most, finished-runs, runs-finished}
 use Rattle.run_refinement.specs.Laws.Events.{start-shows}
-use Rattle.schedule_rounds.specs.Laws.Turns.{going-start}
-use Rattle.schedule_rounds.specs.Laws.Rounds.{round-last, round-runs, rounds-next, rounds-done}
+use Rattle.schedule_invariant.specs.Laws.Turns.{going-start}
+use Rattle.schedule_invariant.specs.Laws.Rounds.{round-last, round-runs, rounds-next, rounds-done}
 use Rattle.schedule_turn.specs.Terms.{Arrays, Stands, Standing, Turns}
 use Rattle.schedule_turn.specs.Laws.Sizes.{sized-start}
 use Rattle.schedule_turn.specs.Laws.Awaits.{awaited-start}

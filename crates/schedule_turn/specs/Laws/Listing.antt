@@ -15,8 +15,8 @@ use Rattle.tree_tables.specs.Laws.Fronts.{start-frame}
 use Rattle.policy.specs.declared.Setup.{Setup}
 use Rattle.run_invariant.specs.Laws.Consequences.{runs-most}
 use Rattle.run_refinement.specs.Laws.Moves.{Known}
-use Rattle.schedule_rounds.specs.Terms.{Going}
-use Rattle.schedule_rounds.specs.Laws.Turns.{going-short, going-bytes}
+use Rattle.schedule_invariant.specs.Terms.{Going}
+use Rattle.schedule_invariant.specs.Laws.Turns.{going-short, going-bytes}
 use Rattle.schedule_turn.specs.Terms.{Arrays, Stands}
 
 module _ {setup : Setup} {tree lent : List ℕ} {m : Making} {a : Arrays} (s : Stands setup tree lent m a) where

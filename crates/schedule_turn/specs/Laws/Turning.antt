@@ -33,10 +33,10 @@ use Rattle.run_refinement.specs.Tie.{Shows, heldStep, told}
 use Rattle.run_refinement.specs.Laws.AnyState.{keeps-run}
 use Rattle.run_refinement.specs.Laws.Events.{event-tells, event-shows}
 use Rattle.run_refinement.specs.Laws.Moves.{held-none, held-some}
-use Rattle.schedule_rounds.specs.Laws.Turns.{turn-runs, turn-waits, held-judged, turn-steals, turn-passes, turn-tries-steal, tried}
-use Rattle.schedule_rounds.specs.Laws.Turns.{going-turn}
+use Rattle.schedule_invariant.specs.Laws.Turns.{turn-runs, turn-waits, held-judged, turn-steals, turn-passes, turn-tries-steal, tried}
+use Rattle.schedule_invariant.specs.Laws.Turns.{going-turn}
 use Rattle.tree_scan.specs.Laws.Frames.{Frame}
-use Rattle.schedule_rounds.specs.Terms.{Going}
+use Rattle.schedule_invariant.specs.Terms.{Going}
 use Rattle.schedule_turn.specs.Terms.{sizeAfter, lastUnrun, unrunStill, Arrays, Stands}
 use Rattle.schedule_turn.specs.Laws.Sizes.{sized-run, sized-steal}
 use Rattle.schedule_turn.specs.Laws.Awaits.{unrun-waits, awaited-run, awaited-seen, awaited-steal}

@@ -1,32 +1,30 @@
 -- Rounds: some worker may run when a round begins, and still may when its turn comes; so each round runs a step, and as many rounds as
 -- there are steps left finish. No turn afterTurns that writes an event.
 use Prim.Native.Nat.{ℕ, zero, suc, _+_, _-_, _≤_, _<_}
-use mathlib.Core.Path.{_≡_, refl, sym, ap, _∙_}
-use mathlib.Core.Bool.{Bool, true, false, _&&_, not, true≢false, and-false}
+use mathlib.Core.Path.{_≡_, refl, ap, _∙_}
+use mathlib.Core.Bool.{Bool, true, false, _&&_, not, and-false}
 use mathlib.Core.List.{List, [], _∷_, _++_}
-use mathlib.Core.Option.{Option, none, some}
 use native.Mathlib.Decide.{ℕ-discrete}
-use native.Mathlib.Nat.{zero-add, add-zero}
+use native.Mathlib.Nat.{zero-add}
 use native.Mathlib.Omega.{arith}
 use lib.ListN.{length, length-append}
 use lib.Dec.{eqb, ltb}
 use borrow.Author.Tests.{eq-eqb}
 use Rattle.rules.specs.Bytes.{count}
-use Rattle.rules.specs.Scheduling.{Worker, workerAt, isRun, judgeRun, holdsStep, nextRun}
+use Rattle.rules.specs.Scheduling.{workerAt, isRun, judgeRun, nextRun}
 use Rattle.rules.specs.Calls.{finished}
 use Rattle.rules.specs.Schedules.{draw, named, Making, write, drawn, robbable, turn, round, rounds}
-use Rattle.tree.specs.Laws.Counts.{count-snoc}
+use Rattle.tree.specs.Laws.Counts.{count-snoc, count-split}
 use Rattle.tree_scan.specs.Laws.Shape.{Shape}
 use Rattle.tree_scan.specs.Laws.Frames.{endAt, sizeAt}
 use Rattle.run_invariant.specs.Invariant.{Invariant}
-use Rattle.run_invariant.specs.Laws.Moves.{ran, run-is, run-held, run-free}
-use Rattle.run_invariant.specs.Laws.Moves.{some-holds}
+use Rattle.run_invariant.specs.Laws.Moves.{idle-none, ran, run-is, run-held, run-free}
 use Rattle.run_invariant.specs.Laws.Events.{event-grows, event-leaves}
 use Rattle.run_invariant.specs.Laws.Consequences.{runs-most, finished-idle, runs-finished}
 use Rattle.run_progress.specs.Laws.Progress.{progress}
-use Rattle.schedule_rounds.specs.Schedule.{again}
-use Rattle.schedule_rounds.specs.Terms.{Going}
-use Rattle.schedule_rounds.specs.Laws.Turns.{tried, turn-runs, turn-passes, turn-tries, going-turn}
+use Rattle.schedule_invariant.specs.Schedule.{again}
+use Rattle.schedule_invariant.specs.Terms.{Going}
+use Rattle.schedule_invariant.specs.Laws.Turns.{tried, turn-runs, turn-passes, turn-tries, going-turn}
 
 -- ---- one turn
 
@@ -182,13 +180,6 @@ module _ (w p : ℕ) (ks : List ℕ) (some-step : 1 ≤ length ks) (sh : Shape (
 
 -- ---- nothing follows
 
-idle-none : (x : Worker) → holdsStep x ≡ false → x .hand .held ≡ none
-idle-none x idle = by (x .hand .held) refl
-  where
-    by : (o : Option ℕ) → x .hand .held ≡ o → x .hand .held ≡ none
-    by none e = e
-    by (some i) e = absurd (true≢false (sym (some-holds x i e) ∙ idle))
-
 -- The same run and the same events; the seed may be another.
 abbrev SameList : Making → Making → Type 0
 SameList m next = (next .run ≡ m .run) × (next .events ≡ m .events)
@@ -230,14 +221,6 @@ again-more w p ks (suc j) k m =
     rw e (again-more w p ks j k (round p ks (count 0 w) m))
 
 -- ---- within a round
-
-count-split : (j k a : ℕ) → count a (j + k) ≡ count a j ++ count (a + j) k
-unfolding count
-count-split zero k a = rw (zero-add, add-zero) refl
-count-split (suc j) k a =
-    let e : suc j + k ≡ suc (j + k) = omega arith in
-    let f : a + suc j ≡ suc a + j = omega arith in
-    rw (e, f) (ap (λ (l : List ℕ). a ∷ l) (count-split j k (suc a)))
 
 module _ (w p : ℕ) (ks : List ℕ) (some-step : 1 ≤ length ks) (sh : Shape (length ks) (endAt ks) (sizeAt ks)) where
   going-again : (k : ℕ) (m : Making) → Going w p ks m → Going w p ks (again w p ks k m)

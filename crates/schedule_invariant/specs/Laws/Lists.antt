@@ -18,10 +18,10 @@ use Rattle.rules.specs.Schedules.{Making, begun, made, mostMade, Scheduled, sch
 use Rattle.tree.specs.Laws.Verdicts.{first-accepts}
 use Rattle.tree_scan.specs.Laws.Starts.{start-tree-accepts, start-workers}
 use Rattle.tree_scan.specs.Laws.Frames.{Frame, accepted-frame}
-use Rattle.schedule_rounds.specs.Schedule.{answered, listed, recorded, Schedule}
-use Rattle.schedule_rounds.specs.Terms.{Going}
-use Rattle.schedule_rounds.specs.Laws.Turns.{going-start, going-short, going-bytes, going-records}
-use Rattle.schedule_rounds.specs.Laws.Rounds.{rounds-stop, rounds-finish, idle-again, again-more, rest-idle}
+use Rattle.schedule_invariant.specs.Schedule.{answered, listed, recorded, Schedule}
+use Rattle.schedule_invariant.specs.Terms.{Going}
+use Rattle.schedule_invariant.specs.Laws.Turns.{going-start, going-short, going-bytes, going-records}
+use Rattle.schedule_invariant.specs.Laws.Rounds.{rounds-stop, rounds-finish, idle-again, again-more, rest-idle}
 
 -- ---- recording a list in the making
 

@@ -3,8 +3,8 @@ use Prim.Native.Nat.{ℕ}
 use mathlib.Core.Path.{_≡_}
 use mathlib.Core.List.{List}
 use Rattle.rules.specs.Schedules.{scheduleCall}
-use Rattle.schedule_rounds.specs.Schedule.{Schedule}
-use Rattle.schedule_rounds.specs.Laws.Lists.{list-made}
+use Rattle.schedule_invariant.specs.Schedule.{Schedule}
+use Rattle.schedule_invariant.specs.Laws.Lists.{list-made}
 
 pub every-list-made : (w p : ℕ) (tree : List ℕ) (seed : ℕ) (lent : List ℕ) → scheduleCall w p tree seed lent .verdict .number ≡ 0
     → Schedule w p tree seed lent

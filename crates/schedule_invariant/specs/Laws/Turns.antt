@@ -22,7 +22,7 @@ use Rattle.run_invariant.specs.Laws.Events.{event-next, event-same, adds-one}
 use Rattle.run_invariant.specs.Laws.Crew.{event-many, start-many}
 use Rattle.run_invariant.specs.Laws.Always.{start-invariant, event-keeps}
 use Rattle.run_invariant.specs.Laws.Consequences.{runs-most, steals-most}
-use Rattle.schedule_rounds.specs.Terms.{Going}
+use Rattle.schedule_invariant.specs.Terms.{Going}
 
 -- ---- a turn by its cases
 
