@@ -6,7 +6,8 @@
 // record's kind, which a processor cannot foresee. A step that was popped never waits, because steals take the oldest step
 // first: whatever stood above a finish continuation in its deque has run. A stolen one waits while some worker holds a step
 // of the finish child, because every phase with steps left in the child holds one of them. Such a phase does not leave the
-// child before it ends: so the maker looks again only then.
+// child before it ends: so the maker looks again only then. Phases cover every step, so the class loads are the tree's own
+// weights by class, whatever the run was.
 
 #include <stddef.h>
 #include <stdint.h>
@@ -19,11 +20,14 @@ enum {
     MOST_EVENTS = 8192,
     MOST_STEALS = 2047,
     WORKERS = 16,
+    CLASSES = 16,
     WORK_FIRST = 1,
     HELP_FIRST = 2,
     ASYNC = 1,
     FINISH = 2,
     END = 3,
+    // The bits of a record's class.
+    CLASS = 15 << 8,
     // A step that no tree has, in place of the root's opener.
     NO_OPENER = MOST_STEPS,
     // No step, no phase or no label.
@@ -43,12 +47,14 @@ struct recorded {
     size_t number, position, logs, steals, finished;
     uint64_t loads[WORKERS];
     size_t heaviest;
+    uint64_t class_loads[CLASSES];
 };
 
 struct replayed {
     size_t number, position, phases;
     uint64_t loads[WORKERS];
     size_t heaviest;
+    uint64_t class_loads[CLASSES];
 };
 
 struct outcome {
@@ -86,6 +92,11 @@ static inline uint32_t weight_of(uint64_t record)
     return record >> 32;
 }
 
+static inline uint32_t class_of(uint64_t record)
+{
+    return (record & CLASS) >> 8;
+}
+
 static inline unsigned kind_at(const uint8_t *tree, size_t step)
 {
     return tree[TREE_RECORD * step];
@@ -113,17 +124,18 @@ static inline struct refusal read_records(const uint8_t *tree, size_t length, un
     stack[1].opener = NO_OPENER;
     stack[1].turn = 0;
     for (size_t i = 0; i < n; i++) {
-        uint32_t low = (uint32_t)record_at(tree, i);
-        size_t opens = low != END;
-        if (open == 0 || low - ASYNC > END - ASYNC || open + opens > MOST_OPEN)
-            return (struct refusal){low - ASYNC > END - ASYNC ? 3 : open == 0 ? 5 : 4, i};
+        // Byte 0, and bits above it only where bytes 1 to 3 are refused.
+        uint32_t kind = (uint32_t)record_at(tree, i) & ~CLASS;
+        size_t opens = kind != END;
+        if (open == 0 || kind - ASYNC > END - ASYNC || open + opens > MOST_OPEN)
+            return (struct refusal){kind - ASYNC > END - ASYNC ? 3 : open == 0 ? 5 : 4, i};
         // Every step of a task writes its opener's move, and the task's end writes it last.
         uint32_t from = stack[open].opener;
         uint32_t move = (from + 1) | (uint32_t)(i + 1) << 16;
         if (policy == HELP_FIRST) {
             uint32_t turn = stack[open].turn;
             move = move << turn | move >> (-turn & 31);
-            stack[open + 1].turn = (low == ASYNC) * 16;
+            stack[open + 1].turn = (kind == ASYNC) * 16;
         }
         moves[from] = move;
         moves[i] = 0;
@@ -172,6 +184,51 @@ static uint64_t rest_of_task(const uint8_t *tree, const uint32_t *moves, size_t 
     for (size_t i = step; i <= end; i++)
         weight += weight_of(record_at(tree, i));
     return weight;
+}
+
+// Whether all steps are of one class, as in trees made before there were classes.
+static inline int one_class(const uint8_t *tree, size_t n)
+{
+    enum { BLOCK = 32 };
+    uint64_t first = record_at(tree, 0), differ = 0;
+    size_t i = 0;
+    for (; i + BLOCK <= n; i += BLOCK) {
+        for (size_t k = 0; k < BLOCK; k++)
+            differ |= record_at(tree, i + k) ^ first;
+        if (class_of(differ) != 0)
+            return 0;
+    }
+    for (; i < n; i++)
+        differ |= record_at(tree, i) ^ first;
+    return class_of(differ) == 0;
+}
+
+// The class loads. A single class has the load of all workers; else the weights are added up, by sums that take turns, since each
+// addition to the same place waits for the one before.
+static void add_classes(const uint8_t *tree, size_t n, const uint64_t *restrict loads, uint64_t *restrict class_loads)
+{
+    enum { TURNS = 4 };
+    if (one_class(tree, n)) {
+        uint64_t load = 0;
+        for (size_t w = 0; w < WORKERS; w++)
+            load += loads[w];
+        class_loads[class_of(record_at(tree, 0))] = load;
+        return;
+    }
+    uint64_t sums[TURNS][CLASSES] = {0};
+    size_t i = 0;
+    for (; i + TURNS <= n; i += TURNS)
+        for (size_t turn = 0; turn < TURNS; turn++) {
+            uint64_t record = record_at(tree, i + turn);
+            sums[turn][class_of(record)] += weight_of(record);
+        }
+    for (; i < n; i++) {
+        uint64_t record = record_at(tree, i);
+        sums[0][class_of(record)] += weight_of(record);
+    }
+    for (size_t turn = 0; turn < TURNS; turn++)
+        for (size_t class = 0; class < CLASSES; class++)
+            class_loads[class] += sums[turn][class];
 }
 
 // ---- A run ----
@@ -399,6 +456,7 @@ struct recorded tuned_record(const uint8_t *tree, size_t tree_length, uint8_t po
         }
     }
     answer.heaviest = heaviest(answer.loads);
+    add_classes(tree, n, answer.loads, answer.class_loads);
     return answer;
 }
 
@@ -722,5 +780,6 @@ struct replayed tuned_replay(const uint8_t *tree, size_t tree_length, uint8_t po
         list_runs(&replay, tree, list, answer.loads);
     answer.phases = replay.phases;
     answer.heaviest = heaviest(answer.loads);
+    add_classes(tree, n, answer.loads, answer.class_loads);
     return answer;
 }

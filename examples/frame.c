@@ -1,5 +1,6 @@
-/* The library from C: runs tree S of docs/FORMAT.md event by event, records the same events, replays their trace, begins a run of
- * fewer workers and makes a schedule for them. README.md says how to build it; examples/frame.txt is what it prints. */
+/* The library from C: runs tree S of docs/FORMAT.md, here with two classes of steps, event by event, records the same events,
+ * replays their trace, begins a run of fewer workers and makes a schedule for them. README.md says how to build it;
+ * examples/frame.txt is what it prints. */
 #include <inttypes.h>
 #include <stdio.h>
 
@@ -12,16 +13,22 @@ static const uint8_t kinds[STEPS] = {
     FRAME_ASYNC, FRAME_END, FRAME_FINISH, FRAME_ASYNC, FRAME_END, FRAME_END, FRAME_END
 };
 
+/* A class is a number below FRAME_CLASSES that the host chooses. The finish child's steps are debris. */
+enum { RAGDOLL = 0, DEBRIS = 1 };
+
+static const uint8_t classes[STEPS] = { RAGDOLL, RAGDOLL, RAGDOLL, DEBRIS, DEBRIS, DEBRIS, RAGDOLL };
+
 /* Equal bytes: that worker runs its step. Different bytes: the first steals from the second. */
 static const uint8_t events[2 * EVENTS] = {
     0, 0,  1, 0,  1, 1,  2, 1,  1, 1,  0, 0,  0, 1,  0, 0,  1, 1,  2, 2
 };
 
-/* The record of 8 bytes of a step: its kind, three zeros, its weight in little-endian order. */
-static void put_step(uint8_t *record, uint8_t kind, uint32_t weight)
+/* The record of 8 bytes of a step: its kind, its class, two zeros, its weight in little-endian order. */
+static void put_step(uint8_t *record, uint8_t kind, uint8_t step_class, uint32_t weight)
 {
     record[0] = kind;
-    record[1] = record[2] = record[3] = 0;
+    record[1] = step_class;
+    record[2] = record[3] = 0;
     for (int i = 0; i < 4; i++)
         record[4 + i] = (uint8_t)(weight >> (8 * i));
 }
@@ -71,7 +78,7 @@ int main(void)
     uint8_t trace[FRAME_TRACE_BYTES(STEPS)], list[FRAME_LIST_BYTES(STEPS)];
 
     for (size_t step = 0; step < STEPS; step++)
-        put_step(tree + 8 * step, kinds[step], 1);
+        put_step(tree + 8 * step, kinds[step], classes[step], 1);
 
     /* Live: one call for each event, on a state that the host keeps. */
     FrameStart start = frame_start(tree, sizeof tree, FRAME_WORK_FIRST, FRAME_WORKERS);
@@ -103,6 +110,9 @@ int main(void)
         if (recorded.loads[worker] > 0)
             printf("worker %d has load %" PRIu64 "\n", worker, recorded.loads[worker]);
     printf("worker %zu is the heaviest\n", recorded.heaviest);
+    for (int class_number = 0; class_number < FRAME_CLASSES; class_number++)
+        if (recorded.class_loads[class_number] > 0)
+            printf("class %d has load %" PRIu64 "\n", class_number, recorded.class_loads[class_number]);
 
     /* The trace back into phases: phase 0 is worker 0's, a later one the thief's of the trace record before it. */
     FrameReplay replayed = frame_replay(tree, sizeof tree, FRAME_WORK_FIRST, FRAME_WORKERS, trace, 4 * recorded.steals, list,

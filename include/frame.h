@@ -25,12 +25,13 @@ extern "C" {
 
 /* Rises with each change of this header that a caller can see; docs/FORMAT.md lists them. 1 was the header without a version and
  * without a worker count. */
-#define FRAME_VERSION 3
+#define FRAME_VERSION 4
 
 /* Limits. */
 #define FRAME_MOST_STEPS 4095   /* of a tree, which has a record for each */
 #define FRAME_MOST_OPEN 64      /* tasks open together, the root counted */
 #define FRAME_WORKERS 16        /* the most of a run; a run of w workers has 0 to w - 1 */
+#define FRAME_CLASSES 16        /* of steps, 0 to 15: byte 1 of a tree record, no part of scheduling */
 #define FRAME_MOST_EVENTS 8192  /* of a recording */
 #define FRAME_MOST_STEALS 2047  /* records of a trace */
 #define FRAME_STACK_BYTES 98304 /* 96 KB */
@@ -63,7 +64,7 @@ typedef enum FrameRefusal {
     FRAME_ACCEPTED = 0,
     FRAME_REFUSED_POLICY = 1,        /* the policy is neither 1 nor 2 */
     FRAME_REFUSED_TREE_LENGTH = 2,   /* the tree is empty, not whole records, or longer than 32,760 bytes */
-    FRAME_REFUSED_TREE_RECORD = 3,   /* a tree record has another kind or a non-zero byte 1 to 3 */
+    FRAME_REFUSED_TREE_RECORD = 3,   /* a tree record has another kind, a class above 15, or a non-zero byte 2 or 3 */
     FRAME_REFUSED_OPEN_TASKS = 4,    /* a tree record opens a task while 64 are open */
     FRAME_REFUSED_ROOT = 5,          /* a record follows the root's end; or the root is still open at the end */
     FRAME_REFUSED_INPUT_LENGTH = 6,  /* the events or the trace are not whole records or too many */
@@ -141,6 +142,8 @@ typedef struct FrameRecord {
     uint64_t loads[FRAME_WORKERS]; /* for each worker the weight of all steps that its phases cover at the end; 0 from the run's
                                       count on */
     size_t heaviest; /* the worker with the greatest load, the lowest among equals */
+    uint64_t class_loads[FRAME_CLASSES]; /* for each class the weight of all its steps that phases cover at the end, whoever
+                                            has them; the sum of class_loads is that of loads */
 } FrameRecord;
 
 typedef struct FrameReplay {
@@ -149,6 +152,7 @@ typedef struct FrameReplay {
     size_t phases; /* one more than trace records */
     uint64_t loads[FRAME_WORKERS];
     size_t heaviest;
+    uint64_t class_loads[FRAME_CLASSES];
 } FrameReplay;
 
 typedef struct FrameSchedule {
@@ -217,8 +221,10 @@ typedef struct FrameRunning {
 /* The count of steps. Refuses with 2 to 5. */
 FrameTree frame_tree(const uint8_t *tree, size_t tree_len);
 
-/* The kind of a step's record, and its weight; 0 for a step beyond the tree. */
+/* The kind of a step's record, its class and its weight; 0 for a step beyond the tree. Where frame_tree refuses the tree, a class
+ * may be above 15. */
 uint8_t frame_kind(const uint8_t *tree, size_t tree_len, size_t step);
+uint8_t frame_class(const uint8_t *tree, size_t tree_len, size_t step);
 uint32_t frame_weight(const uint8_t *tree, size_t tree_len, size_t step);
 
 /* The step after the end of the child that an opening step opens. */
@@ -237,7 +243,7 @@ FrameRunning frame_running(const uint8_t *tree, size_t tree_len, uint8_t policy,
 static_assert(offsetof(FrameState, policy) == 4095 && offsetof(FrameState, held) == 4096 && offsetof(FrameState, phase) == 4128
               && offsetof(FrameState, low) == 4160 && offsetof(FrameState, base) == 4192 && offsetof(FrameState, steals) == 4224
               && offsetof(FrameState, workers) == 4226 && sizeof(FrameState) == 4228, "FrameState is not the library's");
-static_assert(sizeof(FrameEvent) == 4280 && sizeof(FrameRecord) == 176,
+static_assert(sizeof(FrameEvent) == 4280 && sizeof(FrameRecord) == 304 && sizeof(FrameReplay) == 288,
               "frame.h is for x86-64 Linux and structs that are not packed");
 
 #ifdef __cplusplus

@@ -1,8 +1,8 @@
 //! The trees and the schedules that are measured.
 
-use frame_tests::random::{accepted_bytes, drive, tree_of_kinds, Plan, Rng};
+use frame_tests::random::{accepted_bytes, drive, set_classes, tree_of_kinds, Classes, Plan, Rng};
 use frame_tests::record::MAX_EVENTS;
-use frame_tests::tree::MAX_OPEN;
+use frame_tests::tree::{CLASSES, MAX_OPEN, TREE_RECORD};
 use frame_tests::{Run, Tree};
 
 pub const POLICIES: [(&str, u8); 2] = [("work-first", 1), ("help-first", 2)];
@@ -12,7 +12,9 @@ pub const WORKERS: [usize; 3] = [1, 4, 16];
 pub const RUN_WORKERS: u8 = 16;
 pub const COUNTS: [usize; 4] = [63, 255, 1_023, 4_095];
 pub const LARGEST: usize = COUNTS[COUNTS.len() - 1];
-pub const SHAPES: [Shape; 4] = [("balanced", balanced), ("flat", flat), ("deep", deep), ("random", random)];
+pub const SHAPES: [Shape; 4] = [("balanced", balanced), ("flat", flat), ("deep", deep), RANDOM];
+const RANDOM: Shape = ("random", random);
+pub const WAYS: [Way; 2] = [("by step", by_step), ("by task", by_task)];
 
 /// A case has so many inputs, which take turns: a processor foresees the branches of a single one that is repeated.
 pub const SEEDS: std::ops::Range<u64> = 1..9;
@@ -95,7 +97,7 @@ fn random(out: &mut Kinds, rng: &mut Rng) {
     (1..open).for_each(|_| out.end());
 }
 
-/// A tree of exactly n records, all weights 1. Only random trees differ by the seed.
+/// A tree of exactly n records, all weights 1 and all classes 0. Only random trees differ by the seed.
 pub fn tree((_, build): Shape, n: usize, seed: u64) -> Vec<u8> {
     let mut out = Kinds { kinds: Vec::new(), spawned: 0, left: (n - 1) / 2 };
     build(&mut out, &mut Rng::new(seed));
@@ -104,6 +106,38 @@ pub fn tree((_, build): Shape, n: usize, seed: u64) -> Vec<u8> {
     assert_eq!(Tree::parse(&bytes).expect("the tree is accepted").count(), n);
     bytes
 }
+
+// ---- Classes ----
+
+/// A name, and what gives the steps of a tree their classes.
+pub type Way = (&'static str, fn(&mut [u8], &mut Rng));
+
+/// Each step has any class.
+fn by_step(tree: &mut [u8], rng: &mut Rng) {
+    set_classes(rng, tree, Classes::Any);
+}
+
+/// All steps of a task have one class: mostly its parent's, and in one task of ten any.
+fn by_task(tree: &mut [u8], rng: &mut Rng) {
+    let parsed = Tree::parse(tree).expect("the tree is accepted");
+    let mut classes: Vec<u8> = Vec::new();
+    for task in parsed.tasks() {
+        let class = task.parent.filter(|_| !rng.percent(10)).map(|parent| classes[parent]);
+        classes.push(class.unwrap_or_else(|| rng.below(CLASSES) as u8));
+    }
+    for (step, record) in tree.chunks_exact_mut(TREE_RECORD).enumerate() {
+        record[1] = classes[parsed.task_of(step)];
+    }
+}
+
+/// A random tree of the largest count whose steps have classes.
+pub fn tree_with_classes((_, give): Way, seed: u64) -> Vec<u8> {
+    let mut bytes = tree(RANDOM, LARGEST, seed);
+    give(&mut bytes, &mut Rng::new(!seed));
+    bytes
+}
+
+// ---- Schedules ----
 
 /// The schedule maker's seed for an input. A draw reads the top bits, so that seeds near each other mostly make the same lists.
 pub fn maker_seed(seed: u64) -> u32 {

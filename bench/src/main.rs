@@ -7,7 +7,10 @@
 use std::hint::black_box;
 use std::process::Command;
 
-use frame_bench::cases::{maker_seed, schedule, tree, Shape, COUNTS, LARGEST, POLICIES, RUN_WORKERS, SEEDS, SHAPES, WORKERS};
+use frame_bench::cases::{
+    maker_seed, schedule, tree, tree_with_classes, Shape, Way, COUNTS, LARGEST, POLICIES, RUN_WORKERS, SEEDS, SHAPES, WAYS,
+    WORKERS,
+};
 use frame_bench::library::{self, FrameRecord, FrameReplay, FrameSchedule, RunState};
 use frame_bench::times::{divided, geometric_mean, least, medians, most, turn};
 use frame_bench::tuned;
@@ -22,6 +25,7 @@ use frame_tests::{Policy, Run};
 
 /// What tells cases of one table apart.
 struct Row {
+    /// Or the way in which the steps got their classes.
     shape: &'static str,
     n: usize,
     policy: &'static str,
@@ -32,9 +36,9 @@ struct Row {
 
 impl Row {
     /// Of a case by the sums over its inputs: a row has their means.
-    fn new(shape: Shape, n: usize, policy: &'static str, workers: usize, units: usize, steals: usize) -> Row {
+    fn new(shape: &'static str, n: usize, policy: &'static str, workers: usize, units: usize, steals: usize) -> Row {
         let inputs = SEEDS.count();
-        Row { shape: shape.0, n, policy, workers, units: units / inputs, steals: steals / inputs }
+        Row { shape, n, policy, workers, units: units / inputs, steals: steals / inputs }
     }
 }
 
@@ -161,13 +165,9 @@ impl RecordCase {
         assert_eq!((want.0.number, want.0.finished), (0, 1));
         want.0.steals
     }
-}
 
-fn record_table() {
-    let mut table = Table::new("record, ns", "events", CONTESTANTS);
-    for_each_case(|shape, n, (policy, byte), workers| {
-        let case = |seed| RecordCase::new(tree(shape, n, seed), byte, workers, seed);
-        let inputs: &mut Vec<_> = &mut SEEDS.map(case).collect();
+    /// The sums of events and of steals, and the times.
+    fn times(inputs: &mut [RecordCase]) -> (usize, usize, [f64; 3]) {
         let (units, steals) = inputs.iter_mut().fold((0, 0), |sum, case| (sum.0 + case.events(), sum.1 + case.check()));
         let times = medians(
             inputs,
@@ -176,9 +176,25 @@ fn record_table() {
                 .each_ref()
                 .map(|turn| turn as &dyn Fn(&mut [_]) -> f64),
         );
-        table.line(&Row::new(shape, n, policy, workers, units, steals), times);
+        (units, steals, times)
+    }
+}
+
+fn record_table() {
+    let mut table = Table::new("record, ns", "events", CONTESTANTS);
+    for_each_case(|shape, n, (policy, byte), workers| {
+        let case = |seed| RecordCase::new(tree(shape, n, seed), byte, workers, seed);
+        let (units, steals, times) = RecordCase::times(&mut SEEDS.map(case).collect::<Vec<_>>());
+        table.line(&Row::new(shape.0, n, policy, workers, units, steals), times);
     });
     table.summary();
+    println!("record of random trees with classes, {CLASS_WAYS}");
+    for_each_way(|way, (policy, byte)| {
+        let case = |seed| RecordCase::new(tree_with_classes(way, seed), byte, CLASS_WORKERS, seed);
+        let (units, steals, times) = RecordCase::times(&mut SEEDS.map(case).collect::<Vec<_>>());
+        table.print(&Row::new(way.0, LARGEST, policy, CLASS_WORKERS, units, steals), times);
+    });
+    println!();
 }
 
 // ---- Replay ----
@@ -263,9 +279,8 @@ fn replay_table() {
     let mut table = Table::new("replay, ns", "steps", CONTESTANTS);
     for_each_case(|shape, n, (policy, byte), workers| {
         let case = |seed| ReplayCase::of_run(tree(shape, n, seed), byte, workers, seed);
-        let inputs: &mut Vec<_> = &mut SEEDS.map(case).collect();
-        let (units, steals, times) = ReplayCase::times(inputs);
-        table.line(&Row::new(shape, n, policy, workers, units, steals), times);
+        let (units, steals, times) = ReplayCase::times(&mut SEEDS.map(case).collect::<Vec<_>>());
+        table.line(&Row::new(shape.0, n, policy, workers, units, steals), times);
     });
     table.summary();
     println!(
@@ -277,6 +292,12 @@ fn replay_table() {
             table.print(&Row { shape: name, n: units, policy, workers: 16, units, steals }, times);
         }
     }
+    println!("\nreplay of random trees with classes, {CLASS_WAYS}");
+    for_each_way(|way, (policy, byte)| {
+        let case = |seed| ReplayCase::of_run(tree_with_classes(way, seed), byte, CLASS_WORKERS, seed);
+        let (units, steals, times) = ReplayCase::times(&mut SEEDS.map(case).collect::<Vec<_>>());
+        table.print(&Row::new(way.0, LARGEST, policy, CLASS_WORKERS, units, steals), times);
+    });
     println!();
 }
 
@@ -373,7 +394,7 @@ fn event_table() {
                 &|inputs| turn(inputs, units, |(case, ..)| case.run.clone(), |(case, ..), run| case.simulator(run)),
             ],
         );
-        table.line(&Row::new(shape, n, policy, workers, units, steals), times);
+        table.line(&Row::new(shape.0, n, policy, workers, units, steals), times);
     });
     table.summary();
 }
@@ -439,7 +460,7 @@ fn schedule_table() {
                 .each_ref()
                 .map(|turn| turn as &dyn Fn(&mut [_]) -> f64),
         );
-        table.line(&Row::new(shape, n, policy, workers, units, steals), times);
+        table.line(&Row::new(shape.0, n, policy, workers, units, steals), times);
         if let (("flat", _), Some(size)) = (shape, GROWTH.iter().position(|&size| size == n)) {
             flat[size].iter_mut().zip(times).for_each(|(times, time)| times.push(time));
         }
@@ -464,6 +485,18 @@ fn for_each_case(mut each: impl FnMut(Shape, usize, (&'static str, u8), usize)) 
                     each(shape, n, policy, workers);
                 }
             }
+        }
+    }
+}
+
+/// How many workers take part where steps have classes.
+const CLASS_WORKERS: usize = 4;
+const CLASS_WAYS: &str = "any for each step, or mostly one for a task and its children";
+
+fn for_each_way(mut each: impl FnMut(Way, (&'static str, u8))) {
+    for way in WAYS {
+        for policy in POLICIES {
+            each(way, policy);
         }
     }
 }

@@ -34,6 +34,15 @@ fn policy(rng: &mut Rng) -> u8 {
     }
 }
 
+/// Counts an accepted call by whether one class or several have a load.
+fn count_classes(counts: &mut [usize; 2], class_loads: &[u64]) {
+    match class_loads.iter().filter(|&&load| load > 0).count() {
+        0 => (),
+        1 => counts[0] += 1,
+        _ => counts[1] += 1,
+    }
+}
+
 /// A buffer of so many bytes or, rarely, a few less or more; no byte of it is 0.
 fn buffer(rng: &mut Rng, bytes: usize) -> Vec<u8> {
     let bytes = match rng.below(20) {
@@ -67,7 +76,7 @@ fn list(
 
 #[test]
 fn recording() {
-    let mut refusals = [0; 17];
+    let (mut refusals, mut classes) = ([0; 17], [0; 2]);
     for seed in 0..checks() {
         let rng = &mut Rng::new(seed);
         let (policy, workers, tree) = (policy(rng), any_count(rng), tree(rng));
@@ -80,13 +89,15 @@ fn recording() {
         assert_eq!(answer, expected, "seed {seed}");
         assert!(got == want, "seed {seed}: log or trace");
         refusals[answer.number] += 1;
+        count_classes(&mut classes, &answer.class_loads);
     }
+    assert!(classes.iter().all(|&count| count > 0), "calls of one class and of several: {classes:?}");
     assert!((0..=12).chain([16]).all(|number| refusals[number] > 0), "numbers seen: {refusals:?}");
 }
 
 #[test]
 fn replaying() {
-    let mut refusals = [0; 17];
+    let (mut refusals, mut classes) = ([0; 17], [0; 2]);
     for seed in 0..checks() {
         let rng = &mut Rng::new(seed);
         let (policy, workers, tree) = (policy(rng), any_count(rng), tree(rng));
@@ -98,8 +109,36 @@ fn replaying() {
         assert_eq!(answer, expected, "seed {seed}");
         assert!(got == want, "seed {seed}: the run list");
         refusals[answer.number] += 1;
+        count_classes(&mut classes, &answer.class_loads);
     }
+    assert!(classes.iter().all(|&count| count > 0), "calls of one class and of several: {classes:?}");
     assert!([0, 1, 2, 3, 4, 5, 6, 7, 8, 13, 14, 15, 16].iter().all(|&number| refusals[number] > 0), "numbers seen: {refusals:?}");
+}
+
+/// Each value of the first four bytes of each record: kind, class and two zeros.
+#[test]
+fn every_byte_of_a_record() {
+    let mut refusals = [0; 17];
+    let good = random::tree(&mut Rng::new(0), 3);
+    for at in (0..good.len()).filter(|at| at % 8 < 4) {
+        for value in 0..=255 {
+            let mut tree = good.clone();
+            tree[at] = value;
+            for policy in [1, 2] {
+                let want = Run::start(policy, 16, &tree).map_or_else(|no| (no.number as usize, no.position), |_| (0, 0));
+                let recorded = tuned::record(&tree, policy, 16, &[], &mut [0; 28], &mut [0; 12]);
+                let replayed = tuned::replay(&tree, policy, 16, &[], &mut [0; 28]);
+                let made = tuned::schedule(&tree, policy, 16, 0, &mut [0; 20]);
+                let started = tuned::Run::start(&tree, policy, 16).map_or_else(|no| (no.number, no.position), |_| (0, 0));
+                assert_eq!((recorded.number, recorded.position), want, "byte {at} is {value}");
+                assert_eq!((replayed.number, replayed.position), want, "byte {at} is {value}");
+                assert_eq!((made.number, made.position), want, "byte {at} is {value}");
+                assert_eq!(started, want, "byte {at} is {value}");
+                refusals[want.0] += 1;
+            }
+        }
+    }
+    assert!([0, 3, 5].iter().all(|&number| refusals[number] > 0), "numbers seen: {refusals:?}");
 }
 
 #[test]
@@ -113,6 +152,31 @@ fn replaying_long_ranges() {
             assert_eq!(answer, replay(byte, 16, &tree, &trace, &mut want).into(), "{policy:?}, spine {spine}");
             assert!(got == want, "{policy:?}, spine {spine}: the run list");
             assert_eq!(answer.phases, MAX_TRACE + 1);
+        }
+    }
+}
+
+/// All steps are of one class but one, which may be any: what looks for a second class must not miss it.
+#[test]
+fn a_step_of_another_class() {
+    let rng = &mut Rng::new(0);
+    for tasks in [0, 1, 14, 15, 16, 17, 31, 32, 49, 2_047] {
+        let mut tree = random::tree(rng, tasks);
+        random::set_classes(rng, &mut tree, random::Classes::One);
+        let n = tree.len() / 8;
+        let (most, least) = (tree[1], (tree[1] + rng.between(1, 15) as u8) % 16);
+        // In the largest tree its first and its last steps.
+        for step in (0..n).filter(|&step| step < 100 || step + 100 >= n) {
+            tree[8 * step + 1] = least;
+            let (mut got, mut want) = (vec![0; 4 * n], vec![0; 4 * n]);
+            let (mut got_trace, mut want_trace) = (vec![0; 2 * n - 2], vec![0; 2 * n - 2]);
+            let recorded = tuned::record(&tree, 1, 16, &[0, 0], &mut got, &mut got_trace);
+            let expected: FrameRecord = record(1, 16, &tree, &[0, 0], &mut want, &mut want_trace).into();
+            assert_eq!(recorded, expected, "{n} steps, step {step}");
+            let replayed = tuned::replay(&tree, 2, 16, &[], &mut got);
+            let expected: FrameReplay = replay(2, 16, &tree, &[], &mut want).into();
+            assert_eq!(replayed, expected, "{n} steps, step {step}");
+            tree[8 * step + 1] = most;
         }
     }
 }

@@ -27,7 +27,8 @@ int main(void)
     EXPECT(frame_record(NULL, 0, FRAME_WORK_FIRST, 1, NULL, 0, NULL, 0, NULL, 0).number == FRAME_REFUSED_TREE_LENGTH);
     EXPECT(frame_replay(NULL, 0, FRAME_WORK_FIRST, 1, NULL, 0, NULL, 0).number == FRAME_REFUSED_TREE_LENGTH);
     EXPECT(frame_schedule(NULL, 0, FRAME_WORK_FIRST, 1, 0, NULL, 0).number == FRAME_REFUSED_TREE_LENGTH);
-    EXPECT(frame_kind(NULL, 0, 0) == 0 && frame_weight(NULL, 0, 0) == 0 && frame_cont(NULL, 0, 0) == 0);
+    EXPECT(frame_kind(NULL, 0, 0) == 0 && frame_class(NULL, 0, 0) == 0);
+    EXPECT(frame_weight(NULL, 0, 0) == 0 && frame_cont(NULL, 0, 0) == 0);
     EXPECT(frame_task(NULL, 0, 0).first == 0 && frame_finish_before(NULL, 0, 0) == 0);
     EXPECT(frame_running(NULL, 0, FRAME_HELP_FIRST, 0).opens == 0);
 

@@ -45,12 +45,14 @@ static void types(void)
     FIELD(FrameRecord, finished);
     FIELD(FrameRecord, loads);
     FIELD(FrameRecord, heaviest);
+    FIELD(FrameRecord, class_loads);
     TYPE(FrameReplay);
     FIELD(FrameReplay, number);
     FIELD(FrameReplay, position);
     FIELD(FrameReplay, phases);
     FIELD(FrameReplay, loads);
     FIELD(FrameReplay, heaviest);
+    FIELD(FrameReplay, class_loads);
     TYPE(FrameSchedule);
     FIELD(FrameSchedule, number);
     FIELD(FrameSchedule, position);
@@ -74,6 +76,7 @@ static void constants(void)
     NUMBER(FRAME_MOST_STEPS);
     NUMBER(FRAME_MOST_OPEN);
     NUMBER(FRAME_WORKERS);
+    NUMBER(FRAME_CLASSES);
     NUMBER(FRAME_MOST_EVENTS);
     NUMBER(FRAME_MOST_STEALS);
     NUMBER(FRAME_STACK_BYTES);

@@ -1,6 +1,6 @@
 //! Phases, what they cover, and the loads.
 
-use crate::tree::Tree;
+use crate::tree::{Tree, CLASSES};
 
 /// The most workers of a run.
 pub const WORKERS: usize = 16;
@@ -37,20 +37,30 @@ impl Phase {
     }
 }
 
-/// For each worker the sum of weights of all steps its phases cover.
-// Reading: sixteen loads, however few workers the run has; the others have no
-// phase, so their loads are 0.
-// Reading: in a live run too the covered steps count, also those that have
-// not run yet; so the loads always add up to the weight of the whole tree.
-pub fn loads(tree: &Tree, phases: &[Phase]) -> [u64; WORKERS] {
-    let mut loads = [0u64; WORKERS];
+/// All steps that phases cover, each with the phase's worker.
+pub fn covered_steps(tree: &Tree, phases: &[Phase]) -> Vec<(usize, usize)> {
+    let mut steps = Vec::new();
     for phase in phases {
         let covered = phase.covers(tree);
         for step in 0..tree.count() {
             if covered[step] {
-                loads[phase.worker] += u64::from(tree.weight(step));
+                steps.push((phase.worker, step));
             }
         }
+    }
+    steps
+}
+
+/// For each worker the sum of weights of all steps its phases cover: `covered`
+/// are these steps, each with its worker.
+// Reading: sixteen loads, however few workers the run has; the others have no
+// phase, so their loads are 0.
+// Reading: in a live run too the covered steps count, also those that have
+// not run yet; so the loads always add up to the weight of the whole tree.
+pub fn loads(tree: &Tree, covered: &[(usize, usize)]) -> [u64; WORKERS] {
+    let mut loads = [0u64; WORKERS];
+    for &(worker, step) in covered {
+        loads[worker] += u64::from(tree.weight(step));
     }
     loads
 }
@@ -64,4 +74,16 @@ pub fn heaviest(loads: &[u64; WORKERS]) -> usize {
         }
     }
     best
+}
+
+/// For each class the sum of weights of all its steps that phases cover,
+/// whichever worker's they are.
+// Reading: "the class loads add up to the worker loads": the same steps count
+// for both, so the two sums are equal.
+pub fn class_loads(tree: &Tree, covered: &[(usize, usize)]) -> [u64; CLASSES] {
+    let mut loads = [0u64; CLASSES];
+    for &(_, step) in covered {
+        loads[usize::from(tree.class(step))] += u64::from(tree.weight(step));
+    }
+    loads
 }

@@ -1,8 +1,9 @@
 //! A plain reference simulator of document 01, with a worker count for each
-//! run and the schedule maker as document 02 has them: reading a task tree,
-//! running it under scheduler events, recording, replaying, making schedules,
-//! and the listing program. It is written from these two documents alone and
-//! shares no code with the library it is meant to test.
+//! run, the schedule maker and a class for each step as document 02 has them:
+//! reading a task tree, running it under scheduler events, recording,
+//! replaying, making schedules, and the listing program. It is written from
+//! these two documents alone and shares no code with the library it is meant
+//! to test.
 
 pub mod cover;
 pub mod phases;

@@ -4,7 +4,7 @@ use crate::cover::WORKERS;
 use crate::record::MAX_EVENTS;
 use crate::replay::{Replay, MAX_TRACE};
 use crate::run::{Policy, Run, TraceRecord};
-use crate::tree::{Tree, MAX_OPEN, TREE_RECORD};
+use crate::tree::{Tree, CLASSES, MAX_OPEN, TREE_RECORD};
 
 /// splitmix64.
 #[derive(Clone, Debug)]
@@ -115,13 +115,26 @@ pub enum Weights {
     Mixed,
 }
 
-/// One tree record.
+/// How the classes are chosen.
+#[derive(Clone, Copy, Debug, PartialEq, Eq)]
+pub enum Classes {
+    /// 0 for all steps, as in trees from before there were classes.
+    Zero,
+    /// One for all steps.
+    One,
+    /// Any for each step.
+    Any,
+    /// The same for some steps in a row.
+    Rows,
+}
+
+/// One tree record of class 0.
 pub fn tree_record(kind: u8, weight: u32) -> [u8; TREE_RECORD] {
     let w = weight.to_le_bytes();
     [kind, 0, 0, 0, w[0], w[1], w[2], w[3]]
 }
 
-/// A tree file of these kinds, all weights 1.
+/// A tree file of these kinds, all weights 1 and all classes 0.
 pub fn tree_of_kinds(kinds: &[u8]) -> Vec<u8> {
     kinds.iter().flat_map(|&kind| tree_record(kind, 1)).collect()
 }
@@ -147,6 +160,24 @@ fn weight(rng: &mut Rng, weights: Weights) -> u32 {
             _ => rng.next() as u32,
         },
     }
+}
+
+/// Gives each record a class.
+pub fn set_classes(rng: &mut Rng, tree: &mut [u8], classes: Classes) {
+    let mut class = if classes == Classes::Zero { 0 } else { rng.below(CLASSES) };
+    for record in tree.chunks_exact_mut(TREE_RECORD) {
+        record[1] = class as u8;
+        if classes == Classes::Any || (classes == Classes::Rows && rng.percent(20)) {
+            class = rng.below(CLASSES);
+        }
+    }
+}
+
+/// The tree with all classes 0.
+pub fn without_classes(tree: &[u8]) -> Vec<u8> {
+    let mut bytes = tree.to_vec();
+    bytes.chunks_exact_mut(TREE_RECORD).for_each(|record| record[1] = 0);
+    bytes
 }
 
 /// true opens a child, false ends the innermost task; the root's end is left
@@ -218,6 +249,7 @@ fn wild(rng: &mut Rng, mut tasks: usize) -> Vec<bool> {
 
 /// An accepted tree with so many spawned tasks, 0 to 2,047, hence with
 /// 2 * tasks + 1 records. `finish` of a hundred children are finish children.
+/// The classes are chosen in any way.
 pub fn tree_with(
     rng: &mut Rng,
     shape: Shape,
@@ -248,6 +280,8 @@ pub fn tree_with(
         let weight = weight(rng, weights);
         bytes.extend_from_slice(&tree_record(kind, weight));
     }
+    let classes = rng.pick(&[Classes::Zero, Classes::One, Classes::Any, Classes::Rows]);
+    set_classes(rng, &mut bytes, classes);
     bytes
 }
 
@@ -313,11 +347,13 @@ fn damage(rng: &mut Rng, bytes: &mut Vec<u8>) {
                 bytes[any] = rng.pick(&[0, 1, 2, 3, 4, 5, 128, 255]);
             }
         }
-        // A non-zero byte 1 to 3.
+        // A class that is none, or a non-zero byte 2 or 3.
         6 => {
-            let at = any + rng.between(1, 3);
-            if at < bytes.len() {
-                bytes[at] = rng.between(1, 255) as u8;
+            let byte = rng.between(1, 3);
+            let least = if byte == 1 { CLASSES } else { 1 };
+            let value = if rng.percent(30) { least } else { rng.between(least, 255) };
+            if any + byte < bytes.len() {
+                bytes[any + byte] = value as u8;
             }
         }
         // An extra end.
@@ -898,7 +934,7 @@ pub fn robbed_in_turn(policy: Policy, spine: usize, children: usize) -> (Vec<u8>
 
 // ---- All small trees ----
 
-/// All trees with so many spawned tasks, all weights 1.
+/// All trees with so many spawned tasks, all weights 1 and all classes 0.
 pub fn all_trees(tasks: usize) -> Vec<Vec<u8>> {
     fn go(left: usize, open: usize, kinds: &mut Vec<u8>, out: &mut Vec<Vec<u8>>) {
         if left == 0 && open == 1 {

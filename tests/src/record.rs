@@ -1,8 +1,8 @@
 //! A whole record call.
 
-use crate::cover::{heaviest, loads, WORKERS};
+use crate::cover::{class_loads, covered_steps, heaviest, loads, WORKERS};
 use crate::run::Run;
-use crate::tree::Refusal;
+use crate::tree::{Refusal, CLASSES};
 
 pub const EVENT_BYTES: usize = 2;
 pub const MAX_EVENTS: usize = 8_192;
@@ -17,6 +17,7 @@ pub struct RecordAnswer {
     pub finished: bool,
     pub loads: [u64; WORKERS],
     pub heaviest: usize,
+    pub class_loads: [u64; CLASSES],
 }
 
 /// Writes two bytes, little-endian.
@@ -79,7 +80,8 @@ pub fn record(
         trace[4 * k + 1] = record.victim as u8;
         put_u16(trace, 4 * k + 2, record.number);
     }
-    let loads = loads(&run.tree, &run.phases);
+    let covered = covered_steps(&run.tree, &run.phases);
+    let loads = loads(&run.tree, &covered);
     RecordAnswer {
         number: 0,
         position: 0,
@@ -88,6 +90,7 @@ pub fn record(
         finished: run.finished(),
         loads,
         heaviest: heaviest(&loads),
+        class_loads: class_loads(&run.tree, &covered),
     }
 }
 

@@ -2,10 +2,10 @@
 
 use std::collections::HashSet;
 
-use crate::cover::{heaviest, loads, Phase, WORKERS};
+use crate::cover::{class_loads, covered_steps, heaviest, loads, Phase, WORKERS};
 use crate::record::put_u16;
 use crate::run::{worker_count, Policy};
-use crate::tree::{Refusal, Tree};
+use crate::tree::{Refusal, Tree, CLASSES};
 
 pub const TRACE_BYTES: usize = 4;
 pub const MAX_TRACE: usize = 2_047;
@@ -18,6 +18,7 @@ pub struct ReplayAnswer {
     pub phases: usize,
     pub loads: [u64; WORKERS],
     pub heaviest: usize,
+    pub class_loads: [u64; CLASSES],
 }
 
 /// The phases as the trace read so far leaves them.
@@ -194,13 +195,15 @@ pub fn replay(
             at += 4;
         }
     }
-    let loads = loads(&replay.tree, &replay.phases);
+    let covered = covered_steps(&replay.tree, &replay.phases);
+    let loads = loads(&replay.tree, &covered);
     ReplayAnswer {
         number: 0,
         position: 0,
         phases: replay.phases.len(),
         loads,
         heaviest: heaviest(&loads),
+        class_loads: class_loads(&replay.tree, &covered),
     }
 }
 

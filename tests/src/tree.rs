@@ -6,6 +6,8 @@ pub const TREE_RECORD: usize = 8;
 pub const MAX_TREE_BYTES: usize = 32_760;
 /// So many tasks may be open together, the root counted.
 pub const MAX_OPEN: usize = 64;
+/// So many classes there are: 0 to 15.
+pub const CLASSES: usize = 16;
 
 /// A refusal: its number in document 01 and the position it names (else 0).
 #[derive(Clone, Copy, Debug, PartialEq, Eq)]
@@ -52,6 +54,7 @@ pub struct Task {
 #[derive(Clone, Debug)]
 pub struct Tree {
     kinds: Vec<Kind>,
+    classes: Vec<u8>,
     weights: Vec<u32>,
     tasks: Vec<Task>,
     /// For each step its task.
@@ -71,6 +74,7 @@ impl Tree {
         let n = bytes.len() / TREE_RECORD;
         let mut tree = Tree {
             kinds: Vec::new(),
+            classes: Vec::new(),
             weights: Vec::new(),
             tasks: vec![Task {
                 kind: TaskKind::Root,
@@ -92,7 +96,8 @@ impl Tree {
                 3 => Kind::End,
                 _ => return Err(Refusal::new(3, position)),
             };
-            if record[1] != 0 || record[2] != 0 || record[3] != 0 {
+            let class = record[1];
+            if usize::from(class) >= CLASSES || record[2] != 0 || record[3] != 0 {
                 return Err(Refusal::new(3, position));
             }
             if kind != Kind::End && open.len() == MAX_OPEN {
@@ -106,6 +111,7 @@ impl Tree {
             };
             let weight = u32::from_le_bytes([record[4], record[5], record[6], record[7]]);
             tree.kinds.push(kind);
+            tree.classes.push(class);
             tree.weights.push(weight);
             tree.task_of.push(innermost);
             tree.ordinal_of.push(tree.tasks[innermost].children.len());
@@ -150,6 +156,11 @@ impl Tree {
 
     pub fn kind(&self, step: usize) -> Kind {
         self.kinds[step]
+    }
+
+    /// The step's own class; a task has none.
+    pub fn class(&self, step: usize) -> u8 {
+        self.classes[step]
     }
 
     pub fn weight(&self, step: usize) -> u32 {

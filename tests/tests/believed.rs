@@ -16,7 +16,7 @@ const ENTRIES: [(&str, &[&str]); 11] = [
     ("crates/replay/src/lib.rt", &["replay"]),
     ("crates/schedule/src/lib.rt", &["schedule"]),
     ("crates/phases_text/src/lib.rt", &["list_phases"]),
-    ("crates/tree/src/lib.rt", &["steps", "kind", "weight"]),
+    ("crates/tree/src/lib.rt", &["steps", "kind", "class", "weight"]),
     ("crates/tree/src/validation.rt", &["accept"]),
     ("crates/tree_scan/src/lib.rt", &["task_of"]),
     ("crates/tree_scan/src/children.rt", &["cont", "finish_before"]),
@@ -148,9 +148,9 @@ fn statements(whole: &str) -> Vec<String> {
 
 // ---- Pages ----
 
-/// The pages with two theorems: demand 3 and the worker count; progress of a state with the invariant, and of one that events lead
-/// to. Every other has one.
-const TWO: [&str; 2] = ["crates/agreement/specs/Theorem.antt", "crates/run_progress/specs/Theorem.antt"];
+/// The pages with several theorems: demand 3, the worker count and the classes; progress of a state with the invariant, and of one
+/// that events lead to. Every other has one.
+const SEVERAL: [(&str, usize); 2] = [("crates/agreement/specs/Theorem.antt", 3), ("crates/run_progress/specs/Theorem.antt", 2)];
 
 /// Every page to be believed, with what names it: an entry, a theorem or another page.
 fn believed() -> BTreeMap<String, String> {
@@ -167,7 +167,8 @@ fn believed() -> BTreeMap<String, String> {
     for theorem in theorems {
         let whole = text(&theorem, "--");
         let statements = statements(&whole);
-        assert_eq!(statements.len(), if TWO.contains(&&theorem[..]) { 2 } else { 1 }, "{theorem}");
+        let many = SEVERAL.iter().find(|(page, _)| *page == theorem).map_or(1, |(_, many)| *many);
+        assert_eq!(statements.len(), many, "{theorem}");
         for statement in statements {
             from.extend(named(&whole, &statement).into_iter().map(|page| (page, theorem.clone())));
         }

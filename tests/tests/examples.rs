@@ -1,6 +1,8 @@
-//! The examples of document 01, and worked cases of a run's own worker count
-//! and of the schedule maker.
+//! The examples of document 01, and worked cases of a run's own worker count,
+//! of the schedule maker and of the classes.
 
+#[path = "library/classes.rs"]
+mod classes;
 #[path = "library/counts.rs"]
 mod counts;
 #[path = "library/schedules.rs"]
@@ -84,6 +86,8 @@ fn p1_record() {
     loads[0] = 3; // steps 0 and 1 in phase 0, step 5 in phase 3
     loads[1] = 3; // steps 2, 3 and 4 in phase 1
     loads[2] = 1; // step 6 in phase 2
+    let mut class_loads = [0; 16];
+    class_loads[0] = 7; // an old tree: all steps are class 0
     assert_eq!(
         answer,
         RecordAnswer {
@@ -94,6 +98,7 @@ fn p1_record() {
             finished: true,
             loads,
             heaviest: 0,
+            class_loads,
         }
     );
     assert_eq!(trace[..12], P1_TRACE);
@@ -119,7 +124,10 @@ fn p1_replay() {
     loads[0] = 3;
     loads[1] = 3;
     loads[2] = 1;
-    assert_eq!(answer, ReplayAnswer { number: 0, position: 0, phases: 4, loads, heaviest: 0 });
+    let mut class_loads = [0; 16];
+    class_loads[0] = 7;
+    let want = ReplayAnswer { number: 0, position: 0, phases: 4, loads, heaviest: 0, class_loads };
+    assert_eq!(answer, want);
     #[rustfmt::skip]
     assert_eq!(list[..28], [
         0, 0, 0, 0,
@@ -379,4 +387,42 @@ fn turns_of_sixteen_workers() {
         assert_eq!((maker.seed, &maker.events[before..]), (seed, written));
     }
     assert!(maker.run.finished());
+}
+
+#[test]
+fn tree_c_and_tree_s() {
+    let (c, s) = (Tree::parse(&classes::C).unwrap(), Tree::parse(&s()).unwrap());
+    assert_eq!((0..7).map(|i| c.class(i)).collect::<Vec<_>>(), [0, 1, 2, 0, 15, 1, 2]);
+    assert_eq!((0..7).map(|i| s.class(i)).collect::<Vec<_>>(), [0; 7]);
+    assert_eq!((0..7).map(|i| c.weight(i)).collect::<Vec<_>>(), [1, 2, 4, 8, 16, 32, 64]);
+    assert!((0..7).all(|i| c.kind(i) == s.kind(i)));
+}
+
+#[test]
+fn worked_cases_of_the_classes() {
+    // The loads of three workers, and the others'.
+    let wanted = |first: [u64; 3]| [&first[..], &[0; 13]].concat();
+    for (policy, events, loads, heaviest) in classes::RECORDINGS {
+        let (answer, _, _) = record_to_vecs(policy, 16, &classes::C, events);
+        let case = format!("policy {policy}, events {events:?}");
+        assert_eq!((answer.number, answer.heaviest), (0, heaviest), "{case}");
+        assert_eq!(answer.loads[..], wanted(loads), "{case}");
+        assert_eq!(answer.class_loads, classes::LOADS, "{case}");
+    }
+    for (policy, trace, loads, heaviest) in classes::REPLAYS {
+        let (answer, _) = replay_to_vecs(policy, 16, &classes::C, trace);
+        let case = format!("policy {policy}, trace {trace:?}");
+        assert_eq!((answer.number, answer.heaviest), (0, heaviest), "{case}");
+        assert_eq!(answer.loads[..], wanted(loads), "{case}");
+        assert_eq!(answer.class_loads, classes::LOADS, "{case}");
+    }
+    let (answer, _, _) = record_to_vecs(1, 16, &classes::C, &classes::REFUSED);
+    assert_eq!(answer, refused_record(9, 0));
+    assert_eq!(answer.class_loads, [0; 16]);
+    for (tree, want) in classes::trees() {
+        let (answer, _, _) = record_to_vecs(1, 16, &tree, &[]);
+        assert_eq!(refusal(answer.number, answer.position), want, "{tree:?}");
+        let (answer, _) = replay_to_vecs(2, 16, &tree, &[]);
+        assert_eq!(refusal(answer.number, answer.position), want, "{tree:?}");
+    }
 }

@@ -14,7 +14,7 @@ use frame_tests::cover::WORKERS;
 use frame_tests::record::{EVENT_BYTES, MAX_EVENTS};
 use frame_tests::replay::{MAX_TRACE, TRACE_BYTES};
 use frame_tests::schedule::most_events;
-use frame_tests::tree::{MAX_OPEN, MAX_TREE_BYTES, TREE_RECORD};
+use frame_tests::tree::{CLASSES, MAX_OPEN, MAX_TREE_BYTES, TREE_RECORD};
 use library::{
     FrameEvent, FrameIdle, FrameOutcome, FrameRecord, FrameReplay, FrameRunning, FrameSchedule, FrameStart, FrameTask, FrameTree,
     RunState,
@@ -146,7 +146,10 @@ fn header_functions() -> BTreeSet<String> {
 #[test]
 fn the_same_functions() {
     let exported = exported_functions();
-    assert!(exported.contains("uint8_t frame_kind(const uint8_t *, size_t, size_t)"), "{exported:#?}");
+    for name in ["kind", "class"] {
+        let function = format!("uint8_t frame_{name}(const uint8_t *, size_t, size_t)");
+        assert!(exported.contains(&function), "{exported:#?}");
+    }
     assert_eq!(exported.len(), SOURCES.map(text).concat().matches("extern \"C\" fn").count());
     assert_eq!(header_functions(), exported);
     assert_eq!(rust_functions(), exported);
@@ -210,8 +213,8 @@ fn layout() -> BTreeMap<String, Vec<usize>> {
     layout!(lines, "FrameOutcome", FrameOutcome { number, position, what, phase, step, trace });
     layout!(lines, "FrameEvent", FrameEvent { outcome, state });
     layout!(lines, "FrameIdle", FrameIdle { set, count, lowest });
-    layout!(lines, "FrameRecord", FrameRecord { number, position, logs, steals, finished, loads, heaviest });
-    layout!(lines, "FrameReplay", FrameReplay { number, position, phases, loads, heaviest });
+    layout!(lines, "FrameRecord", FrameRecord { number, position, logs, steals, finished, loads, heaviest, class_loads });
+    layout!(lines, "FrameReplay", FrameReplay { number, position, phases, loads, heaviest, class_loads });
     layout!(lines, "FrameSchedule", FrameSchedule { number, position, events });
     layout!(lines, "FrameTree", FrameTree { number, position, steps });
     layout!(lines, "FrameTask", FrameTask { first, ordinal });
@@ -256,6 +259,16 @@ fn no_byte_of_a_state_is_padding() {
     assert_eq!((end, size_of::<RunState>()), (4_228, 4_228));
 }
 
+/// The class loads stand last, and all else where it was before there were classes.
+#[test]
+fn class_loads_stand_last() {
+    let [recorded, replayed] = ["FrameRecord", "FrameReplay"].map(fields);
+    assert_eq!(recorded, [[0, 8], [8, 8], [16, 8], [24, 8], [32, 8], [40, 128], [168, 8], [176, 128]]);
+    assert_eq!(replayed, [[0, 8], [8, 8], [16, 8], [24, 128], [152, 8], [160, 128]]);
+    assert_eq!((offset_of!(FrameRecord, class_loads), size_of::<FrameRecord>()), (176, 304));
+    assert_eq!((offset_of!(FrameReplay, class_loads), size_of::<FrameReplay>()), (160, 288));
+}
+
 // ---- Constants ----
 
 /// The versions of the header that FORMAT.md lists.
@@ -266,7 +279,7 @@ fn versions() -> Vec<usize> {
 
 #[test]
 fn the_versions_of_the_format() {
-    assert_eq!(versions(), (1..=versions().len()).collect::<Vec<_>>());
+    assert_eq!(versions(), [1, 2, 3, 4]);
 }
 
 /// What a name of the header stands for, apart from the refusals.
@@ -277,6 +290,7 @@ fn constants() -> BTreeMap<String, Vec<usize>> {
         ("FRAME_MOST_STEPS", steps),
         ("FRAME_MOST_OPEN", MAX_OPEN),
         ("FRAME_WORKERS", WORKERS),
+        ("FRAME_CLASSES", CLASSES),
         ("FRAME_MOST_EVENTS", MAX_EVENTS),
         ("FRAME_MOST_STEALS", MAX_TRACE),
         ("FRAME_STACK_BYTES", 96 * 1_024),

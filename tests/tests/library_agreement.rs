@@ -142,6 +142,7 @@ impl Live<'_> {
         assert!(all.into_iter().eq(0..self.steps()), "{case}: not every step once");
         // Not asked by demand 3, but both calls count what the phases cover at the end.
         assert_eq!((recorded.loads, recorded.heaviest), (replayed.loads, replayed.heaviest), "{case}");
+        assert_eq!(recorded.class_loads, replayed.class_loads, "{case}");
     }
 
     /// Where a lent output is short both calls give 7, and otherwise, however long, they are accepted.

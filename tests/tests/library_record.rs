@@ -1,6 +1,8 @@
 //! Whole recordings over the C interface against the simulator: every answer and every byte of both outputs, which hold
 //! random bytes when they are lent. Each slice lies before or behind a guard page. A failure names its seed.
 
+#[path = "library/classes.rs"]
+mod classes;
 #[path = "library/counts.rs"]
 mod counts;
 #[path = "library/guarded.rs"]
@@ -17,7 +19,7 @@ use std::fmt;
 
 use frame_tests::random::{
     accepted_bytes, all_stolen, any_count, any_event, damaged_tree, drive, events_to_record, flat_tree, nearest_count, tree,
-    tree_of_kinds, tree_with, Plan, Rng, Weights, SHAPES,
+    tree_of_kinds, tree_with, without_classes, Plan, Rng, Weights, SHAPES,
 };
 use frame_tests::record::{record, MAX_EVENTS};
 use frame_tests::run::{Policy, Run};
@@ -81,6 +83,10 @@ struct Seen {
     other_heaviest: usize,
     /// Accepted, and the heaviest worker has an equal.
     equals: usize,
+    /// Accepted, and another class than 0 has a load.
+    other_classes: usize,
+    /// Accepted, and class 0 has all the load, which is not 0.
+    class_0_alone: usize,
 }
 
 /// The library beside the simulator.
@@ -106,6 +112,7 @@ impl Both {
         about_to_call(case);
         let got = library::record(lent_tree, call.policy, call.workers, lent_events, lent_log, lent_trace);
         assert_eq!(got, want, "{case}");
+        assert_eq!(got.class_loads.iter().sum::<u64>(), got.loads.iter().sum(), "{case}");
         same_bytes(lent_log, &log, "log", case);
         same_bytes(lent_trace, &trace, "trace", case);
         same_bytes(lent_tree, &call.tree, "tree", case);
@@ -129,6 +136,9 @@ impl Both {
             seen.other_heaviest += usize::from(got.heaviest != 0);
             let most = got.loads[got.heaviest];
             seen.equals += usize::from(got.loads.iter().filter(|&&load| load == most).count() > 1);
+            let others = got.class_loads[1..].iter().any(|&load| load > 0);
+            seen.other_classes += usize::from(others);
+            seen.class_0_alone += usize::from(!others && got.class_loads[0] > 0);
         }
     }
 }
@@ -158,6 +168,7 @@ fn small_calls() {
     assert!(seen.numbers[0] > 30_000 && seen.finished > 20_000 && seen.steals > 100_000, "{seen:?}");
     assert!([7, 8, 9, 10, 11, 12, 16].iter().all(|&number| seen.numbers[number] > 1_000), "{seen:?}");
     assert!(seen.other_heaviest > 8_000 && seen.equals > 5_000, "{seen:?}");
+    assert!(seen.other_classes > 10_000 && seen.class_0_alone > 5_000, "{seen:?}");
 }
 
 /// A run of a tree to its end.
@@ -266,6 +277,51 @@ fn every_count_byte() {
             both.numbered(&call, want, format_args!("seed {seed}, {workers} workers"));
         }
     }
+}
+
+/// Byte 1 is a class from 0 to 15, bytes 2 and 3 are 0, and the same events are accepted on every such tree.
+#[test]
+fn every_class_byte() {
+    let mut both = Both::new();
+    for seed in 0..20 {
+        let mut rng = Rng::new(seed);
+        let tasks = rng.below(12);
+        let bytes = tree(&mut rng, tasks);
+        let (policy, workers) = (rng.between(1, 2) as u8, rng.between(1, 16) as u8);
+        let events = whole_run(&mut rng, &bytes, policy, workers);
+        for (k, (bytes, want)) in classes::every_byte(&mut rng, &bytes).into_iter().enumerate() {
+            let call = Call::new(&mut rng, &bytes, policy, workers, &events, needed(&bytes));
+            both.numbered(&call, want, format_args!("seed {seed}, tree {k}"));
+        }
+    }
+}
+
+/// Without its classes a tree gives the same answers and bytes, but that class 0 has all the load.
+#[test]
+fn classes_change_nothing_else() {
+    let mut changed = 0;
+    for seed in 0..20_000 {
+        let mut rng = Rng::new(seed);
+        let tasks = if rng.percent(1) { rng.below(2_048) } else { rng.below(25) };
+        let bytes = tree(&mut rng, tasks);
+        let (policy, workers) = (rng.between(1, 2) as u8, rng.between(1, 16) as u8);
+        let read = Tree::parse(&bytes).expect("the tree is accepted");
+        let events = events_to_record(&mut rng, policy_of(policy), workers.into(), &read);
+        let lent = lengths(&mut rng, &bytes).map(|length| rng.bytes(length));
+        let recorded = |tree: &[u8]| {
+            let [mut log, mut trace] = lent.clone();
+            let got = library::record(tree, policy, workers, &events, &mut log, &mut trace);
+            (got, log, trace)
+        };
+        let (got, log, trace) = recorded(&bytes);
+        let (old, old_log, old_trace) = recorded(&without_classes(&bytes));
+        let mut class_loads = [0; 16];
+        class_loads[0] = got.loads.iter().sum();
+        assert_eq!(old, FrameRecord { class_loads, ..got }, "seed {seed}");
+        assert!((old_log, old_trace) == (log, trace), "seed {seed}: another log or trace");
+        changed += usize::from(got.class_loads != class_loads);
+    }
+    assert!(changed > 4_000, "{changed}");
 }
 
 // ---- Lengths ----
@@ -489,15 +545,17 @@ fn recorded(kinds: &[u8], policy: u8, workers: u8, events: &[u8]) -> (FrameRecor
     (got, log, trace)
 }
 
-/// An accepted call's answer; the loads of the workers beyond these are 0.
+/// An accepted call's answer; the loads of the workers beyond these are 0. All steps are class 0.
 fn accepted(logs: usize, steals: usize, finished: usize, first: [u64; 3], heaviest: usize) -> FrameRecord {
-    let mut loads = [0; 16];
+    let [mut loads, mut class_loads] = [[0; 16]; 2];
     loads[..3].copy_from_slice(&first);
-    FrameRecord { number: 0, position: 0, logs, steals, finished, loads, heaviest }
+    class_loads[0] = first.iter().sum();
+    FrameRecord { number: 0, position: 0, logs, steals, finished, loads, heaviest, class_loads }
 }
 
 fn refused(number: usize, position: usize) -> FrameRecord {
-    FrameRecord { number, position, logs: 0, steals: 0, finished: 0, loads: [0; 16], heaviest: 0 }
+    let none = [0; 16];
+    FrameRecord { number, position, logs: 0, steals: 0, finished: 0, loads: none, heaviest: 0, class_loads: none }
 }
 
 const P1: [u8; 20] = [0, 0, 1, 0, 1, 1, 2, 1, 1, 1, 0, 0, 0, 1, 0, 0, 1, 1, 2, 2];
@@ -569,6 +627,28 @@ fn worked_cases_of_the_count() {
     assert_eq!(got, accepted(7, 0, 1, [7, 0, 0], 0));
     assert_eq!(log.chunks(4).map(|record| record[2]).collect::<Vec<_>>(), [0, 2, 3, 5, 4, 6, 1]);
     assert!(trace.is_empty());
+}
+
+#[test]
+fn worked_cases_of_the_classes() {
+    let recorded = |tree: &[u8], policy, events: &[u8]| {
+        let [mut log, mut trace] = needed(tree).map(|need| vec![0xEE; need]);
+        let got = library::record(tree, policy, 16, events, &mut log, &mut trace);
+        assert!(got.number == 0 || log.iter().chain(&trace).all(|&byte| byte == 0xEE), "{tree:?}, events {events:?}");
+        got
+    };
+    for (policy, events, loads, heaviest) in classes::RECORDINGS {
+        let logs = events.chunks(2).filter(|event| event[0] == event[1]).count();
+        let want = accepted(logs, events.len() / 2 - logs, usize::from(logs == 7), loads, heaviest);
+        let want = FrameRecord { class_loads: classes::LOADS, ..want };
+        assert_eq!(recorded(&classes::C, policy, events), want, "policy {policy}, events {events:?}");
+    }
+    assert_eq!(recorded(&classes::C, 1, &classes::REFUSED), refused(9, 0));
+    for (tree, want) in classes::trees() {
+        let got = recorded(&tree, 1, &[]);
+        assert_eq!((got.number, got.position), want, "{tree:?}");
+        assert!(got.number == 0 || got == refused(want.0, want.1), "{tree:?}: {got:?}");
+    }
 }
 
 /// P5 with outputs of exactly the bytes it asks for: a trace of none.

@@ -1,6 +1,8 @@
 //! Whole replays over the C interface against the simulator: every answer and every byte of the run list, which holds random
 //! bytes when it is lent. Each slice lies before or behind a guard page. A failure names its seed.
 
+#[path = "library/classes.rs"]
+mod classes;
 #[path = "library/counts.rs"]
 mod counts;
 #[path = "library/guarded.rs"]
@@ -19,12 +21,13 @@ use std::io::Write;
 
 use frame_tests::random::{
     accepted_trace, all_stolen, all_trees, any_count, any_event, damaged_tree, doubtful_record, flat_tree, nearest_count,
-    recorded_trace, robbed_in_turn, trace_record, trace_to_replay, tree, tree_of_kinds, tree_with, Rng, Steals, Weights, SHAPES,
+    recorded_trace, robbed_in_turn, trace_record, trace_to_replay, tree, tree_of_kinds, tree_with, without_classes, Rng, Steals,
+    Weights, SHAPES,
 };
 use frame_tests::record::record_to_vecs;
 use frame_tests::replay::{judge_and_replay, replay, MAX_TRACE, TRACE_BYTES};
 use frame_tests::run::Policy;
-use frame_tests::tree::{Tree, TREE_RECORD};
+use frame_tests::tree::{Tree, CLASSES, TREE_RECORD};
 use guarded::Guarded;
 use lent::{about_to_call, put, same_bytes};
 use library::FrameReplay;
@@ -81,13 +84,13 @@ fn number(bytes: &[u8]) -> usize {
 
 // ---- What holds of an accepted call, whatever the simulator says ----
 
-/// The phases' records follow one another, every step stands once, and the loads are those of the steps.
+/// The phases' records follow one another, every step stands once, and the loads, by worker and by class, are those of the steps.
 fn sound(call: &Call, got: &FrameReplay, list: &[u8], case: fmt::Arguments) {
     assert_eq!(got.phases, call.trace.len() / TRACE_BYTES + 1, "{case}");
     let weights: Vec<u64> =
         call.tree.chunks(TREE_RECORD).map(|r| u32::from_le_bytes([r[4], r[5], r[6], r[7]]).into()).collect();
     let mut stands = vec![false; weights.len()];
-    let mut loads = [0; 16];
+    let [mut loads, mut class_loads] = [[0; 16]; 2];
     let mut latest = 0;
     for (k, record) in list[..needed(&call.tree)].chunks(4).enumerate() {
         let (phase, step) = (number(record), number(&record[2..]));
@@ -97,10 +100,11 @@ fn sound(call: &Call, got: &FrameReplay, list: &[u8], case: fmt::Arguments) {
         assert!(!std::mem::replace(&mut stands[step], true), "{case}: step {step} stands twice");
         let worker = if phase == 0 { 0 } else { call.trace[TRACE_BYTES * (phase - 1)] };
         loads[usize::from(worker)] += weights[step];
+        class_loads[usize::from(call.tree[TREE_RECORD * step + 1])] += weights[step];
     }
     assert_eq!(latest + 1, got.phases, "{case}");
     assert!(stands.iter().all(|&stands| stands), "{case}: a step is missing");
-    assert_eq!(got.loads, loads, "{case}");
+    assert_eq!((got.loads, got.class_loads), (loads, class_loads), "{case}");
     assert_eq!(got.loads.iter().sum::<u64>(), weights.iter().sum(), "{case}");
     let heaviest = (0..16).find(|&w| loads.iter().all(|&load| load <= loads[w]));
     assert_eq!(Some(got.heaviest), heaviest, "{case}");
@@ -157,6 +161,10 @@ struct Seen {
     other_heaviest: usize,
     /// Accepted, and the heaviest worker has an equal.
     equals: usize,
+    /// Accepted, and another class than 0 has a load.
+    other_classes: usize,
+    /// Accepted, and class 0 has all the load, which is not 0.
+    class_0_alone: usize,
 }
 
 /// The library beside the simulator.
@@ -181,6 +189,7 @@ impl Both {
         about_to_call(case);
         let got = library::replay(lent_tree, call.policy, call.workers, lent_trace, lent_list);
         assert_eq!(got, want, "{case}");
+        assert_eq!(got.class_loads.iter().sum::<u64>(), got.loads.iter().sum(), "{case}");
         same_bytes(lent_list, &list, "list", case);
         same_bytes(beside, &call.beside, "room beside the list", case);
         same_bytes(lent_tree, &call.tree, "tree", case);
@@ -210,6 +219,9 @@ impl Both {
             seen.other_heaviest += usize::from(got.heaviest != 0);
             let most = got.loads[got.heaviest];
             seen.equals += usize::from(got.loads.iter().filter(|&&load| load == most).count() > 1);
+            let others = got.class_loads[1..].iter().any(|&load| load > 0);
+            seen.other_classes += usize::from(others);
+            seen.class_0_alone += usize::from(!others && got.class_loads[0] > 0);
         }
     }
 }
@@ -254,6 +266,7 @@ fn small_calls() {
     assert!([6, 7, 8, 13, 14, 15, 16].iter().all(|&number| seen.numbers[number] > 1_000), "{seen:?}");
     all_reasons(&seen, 300);
     assert!(seen.later > 10_000 && seen.other_heaviest > 5_000 && seen.equals > 5_000, "{seen:?}");
+    assert!(seen.other_classes > 15_000 && seen.class_0_alone > 5_000, "{seen:?}");
 }
 
 /// All records between so many workers and one more, which the run does not have, with every number up to n and one that is too
@@ -273,10 +286,11 @@ fn all_records(workers: u8, n: usize) -> Vec<[u8; 4]> {
     records
 }
 
-/// Weights that tell which steps a load has.
+/// Weights that tell which steps a load has, and for each step a class of its own.
 fn told_apart(tree: &[u8]) -> Vec<u8> {
     let mut bytes = tree.to_vec();
     for (step, record) in bytes.chunks_mut(TREE_RECORD).enumerate() {
+        record[1] = (CLASSES - 1 - step) as u8;
         record[4..].copy_from_slice(&(1_u32 << step).to_le_bytes());
     }
     bytes
@@ -492,6 +506,52 @@ fn every_policy_and_every_count_byte() {
     }
 }
 
+/// Byte 1 is a class from 0 to 15, bytes 2 and 3 are 0, and the same trace is accepted on every such tree.
+#[test]
+fn every_class_byte() {
+    let mut both = Both::new();
+    for seed in 0..20 {
+        let mut rng = Rng::new(seed);
+        let tasks = rng.below(12);
+        let bytes = tree(&mut rng, tasks);
+        let (policy, workers) = (rng.between(1, 2) as u8, some_count(&mut rng));
+        let plan = Steals::any(&mut rng, workers.into());
+        let trace = accepted_trace(&mut rng, policy_of(policy), &read(&bytes), &plan);
+        for (k, (bytes, want)) in classes::every_byte(&mut rng, &bytes).into_iter().enumerate() {
+            let call = Call::new(&mut rng, &bytes, policy, workers, &trace, needed(&bytes));
+            both.numbered(&call, want, format_args!("seed {seed}, tree {k}"));
+        }
+    }
+}
+
+/// Without its classes a tree gives the same answers and bytes, but that class 0 has all the load.
+#[test]
+fn classes_change_nothing_else() {
+    let mut changed = 0;
+    for seed in 0..20_000 {
+        let mut rng = Rng::new(seed);
+        let tasks = if rng.percent(1) { rng.below(2_048) } else { rng.below(25) };
+        let bytes = tree(&mut rng, tasks);
+        let (policy, workers) = (rng.between(1, 2) as u8, rng.between(1, 16) as u8);
+        let trace = trace_to_replay(&mut rng, policy_of(policy), workers.into(), &read(&bytes));
+        let length = length(&mut rng, &bytes);
+        let lent = rng.bytes(length);
+        let replayed = |tree: &[u8]| {
+            let mut list = lent.clone();
+            let got = library::replay(tree, policy, workers, &trace, &mut list);
+            (got, list)
+        };
+        let (got, list) = replayed(&bytes);
+        let (old, old_list) = replayed(&without_classes(&bytes));
+        let mut class_loads = [0; 16];
+        class_loads[0] = got.loads.iter().sum();
+        assert_eq!(old, FrameReplay { class_loads, ..got }, "seed {seed}");
+        assert!(old_list == list, "seed {seed}: another list");
+        changed += usize::from(got.class_loads != class_loads);
+    }
+    assert!(changed > 2_500, "{changed}");
+}
+
 // ---- Lengths ----
 
 #[test]
@@ -671,15 +731,16 @@ fn replayed(kinds: &[u8], policy: u8, workers: u8, trace: &[u8]) -> (FrameReplay
     (got, phases)
 }
 
-/// An accepted call's answer; the loads of the workers beyond these are 0.
+/// An accepted call's answer; the loads of the workers beyond these are 0. All steps are class 0.
 fn accepted(phases: usize, first: [u64; 3], heaviest: usize) -> FrameReplay {
-    let mut loads = [0; 16];
+    let [mut loads, mut class_loads] = [[0; 16]; 2];
     loads[..3].copy_from_slice(&first);
-    FrameReplay { number: 0, position: 0, phases, loads, heaviest }
+    class_loads[0] = first.iter().sum();
+    FrameReplay { number: 0, position: 0, phases, loads, heaviest, class_loads }
 }
 
 fn refused(number: usize, position: usize) -> FrameReplay {
-    FrameReplay { number, position, phases: 0, loads: [0; 16], heaviest: 0 }
+    FrameReplay { number, position, phases: 0, loads: [0; 16], heaviest: 0, class_loads: [0; 16] }
 }
 
 const P1_TRACE: [u8; 12] = [1, 0, 1, 0, 2, 1, 2, 0, 0, 1, 1, 0];
@@ -734,6 +795,23 @@ fn worked_cases_of_the_count() {
         let case = format!("policy {policy}, {workers} workers, {kinds:?}, trace {trace:?}");
         assert_eq!((got.number, got.position), want, "{case}");
         assert!(got.number == 0 || got == refused(want.0, want.1), "{case}: {got:?}");
+    }
+}
+
+#[test]
+fn worked_cases_of_the_classes() {
+    let mut list = [0xEE; 28];
+    for (policy, trace, loads, heaviest) in classes::REPLAYS {
+        let got = library::replay(&classes::C, policy, 16, trace, &mut list);
+        let want = accepted(trace.len() / TRACE_BYTES + 1, loads, heaviest);
+        assert_eq!(got, FrameReplay { class_loads: classes::LOADS, ..want }, "policy {policy}, trace {trace:?}");
+    }
+    for (tree, want) in classes::trees() {
+        let mut list = vec![0xEE; needed(&tree)];
+        let got = library::replay(&tree, 2, 16, &[], &mut list);
+        assert_eq!((got.number, got.position), want, "{tree:?}");
+        assert!(got.number == 0 || got == refused(want.0, want.1), "{tree:?}: {got:?}");
+        assert!(got.number == 0 || list.iter().all(|&byte| byte == 0xEE), "{tree:?}");
     }
 }
 

@@ -1,6 +1,8 @@
 //! Starts, single events (by value and in place) and idle answers over the C interface, event by event: against the simulator on
 //! the runs that a start leads to, and against the contract on any state and any bytes. A failure names its seed and its event.
 
+#[path = "library/classes.rs"]
+mod classes;
 #[path = "library/counts.rs"]
 mod counts;
 #[path = "library/guarded.rs"]
@@ -14,8 +16,8 @@ use std::mem::transmute;
 
 use frame_tests::cover::WORKERS;
 use frame_tests::random::{
-    all_stolen, any_count, damaged_tree, drive, flat_tree, tree, tree_of_kinds, tree_with, worker_at_the_edge, Plan, Rng, Weights,
-    SHAPES,
+    all_stolen, any_count, damaged_tree, drive, flat_tree, tree, tree_of_kinds, tree_with, without_classes, worker_at_the_edge,
+    Plan, Rng, Weights, SHAPES,
 };
 use frame_tests::run::{Policy, Run};
 use guarded::Guarded;
@@ -344,6 +346,56 @@ fn starts() {
         }
     }
     assert!(accepted > 10_000 && [1, 2, 3, 4, 5, 16].iter().all(|&number| refused[number] > 100), "{accepted} {refused:?}");
+}
+
+/// Byte 1 is a class from 0 to 15, bytes 2 and 3 are 0, and the first state is the same for every such tree.
+#[test]
+fn every_class_byte() {
+    for seed in 0..20 {
+        let mut rng = Rng::new(seed);
+        let tasks = rng.below(12);
+        let bytes = tree(&mut rng, tasks);
+        for (k, (bytes, want)) in classes::every_byte(&mut rng, &bytes).into_iter().enumerate() {
+            let (policy, workers) = (rng.between(1, 2) as u8, run_count(&mut rng));
+            let got = library::start(&bytes, policy, workers);
+            assert_eq!((got.number, got.position), want, "seed {seed}, tree {k}");
+            let state = if want.0 == 0 { first_state(policy, workers) } else { zeros() };
+            assert!(got.state == state, "seed {seed}, tree {k}: another state");
+        }
+    }
+    for (tree, want) in classes::trees() {
+        let got = library::start(&tree, 1, 16);
+        assert_eq!((got.number, got.position), want, "{tree:?}");
+    }
+}
+
+/// An event does not see the classes: without them, or with any bytes in their place and behind them, outcomes and states are the
+/// same.
+#[test]
+fn classes_change_no_event() {
+    let mut seen = Seen::default();
+    for seed in 0..10_000 {
+        let mut rng = Rng::new(seed);
+        let tasks = if rng.percent(5) { rng.below(120) } else { rng.below(25) };
+        let bytes = tree(&mut rng, tasks);
+        let (policy, workers) = (rng.between(1, 2) as u8, run_count(&mut rng));
+        let mut damaged = bytes.clone();
+        damaged.chunks_mut(8).for_each(|record| record[1..4].copy_from_slice(&rng.bytes(3)));
+        let run = Run::start(policy, workers, &bytes).expect("the tree is accepted");
+        let mut state = library::start(&bytes, policy, workers).state;
+        for (k, [first, second]) in event_list(&mut rng, run, 4 * (tasks + 1)).into_iter().enumerate() {
+            let got = library::event(state, &bytes, first, second);
+            for other in [without_classes(&bytes), damaged.clone()] {
+                let again = both_ways(&mut state.clone(), &other, first, second, At { seed, event: Some(k) });
+                assert_eq!(again.outcome, got.outcome, "seed {seed}, event {k}");
+                assert!(again.state == got.state, "seed {seed}, event {k}: another state");
+            }
+            seen.count(&got.outcome);
+            state = got.state;
+        }
+    }
+    assert!(seen.runs > 50_000 && seen.steals > 10_000, "{seen:?}");
+    assert!(seen.refused[8..].iter().all(|&times| times > 1_000), "{seen:?}");
 }
 
 #[test]

@@ -2,6 +2,8 @@
 //! it is lent. Each list that is made is then recorded and replayed by the library. Each slice lies before or behind a guard
 //! page. A failure names its seed.
 
+#[path = "library/classes.rs"]
+mod classes;
 #[path = "library/guarded.rs"]
 mod guarded;
 #[path = "library/lent.rs"]
@@ -16,7 +18,9 @@ mod trees;
 
 use std::fmt;
 
-use frame_tests::random::{all_trees, any_count, any_seed, damaged_tree, tree, tree_of_kinds, tree_with, Rng, Weights, SHAPES};
+use frame_tests::random::{
+    all_trees, any_count, any_seed, damaged_tree, tree, tree_of_kinds, tree_with, without_classes, Rng, Weights, SHAPES,
+};
 use frame_tests::{record, replay, schedule};
 use guarded::Guarded;
 use lent::{about_to_call, put, same_bytes};
@@ -279,6 +283,45 @@ fn every_policy_and_count_byte() {
                 both.numbered(&call, want, format_args!("seed {seed}, policy {policy}, {workers} workers"));
             }
         }
+    }
+}
+
+/// Byte 1 is a class from 0 to 15, bytes 2 and 3 are 0.
+#[test]
+fn every_class_byte() {
+    let mut both = Both::new();
+    for seed in 0..20 {
+        let mut rng = Rng::new(seed);
+        let tasks = rng.below(12);
+        let bytes = tree(&mut rng, tasks);
+        for (k, (bytes, want)) in classes::every_byte(&mut rng, &bytes).into_iter().enumerate() {
+            let (policy, workers) = (rng.between(1, 2) as u8, rng.between(1, 16) as u8);
+            let start = any_seed(&mut rng);
+            let call = Call::new(&mut rng, &bytes, policy, workers, start, needed(&bytes));
+            both.numbered(&call, want, format_args!("seed {seed}, tree {k}"));
+        }
+    }
+    for (tree, want) in classes::trees() {
+        let call = Call::new(&mut Rng::new(0), &tree, 1, 16, 0, needed(&tree));
+        both.numbered(&call, want, format_args!("{tree:?}"));
+    }
+}
+
+/// The maker does not see the classes.
+#[test]
+fn classes_change_no_list() {
+    for seed in 0..20_000 {
+        let mut rng = Rng::new(seed);
+        let tasks = if rng.percent(1) { rng.below(2_048) } else { rng.below(25) };
+        let bytes = tree(&mut rng, tasks);
+        let (policy, workers) = (rng.between(1, 2) as u8, rng.between(1, 16) as u8);
+        let start = any_seed(&mut rng);
+        let lent = rng.bytes(needed(&bytes));
+        let made = |tree: &[u8]| {
+            let mut events = lent.clone();
+            (library::schedule(tree, policy, workers, start, &mut events), events)
+        };
+        assert!(made(&bytes) == made(&without_classes(&bytes)), "seed {seed}: another list");
     }
 }
 

@@ -1,9 +1,11 @@
 //! The proved tree functions against the simulator, over the C interface, on random and damaged trees. A failure names its
 //! seed. On bytes that are no tree the functions still have an answer, which a plain walk gives here.
 
-mod library;
+#[path = "library/classes.rs"]
+mod classes;
 #[path = "library/guarded.rs"]
 mod guarded;
+mod library;
 
 use frame_tests::random::{damaged_tree, tree, tree_of_kinds, Rng};
 use frame_tests::tree::{Kind, Tree};
@@ -46,6 +48,7 @@ fn running(tree: &Tree, policy: u8, step: usize) -> FrameRunning {
 fn same_step(bytes: &[u8], tree: &Tree, step: usize, seed: u64) {
     let first_of = |task: usize| tree.tasks()[task].steps[0];
     assert_eq!(library::kind(bytes, step), bytes[8 * step], "seed {seed}, step {step}");
+    assert_eq!(library::class(bytes, step), tree.class(step), "seed {seed}, step {step}");
     assert_eq!(library::weight(bytes, step), tree.weight(step), "seed {seed}, step {step}");
     if let Some(child) = tree.child_opened_by(step) {
         assert_eq!(library::cont(bytes, step), tree.step_after(child), "seed {seed}, step {step}");
@@ -164,13 +167,17 @@ impl Walk {
     }
 }
 
-/// Bytes that are often no tree: any kinds, any length.
+/// Bytes that are often no tree: any kinds, any classes, any length.
 fn any_bytes(rng: &mut Rng) -> Vec<u8> {
     let mut bytes = Vec::new();
     let ends = rng.between(10, 90);
+    // Byte 1 is 0, or a class, or any byte; bytes 2 and 3 are mostly 0.
+    let most = rng.pick(&[0, 15, 255]);
     for _ in 0..rng.below(40) {
         let kind = if rng.percent(ends) { 3 } else { rng.pick(&[1, 2, 1, 2, 0, 7]) };
-        bytes.extend_from_slice(&[kind, 0, 0, 0, rng.below(256) as u8, 1, 2, 3]);
+        let class = rng.between(0, most) as u8;
+        let [two, three] = [(); 2].map(|()| if rng.percent(1) { rng.next() as u8 } else { 0 });
+        bytes.extend_from_slice(&[kind, class, two, three, rng.below(256) as u8, 1, 2, 3]);
     }
     for _ in 0..rng.below(8) {
         bytes.push(rng.pick(&[0, 1, 2, 3, 255]));
@@ -189,9 +196,11 @@ fn any_bytes_and_any_step() {
         let walk = Walk::new(bytes);
         let n = bytes.len() / 8;
         for step in [rng.below(n + 1), n, n + 1, usize::MAX / 8, usize::MAX / 8 + 1, usize::MAX - 1, usize::MAX] {
+            let class = if step < n { bytes[8 * step + 1] } else { 0 };
             let weight = if step < n { u32::from_le_bytes(bytes[8 * step + 4..8 * step + 8].try_into().unwrap()) } else { 0 };
             let (first, ordinal) = walk.task(step);
             assert_eq!(library::kind(bytes, step), walk.kind(step), "seed {seed}, step {step}");
+            assert_eq!(library::class(bytes, step), class, "seed {seed}, step {step}");
             assert_eq!(library::weight(bytes, step), weight, "seed {seed}, step {step}");
             assert_eq!(library::cont(bytes, step), walk.cont(step), "seed {seed}, step {step}");
             assert_eq!(library::task(bytes, step), FrameTask { first, ordinal }, "seed {seed}, step {step}");
@@ -221,4 +230,44 @@ fn limits() {
     kinds.extend([3, 3]);
     assert_eq!(library::tree(&tree_of_kinds(&kinds)), FrameTree { number: 2, position: 0, steps: 0 });
     assert_eq!(library::tree(&[]), FrameTree { number: 2, position: 0, steps: 0 });
+}
+
+/// Byte 1 is a class from 0 to 15, bytes 2 and 3 are 0; else the tree is refused with 3. Each step's class is asked for all the
+/// same, and all that is not the class stays as it was.
+#[test]
+fn every_class_byte() {
+    for seed in 0..40 {
+        let mut rng = Rng::new(seed);
+        let tasks = rng.below(20);
+        let plain = tree(&mut rng, tasks);
+        for (bytes, (number, position)) in classes::every_byte(&mut rng, &plain) {
+            let steps = bytes.len() / 8;
+            let want = FrameTree { number, position, steps: if number == 0 { steps } else { 0 } };
+            assert_eq!(library::tree(&bytes), want, "seed {seed}");
+            same_acceptance(&bytes, seed);
+            for step in 0..steps + 2 {
+                let class = if step < steps { bytes[8 * step + 1] } else { 0 };
+                assert_eq!(library::class(&bytes, step), class, "seed {seed}, step {step}");
+                let others = |tree: &[u8]| {
+                    let of_record = (library::kind(tree, step), library::weight(tree, step), library::cont(tree, step));
+                    let running = [1, 2].map(|policy| library::running(tree, policy, step));
+                    (of_record, library::task(tree, step), library::finish_before(tree, step), running)
+                };
+                assert_eq!(others(&bytes), others(&plain), "seed {seed}, step {step}");
+            }
+        }
+    }
+}
+
+#[test]
+fn worked_cases_of_the_classes() {
+    let classes: Vec<u8> = (0..9).map(|step| library::class(&classes::C, step)).collect();
+    assert_eq!(classes, [0, 1, 2, 0, 15, 1, 2, 0, 0]);
+    assert_eq!(library::class(&[3, 16, 0, 0, 1, 0, 0, 0], 0), 16);
+    // Of a record that is not whole nothing is read.
+    assert_eq!(library::class(&[3, 16, 0, 0, 1, 0, 0], 0), 0);
+    for (tree, (number, position)) in classes::trees() {
+        let steps = if number == 0 { tree.len() / 8 } else { 0 };
+        assert_eq!(library::tree(&tree), FrameTree { number, position, steps }, "{tree:?}");
+    }
 }

@@ -1,15 +1,16 @@
 //! Each misreading named in document 01, and those that a run's own worker
-//! count and the schedule maker invite, each with a case it would fail.
+//! count, the schedule maker and the classes invite, each with a case it would
+//! fail.
 
 #[path = "library/schedules.rs"]
 mod schedules;
 
-use frame_tests::random::tree_of_kinds;
+use frame_tests::random::{tree_of_kinds, tree_record};
 use frame_tests::record::record_to_vecs;
 use frame_tests::replay::replay_to_vecs;
 use frame_tests::run::Run;
 use frame_tests::schedule::{schedule, schedule_to_vec};
-use frame_tests::tree::Refusal;
+use frame_tests::tree::{Refusal, Tree};
 
 fn s() -> Vec<u8> {
     tree_of_kinds(&[1, 3, 2, 1, 3, 3, 3])
@@ -474,5 +475,78 @@ fn count_and_room_of_a_schedule() {
     // One worker makes a list of 14 bytes.
     for (room, number) in [(14, 7), (19, 7), (20, 0)] {
         assert_eq!(schedule(1, 1, &s(), 0, &mut vec![0; room]).number, number);
+    }
+}
+
+/// A tree of these kinds, classes and weights.
+fn tree_of(steps: &[(u8, u8, u32)]) -> Vec<u8> {
+    let record = |&(kind, class, weight): &(u8, u8, u32)| {
+        let mut bytes = tree_record(kind, weight);
+        bytes[1] = class;
+        bytes
+    };
+    steps.iter().flat_map(record).collect()
+}
+
+/// Sixteen loads, all 0 but these.
+fn loads_of(some: &[(usize, u64)]) -> [u64; 16] {
+    let mut loads = [0; 16];
+    some.iter().for_each(|&(class, load)| loads[class] = load);
+    loads
+}
+
+/// The class is the whole byte: 16 is none, and not class 0 again.
+#[test]
+fn class_is_the_whole_byte() {
+    for (class, refused) in [(0, false), (15, false), (16, true), (31, true), (240, true)] {
+        let tree = tree_of(&[(1, 0, 1), (3, class, 1), (3, 0, 1)]);
+        let want = if refused { Some(Refusal::new(3, 1)) } else { None };
+        assert_eq!(Tree::parse(&tree).err(), want, "{}", class);
+    }
+}
+
+/// A step has the class of its own record, not that of its task's first step
+/// or of the record that opened the task.
+#[test]
+fn class_is_the_steps_own() {
+    let tree = tree_of(&[(1, 5, 1), (2, 0, 2), (3, 7, 4), (3, 15, 8), (3, 9, 16)]);
+    let want = loads_of(&[(5, 1), (0, 2), (7, 4), (15, 8), (9, 16)]);
+    for policy in [1, 2] {
+        assert_eq!(replay_to_vecs(policy, 16, &tree, &[]).0.class_loads, want);
+        assert_eq!(record_to_vecs(policy, 16, &tree, &[]).0.class_loads, want);
+    }
+}
+
+/// A class is no worker: its load is that of all workers, and there are
+/// sixteen however few workers the run has.
+#[test]
+fn classes_are_not_workers() {
+    // Worker 1 has step 2 and class 1 step 1.
+    let tree = tree_of(&[(1, 3, 1), (3, 1, 2), (3, 3, 4)]);
+    for workers in 2..=16 {
+        let (answer, _, _) = record_to_vecs(1, workers, &tree, &[0, 0, 1, 0]);
+        assert_eq!(answer.loads, loads_of(&[(0, 3), (1, 4)]));
+        assert_eq!(answer.class_loads, loads_of(&[(3, 5), (1, 2)]));
+        // The heaviest worker, not the heaviest class.
+        assert_eq!(answer.heaviest, 1);
+    }
+    let (answer, _, _) = record_to_vecs(1, 1, &tree, &[]);
+    assert_eq!((answer.loads, answer.heaviest), (loads_of(&[(0, 7)]), 0));
+    assert_eq!(answer.class_loads, loads_of(&[(3, 5), (1, 2)]));
+}
+
+/// As for workers, the covered steps count, run or not, and their weights and
+/// not how many they are.
+#[test]
+fn class_loads_are_weights_of_covered_steps() {
+    let most = u32::MAX;
+    let tree = tree_of(&[(1, 2, 0), (3, 2, most), (1, 2, most), (3, 4, 0), (3, 0, 6)]);
+    let want = loads_of(&[(2, 2 * u64::from(most)), (0, 6)]);
+    // The run goes on to its end; a second worker takes what follows a child.
+    let events = [0, 0, 1, 0, 1, 1, 0, 0, 0, 1, 0, 0, 1, 1];
+    for count in 0..=7 {
+        let (answer, _, _) = record_to_vecs(1, 2, &tree, &events[..2 * count]);
+        assert_eq!((answer.number, answer.finished), (0, count == 7), "{} events", count);
+        assert_eq!(answer.class_loads, want, "{} events", count);
     }
 }

@@ -1,6 +1,9 @@
 //! The output of program `phases`: the proved program and the simulator's, on the stored examples of the folder
 //! `examples/phases/` and on random bytes. A failure names its seed.
 
+#[path = "library/classes.rs"]
+mod classes;
+
 use std::collections::BTreeSet;
 use std::fs::{self, File};
 use std::io::{ErrorKind, Seek, Write};
@@ -18,7 +21,7 @@ use frame_tests::random::{
     SHAPES,
 };
 use frame_tests::replay::MAX_TRACE;
-use frame_tests::tree::MAX_OPEN;
+use frame_tests::tree::{CLASSES, MAX_OPEN};
 use frame_tests::{Policy, Tree};
 
 // ---- Running a program ----
@@ -258,6 +261,28 @@ fn count_splits_tree_and_trace() {
     for n in 0..7 {
         let text = if n == 0 { "refused 2 0\n".to_string() } else { format!("refused 5 {n}\n") };
         print_this(&input(1, n, &s(), &P1_TRACE), text.as_bytes(), &format!("n = {n}"));
+    }
+}
+
+/// A class is accepted and not printed.
+#[test]
+fn classes_are_not_printed() {
+    print_this(&input(1, 7, &classes::C, &P1_TRACE), EXAMPLE.as_bytes(), "tree C");
+    for (position, class) in (0..7).zip([16, 17, 31, 32, 128, 254, 255]) {
+        let mut tree = classes::C;
+        tree[8 * position + 1] = class;
+        let text = format!("refused 3 {position}\n");
+        print_this(&input(1, 7, &tree, &P1_TRACE), text.as_bytes(), &format!("class {class} at {position}"));
+    }
+    for class in 0..=255 {
+        let mut tree = s();
+        tree[8 * 4 + 1] = class;
+        let text = if class < 16 { EXAMPLE } else { "refused 3 4\n" };
+        print_this(&input(1, 7, &tree, &P1_TRACE), text.as_bytes(), &format!("class {class}"));
+    }
+    for (tree, (number, position)) in classes::trees().into_iter().filter(|(_, refusal)| refusal.0 != 0) {
+        let text = format!("refused {number} {position}\n");
+        print_this(&input(2, (tree.len() / 8) as u16, &tree, &[]), text.as_bytes(), &format!("{tree:?}"));
     }
 }
 
@@ -532,11 +557,12 @@ fn noise(rng: &mut Rng) -> Vec<u8> {
     if length > 2 && rng.percent(80) {
         bytes[..3].copy_from_slice(&[rng.between(1, 2) as u8, rng.below(8) as u8, 0]);
     }
-    // Kinds where a tree would have them.
+    // Kinds and classes where a tree would have them.
     if rng.percent(60) {
         for record in bytes.iter_mut().skip(3).collect::<Vec<_>>().chunks_mut(8) {
             *record[0] = *record[0] % 3 + 1;
-            record.iter_mut().skip(1).take(3).for_each(|byte| **byte = 0);
+            record.iter_mut().skip(1).take(1).for_each(|class| **class %= CLASSES as u8);
+            record.iter_mut().skip(2).take(2).for_each(|byte| **byte = 0);
         }
     }
     bytes

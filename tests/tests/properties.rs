@@ -1,11 +1,12 @@
 //! Properties over random and over all small trees and schedules.
 
-use std::collections::HashSet;
+use std::collections::{HashMap, HashSet};
 
-use frame_tests::cover::{loads, Phase};
-use frame_tests::random::{self, Plan, Rng, Shape, Weights, SHAPES};
-use frame_tests::record::{record, record_to_vecs, MAX_EVENTS};
-use frame_tests::replay::{replay_to_vecs, Replay};
+use frame_tests::cover::{class_loads, covered_steps, loads, Phase};
+use frame_tests::phases::phases;
+use frame_tests::random::{self, Classes, Plan, Rng, Shape, Weights, SHAPES};
+use frame_tests::record::{record, record_to_vecs, RecordAnswer, MAX_EVENTS};
+use frame_tests::replay::{replay, replay_to_vecs, Replay, ReplayAnswer};
 use frame_tests::run::{Policy, Run};
 use frame_tests::schedule::{most_events, schedule, schedule_to_vec, Maker, ScheduleAnswer};
 use frame_tests::tree::{Kind, Tree};
@@ -31,6 +32,15 @@ fn for_seeds(seeds: std::ops::Range<u64>, mut check: impl FnMut(u64)) {
 
 fn policy_of(byte: u8) -> Policy {
     Policy::parse(byte).unwrap()
+}
+
+/// A tree's own weights by class, whoever runs the steps.
+fn by_class(tree: &[u8]) -> [u64; 16] {
+    let mut sums = [0; 16];
+    for r in tree.chunks(8) {
+        sums[usize::from(r[1])] += u64::from(u32::from_le_bytes([r[4], r[5], r[6], r[7]]));
+    }
+    sums
 }
 
 /// The live run of these accepted events against the replay of its trace.
@@ -75,6 +85,8 @@ fn same_phases(policy: u8, tree: &[u8], run: &Run, events: &[u8]) {
     // The same loads, and they are those of the replayed steps.
     assert_eq!(recorded.loads, replayed.loads);
     assert_eq!(recorded.heaviest, replayed.heaviest);
+    assert_eq!(recorded.class_loads, replayed.class_loads);
+    assert_eq!(recorded.class_loads, by_class(tree));
     let mut sums = [0u64; 16];
     for (k, steps) in phases.iter().enumerate() {
         for &step in steps {
@@ -249,6 +261,7 @@ fn check_trace(policy: u8, workers: u8, tree: &[u8], trace: &[u8]) -> u32 {
     all.sort_unstable();
     assert_eq!(all, (0..parsed.count()).collect::<Vec<_>>());
     assert_eq!(answer.loads.iter().sum::<u64>(), parsed.total_weight());
+    assert_eq!(answer.class_loads, by_class(tree));
 
     let mut replay = Replay::new(policy_of(policy), workers.into(), parsed);
     for r in trace.chunks(4) {
@@ -441,6 +454,7 @@ fn tree_answers() {
         let mut deepest = 0;
         for step in 0..n {
             assert_eq!(tree.kind(step) as u8 + 1, bytes[8 * step]);
+            assert_eq!(tree.class(step), bytes[8 * step + 1]);
             // The end of the child that a record opens: opens and ends even out.
             if tree.kind(step) != Kind::End {
                 let mut open = 1;
@@ -479,7 +493,9 @@ fn tree_answers() {
             deepest = deepest.max(depth);
         }
         assert!(deepest <= 64);
-        assert_eq!(loads(&tree, &[Phase::new(7, 0)])[7], tree.total_weight());
+        let covered = covered_steps(&tree, &[Phase::new(7, 0)]);
+        assert_eq!(loads(&tree, &covered)[7], tree.total_weight());
+        assert_eq!(class_loads(&tree, &covered), by_class(&bytes));
     });
 }
 
@@ -500,11 +516,44 @@ fn deep_trees_are_deep() {
     assert_eq!((open, deepest), (0, 64));
 }
 
+/// Every choice of classes is met, and every class.
+#[test]
+fn classes_of_random_trees() {
+    let mut seen = [0; 16];
+    let (mut zero, mut one, mut rows, mut many) = (0, 0, 0, 0);
+    for_seeds(85_000..86_000, |seed| {
+        let bytes = random::tree(&mut Rng::new(seed), 50);
+        let classes: Vec<u8> = bytes.chunks(8).map(|r| r[1]).collect();
+        classes.iter().for_each(|&class| seen[usize::from(class)] += 1);
+        match classes.windows(2).filter(|pair| pair[0] != pair[1]).count() {
+            0 if classes[0] == 0 => zero += 1,
+            0 => one += 1,
+            1..=40 => rows += 1,
+            _ => many += 1,
+        }
+    });
+    assert!([zero, one, rows, many].iter().all(|&times| times > 150), "{zero} {one} {rows} {many}");
+    assert!(seen.iter().all(|&times| times > 2_000), "{:?}", seen);
+}
+
+/// What makes this record one that is refused with 3.
+fn reasons_for_3(record: &[u8]) -> Vec<&'static str> {
+    let reasons = [
+        ("kind", !(1..=3).contains(&record[0])),
+        ("class", record[1] > 15),
+        ("byte 2", record[2] != 0),
+        ("byte 3", record[3] != 0),
+    ];
+    reasons.into_iter().filter(|reason| reason.1).map(|reason| reason.0).collect()
+}
+
 /// A damaged tree is refused by its first bad record; what stands behind it
 /// does not matter.
 #[test]
 fn damaged_trees() {
     let mut seen = HashSet::new();
+    // Refused with 3 for one reason alone.
+    let mut alone = HashMap::new();
     for_seeds(90_000..94_000, |seed| {
         let mut rng = Rng::new(seed);
         let tasks = rng.between(0, 40);
@@ -520,6 +569,13 @@ fn damaged_trees() {
             Err(refusal) => refusal,
         };
         seen.insert(refusal.number);
+        if refusal.number == 3 {
+            let reasons = reasons_for_3(&bytes[8 * refusal.position..][..8]);
+            assert!(!reasons.is_empty());
+            if let [reason] = reasons[..] {
+                *alone.entry(reason).or_insert(0) += 1;
+            }
+        }
         match refusal.number {
             2 => assert!(n == 0 || bytes.len() % 8 != 0 || n > 4_095),
             5 if refusal.position == n => {
@@ -551,6 +607,7 @@ fn damaged_trees() {
     for number in [0, 2, 3, 4, 5] {
         assert!(seen.contains(&number), "{}", number);
     }
+    assert!(alone.len() == 4 && alone.values().all(|&times| times > 60), "{:?}", alone);
 }
 
 /// The event maker reaches every refusal of the event walk.
@@ -782,4 +839,113 @@ fn rooms_for_schedules() {
             }
         }
     });
+}
+
+/// A tree, sometimes a damaged one, with a policy and a count that are mostly
+/// good, and events and a trace for them that are good or bad.
+fn any_call(rng: &mut Rng) -> (u8, u8, Vec<u8>, Vec<u8>, Vec<u8>) {
+    let tasks = rng.between(0, 25);
+    let damaged = rng.percent(20);
+    let tree =
+        if damaged { random::damaged_tree(rng, tasks) } else { random::tree(rng, tasks) };
+    let policy = rng.pick(&[1, 1, 1, 1, 2, 2, 2, 2, 0, 3]);
+    let workers = random::any_count(rng);
+    let (Ok(read), Ok(parsed)) = (Policy::parse(policy), Tree::parse(&tree)) else {
+        return (policy, workers, tree, vec![0, 0], vec![]);
+    };
+    let count = random::nearest_count(workers);
+    let events = random::events_to_record(rng, read, count, &parsed);
+    let trace = random::trace_to_replay(rng, read, count, &parsed);
+    (policy, workers, tree, events, trace)
+}
+
+/// In every call the loads of the workers and those of the classes have one
+/// sum: the weight of the tree or, where it is refused, 0.
+#[test]
+fn class_loads_add_up_to_worker_loads() {
+    let mut seen = HashSet::new();
+    for_seeds(130_000..136_000, |seed| {
+        let mut rng = Rng::new(seed);
+        let (policy, workers, tree, events, trace) = any_call(&mut rng);
+        let sums = |number: u32, loads: [u64; 16], class_loads: [u64; 16]| {
+            let want = if number == 0 { Tree::parse(&tree).unwrap().total_weight() } else { 0 };
+            assert_eq!(loads.iter().sum::<u64>(), want);
+            assert_eq!(class_loads.iter().sum::<u64>(), want);
+        };
+        // A byte less than is asked for, now and then.
+        let room = tree.len() / 2 - usize::from(rng.percent(5) && tree.len() > 1);
+        let (mut log, mut list) = (vec![0; room], vec![0; room]);
+        let mut written = vec![0; tree.len() / 4];
+        let recorded = record(policy, workers, &tree, &events, &mut log, &mut written);
+        sums(recorded.number, recorded.loads, recorded.class_loads);
+        let replayed = replay(policy, workers, &tree, &trace, &mut list);
+        sums(replayed.number, replayed.loads, replayed.class_loads);
+        seen.extend([recorded.number, replayed.number]);
+    });
+    assert_eq!(seen.len(), 17, "{:?}", seen);
+}
+
+/// Replay's class loads are the tree's own weights by class, whatever the
+/// trace, and so are record's, whatever the events.
+#[test]
+fn class_loads_are_the_trees_own() {
+    for_seeds(140_000..141_000, |seed| {
+        let mut rng = Rng::new(seed);
+        let tasks = rng.between(0, 40);
+        let mut tree = random::tree(&mut rng, tasks);
+        random::set_classes(&mut rng, &mut tree, Classes::Any);
+        let parsed = Tree::parse(&tree).unwrap();
+        for policy in [1, 2] {
+            for _ in 0..5 {
+                let workers = rng.between(1, 16);
+                let plan = random::Steals::any(&mut rng, workers);
+                let trace = random::accepted_trace(&mut rng, policy_of(policy), &parsed, &plan);
+                let (answer, _) = replay_to_vecs(policy, workers as u8, &tree, &trace);
+                assert_eq!((answer.number, answer.class_loads), (0, by_class(&tree)));
+                let plan = Plan { events: rng.below(80), ..Plan::any(&mut rng, workers) };
+                let events = random::events(&mut rng, policy_of(policy), workers, &parsed, &plan);
+                let (answer, _, _) = record_to_vecs(policy, workers as u8, &tree, &events);
+                assert_eq!((answer.number, answer.class_loads), (0, by_class(&tree)));
+            }
+        }
+    });
+}
+
+/// Without its classes a tree gives the same answers and bytes, but that
+/// class 0 has all the load.
+#[test]
+fn classes_change_nothing_else() {
+    let mut changed = 0;
+    for_seeds(150_000..156_000, |seed| {
+        let mut rng = Rng::new(seed);
+        let (policy, workers, tree, events, trace) = any_call(&mut rng);
+        // A class above 15 would be repaired.
+        if tree.chunks_exact(8).any(|record| record[1] > 15) {
+            return;
+        }
+        let old = random::without_classes(&tree);
+        let all_in_0 = |loads: [u64; 16]| {
+            let mut class_loads = [0; 16];
+            class_loads[0] = loads.iter().sum();
+            class_loads
+        };
+        let (with, log, steals) = record_to_vecs(policy, workers, &tree, &events);
+        let class_loads = all_in_0(with.loads);
+        changed += usize::from(with.class_loads != class_loads);
+        let want = (RecordAnswer { class_loads, ..with }, log, steals);
+        assert_eq!(record_to_vecs(policy, workers, &old, &events), want);
+
+        let (with, steps) = replay_to_vecs(policy, workers, &tree, &trace);
+        let want = ReplayAnswer { class_loads: all_in_0(with.loads), ..with };
+        assert_eq!(replay_to_vecs(policy, workers, &old, &trace), (want, steps));
+
+        let seed = random::any_seed(&mut rng);
+        let made = schedule_to_vec(policy, workers, &tree, seed);
+        assert_eq!(schedule_to_vec(policy, workers, &old, seed), made);
+
+        let count = ((tree.len() / 8) as u16).to_le_bytes();
+        let input = |tree: &[u8]| [&[policy], &count[..], tree, &trace].concat();
+        assert_eq!(phases(&input(&old)), phases(&input(&tree)));
+    });
+    assert!(changed > 1_000, "{} calls", changed);
 }

@@ -195,16 +195,47 @@ fn refusal_3() {
         tree[8 * 4] = kind;
         assert_eq!(tree_refusal(&tree), (3, 4));
     }
-    for at in 1..=3 {
-        let mut tree = s();
-        tree[8 * 6 + at] = 1;
-        assert_eq!(tree_refusal(&tree), (3, 6));
+    for (at, lowest) in [(1, 16), (2, 1), (3, 1)] {
+        for value in [lowest, 255] {
+            let mut tree = s();
+            tree[8 * 6 + at] = value;
+            assert_eq!(tree_refusal(&tree), (3, 6));
+        }
     }
     // The first bad record is named.
     let mut tree = s();
     tree[8 * 5] = 0;
     tree[8 * 2 + 3] = 255;
     assert_eq!(tree_refusal(&tree), (3, 2));
+    tree[8 + 1] = 16;
+    assert_eq!(tree_refusal(&tree), (3, 1));
+}
+
+/// Each value of bytes 1 to 3 in each record: byte 1 is a class up to 15, the
+/// others are 0.
+#[test]
+fn refusal_3_by_every_byte() {
+    for position in 0..7 {
+        for (at, highest) in [(1, 15), (2, 0), (3, 0)] {
+            for value in 0..=255 {
+                let mut tree = s();
+                tree[8 * position + at] = value;
+                let wanted = if value <= highest { (0, 0) } else { (3, position) };
+                assert_eq!(tree_refusal(&tree), wanted, "byte {} of {}: {}", at, position, value);
+            }
+        }
+    }
+    // All classes in one tree, and a class does not make another byte good.
+    let mut tree = flat(17);
+    for class in 0..16 {
+        tree[8 * class + 1] = class as u8;
+    }
+    assert_eq!(tree_refusal(&tree), (0, 0));
+    for (at, value) in [(0, 0), (0, 4), (2, 1), (3, 1)] {
+        let mut tree = tree.clone();
+        tree[8 * 9 + at] = value;
+        assert_eq!(tree_refusal(&tree), (3, 9));
+    }
 }
 
 /// Opens so many children one in another, then ends them and the root.
@@ -252,18 +283,35 @@ fn tree_walk_order() {
     let mut tree = chain(64, 1);
     tree[8 * 63 + 2] = 1;
     assert_eq!(tree_refusal(&tree), (3, 63));
+    let mut tree = chain(64, 2);
+    tree[8 * 63 + 1] = 16;
+    assert_eq!(tree_refusal(&tree), (3, 63));
+    // A class of 15 is no 3, so it is 4.
+    tree[8 * 63 + 1] = 15;
+    assert_eq!(tree_refusal(&tree), (4, 63));
     // 4 earlier, 3 later: 4.
     let mut tree = chain(64, 1);
     tree[8 * 64] = 9;
+    assert_eq!(tree_refusal(&tree), (4, 63));
+    let mut tree = chain(64, 1);
+    tree[8 * 64 + 1] = 16;
     assert_eq!(tree_refusal(&tree), (4, 63));
     // 3 earlier, 4 later: 3.
     let mut tree = chain(64, 1);
     tree[8 * 62] = 9;
     assert_eq!(tree_refusal(&tree), (3, 62));
+    let mut tree = chain(64, 1);
+    tree[8 * 62 + 1] = 16;
+    assert_eq!(tree_refusal(&tree), (3, 62));
     // 5 earlier, 3 later: 5.
     assert_eq!(tree_refusal(&tree_of_kinds(&[3, 3, 7])), (5, 1));
     // 3 and 5 in one record: 3.
     assert_eq!(tree_refusal(&tree_of_kinds(&[3, 7, 3])), (3, 1));
+    let mut tree = tree_of_kinds(&[3, 3]);
+    tree[8 + 1] = 16;
+    assert_eq!(tree_refusal(&tree), (3, 1));
+    tree[8 + 1] = 3;
+    assert_eq!(tree_refusal(&tree), (5, 1));
     // 3 in the last record, and the root would still be open: 3.
     assert_eq!(tree_refusal(&tree_of_kinds(&[1, 0])), (3, 1));
     // 4, and the root would still be open: 4.

@@ -8,6 +8,7 @@
 --     Replayed   replaying the trace of a run
 --     Whole      recording the live run and replaying its trace
 --     Counted    what the worker count decides
+--     Classed    what a class decides, and what it does not
 pub mod Folds
 pub mod Live
 pub mod Records
@@ -17,3 +18,4 @@ pub mod Recorded
 pub mod Replayed
 pub mod Whole
 pub mod Counted
+pub mod Classed

@@ -46,12 +46,20 @@ flatRecord a =
       finished = cond (a .finished) 1 0;
       loads = a .loads;
       heaviest = a .heaviest;
+      «class_loads» = a .classes;
     }
 
 -- A replay's answer.
 abbrev pub flatReplay : Replayed → FrameReplay
 flatReplay a =
-    record { number = a .number; position = a .position; phases = a .phases; loads = a .loads; heaviest = a .heaviest }
+    record {
+      number = a .number;
+      position = a .position;
+      phases = a .phases;
+      loads = a .loads;
+      heaviest = a .heaviest;
+      «class_loads» = a .classes;
+    }
 
 -- A schedule's answer.
 abbrev pub flatSchedule : Scheduled → FrameSchedule

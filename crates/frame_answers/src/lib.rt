@@ -13,6 +13,7 @@ use run_state::Idle;
 use run_state::RunState;
 use run_state::Started;
 use schedule::Scheduled;
+use tree::CLASSES;
 
 // A start's refusal and position, or the first state. The state beside a refusal is all 0.
 #[repr(C)]
@@ -117,7 +118,7 @@ pub fn flat_idle(idle: Idle) -> FrameIdle
 }
 
 // A recording's refusal and position, or the counts of log and trace records, whether every step has run (1 or 0), each
-// worker's load and the heaviest worker. What is not answered is 0.
+// worker's load, the heaviest worker and each class's load. What is not answered is 0.
 #[repr(C)]
 pub struct FrameRecord {
     pub number: usize,
@@ -127,6 +128,7 @@ pub struct FrameRecord {
     pub finished: usize,
     pub loads: [u64; WORKERS],
     pub heaviest: usize,
+    pub class_loads: [u64; CLASSES],
 }
 
 // A recording's answer for C.
@@ -134,6 +136,7 @@ pub fn flat_record(recorded: Recorded) -> FrameRecord
     ensures { λ r. ⌜ r ≡ flatRecord recorded ⌝ }
 {
     let loads = recorded.loads;
+    let class_loads = recorded.classes;
     FrameRecord {
         number: recorded.number as usize,
         position: recorded.position,
@@ -142,11 +145,12 @@ pub fn flat_record(recorded: Recorded) -> FrameRecord
         finished: recorded.finished as usize,
         loads,
         heaviest: recorded.heaviest,
+        class_loads,
     }
 }
 
-// A replay's refusal and position, or the count of phases, each worker's load and the heaviest worker. What is not answered is
-// 0.
+// A replay's refusal and position, or the count of phases, each worker's load, the heaviest worker and each class's load. What is
+// not answered is 0.
 #[repr(C)]
 pub struct FrameReplay {
     pub number: usize,
@@ -154,6 +158,7 @@ pub struct FrameReplay {
     pub phases: usize,
     pub loads: [u64; WORKERS],
     pub heaviest: usize,
+    pub class_loads: [u64; CLASSES],
 }
 
 // A replay's answer for C.
@@ -161,12 +166,14 @@ pub fn flat_replay(replayed: Replayed) -> FrameReplay
     ensures { λ r. ⌜ r ≡ flatReplay replayed ⌝ }
 {
     let loads = replayed.loads;
+    let class_loads = replayed.classes;
     FrameReplay {
         number: replayed.number as usize,
         position: replayed.position,
         phases: replayed.phases,
         loads,
         heaviest: replayed.heaviest,
+        class_loads,
     }
 }
 

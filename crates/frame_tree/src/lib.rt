@@ -2,7 +2,7 @@
 // a length. Every function takes any bytes and any numbers.
 ghost use mathlib.Core.Path.{_≡_};
 ghost use lib.ListN.{getD};
-ghost use Rattle.rules.specs.Tree.{kinds, weights, kindAt, cont, finishBefore};
+ghost use Rattle.rules.specs.Tree.{kinds, classes, weights, kindAt, cont, finishBefore};
 ghost use Rattle.tree.specs.Contract.{acceptance};
 ghost use Rattle.policy.specs.Contract.{runningOf};
 ghost use Rattle.tree_scan.specs.Contract.{taskOf, childOf};
@@ -36,6 +36,14 @@ pub extern "C" fn frame_kind(tree: &[u8], step: usize) -> u8
     ensures { λ r. ⌜ r ≡ kindAt (kinds (now (tree .entry))) step ⌝ }
 {
     tree::kind(tree, Step(step))
+}
+
+// The class of a step, 0 for a step beyond the tree.
+#[no_mangle]
+pub extern "C" fn frame_class(tree: &[u8], step: usize) -> u8
+    ensures { λ r. ⌜ r ≡ getD (classes (now (tree .entry))) step 0 ⌝ }
+{
+    tree::class(tree, Step(step))
 }
 
 // The weight of a step, 0 for a step beyond the tree.

@@ -1,11 +1,15 @@
--- The weight that a steal moves, what it leaves in the loads, and the totals that a call answers.
+-- The weight that a steal moves, what it leaves in the loads, what is so of all loads together, and the totals that a call answers.
 use Prim.Native.Nat.{ℕ, _+_, _-_, _≤_, _<_}
+use mathlib.Core.Path.{_≡_}
 use mathlib.Core.Bool.{cond}
 use mathlib.Core.List.{List}
 use lib.ListN.{length, getD, set, replicate}
 use lib.Dec.{eqb}
-use Rattle.rules.specs.Scheduling.{mostWorkers}
-use Rattle.rules.specs.Traces.{heaviest}
+use Rattle.rules.specs.Bytes.{sum}
+use Rattle.rules.specs.Tree.{classCount}
+use Rattle.rules.specs.Scheduling.{mostWorkers, Phase}
+use Rattle.rules.specs.Traces.{phaseLoad, heaviest}
+use Rattle.tree_tables.specs.Terms.{weightBefore}
 use Rattle.loads.specs.declared.Totals.{Totals}
 
 -- By the tables of task ends and of sums, the weight from a step to the end of its task.
@@ -26,10 +30,14 @@ loadMoved loads thief victim weight =
     let less = set loads victim (getD loads victim 0 - weight) in
     set less thief (getD less thief 0 + weight)
 
--- The totals on what a walk comes to, its refusal or 0 and the loads: "A refused call returns the number and the position, all other
--- results 0."
-unfoldable pub totalsOf : ℕ → List ℕ → Totals
-totalsOf number ls =
-    let answer : Totals = record { loads = ls; heaviest = heaviest ls } in
-    let none : Totals = record { loads = replicate mostWorkers 0; heaviest = 0 } in
+-- Whatever the steps weigh, the loads of all phases are together the weight of the tree.
+abbrev pub Whole : List ℕ → List Phase → Type 0
+Whole ks phs = (ws : List ℕ) → sum (phaseLoad ks ws) phs ≡ weightBefore ws (length ks)
+
+-- The totals on what a walk comes to, its refusal or 0 and the loads of workers and classes: "A refused call returns the number and the
+-- position, all other results 0."
+unfoldable pub totalsOf : ℕ → List ℕ → List ℕ → Totals
+totalsOf number ls byClass =
+    let answer : Totals = record { loads = ls; heaviest = heaviest ls; classes = byClass } in
+    let none : Totals = record { loads = replicate mostWorkers 0; heaviest = 0; classes = replicate classCount 0 } in
     cond (eqb number 0) answer none

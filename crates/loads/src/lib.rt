@@ -1,6 +1,6 @@
 // The loads of the workers, in recording and in replay (document 01, "Trace, log, run list"): at a steal the weight from the stolen
 // step to the end of its task, with all that is spawned there, leaves the victim's load for the thief's; and the totals that a call
-// answers at its end, which are each worker's load and the heaviest worker.
+// answers at its end, which are each worker's load, the heaviest worker, and each class's load (document 02, #103).
 ghost use mathlib.Core.Path.{_≡_};
 ghost use Prim.Native.Nat.{_+_, _≤_, _<_};
 ghost use lib.ListN.{length, getD};
@@ -8,6 +8,7 @@ ghost use Rattle.rules.specs.Scheduling.{mostWorkers};
 ghost use Rattle.rules.specs.Traces.{heaviest as heaviestOf};
 ghost use Rattle.loads.specs.Terms.{loadMoved, weightBetween, Movable, totalsOf};
 use policy::WORKERS;
+use tree::CLASSES;
 use tree::Step;
 use tree_tables::wide;
 
@@ -63,21 +64,24 @@ fn heaviest(loads: &[u64; WORKERS]) -> usize
 pub struct Totals {
     pub loads: [u64; WORKERS],
     pub heaviest: usize,
+    pub classes: [u64; CLASSES],
 }
 
-// The totals on what a walk comes to, its refusal or 0 and the loads: all 0 beside a refusal.
-pub fn totals_of(number: u8, loads: [u64; WORKERS]) -> Totals
-    ensures { λ r. ⌜ r ≡ totalsOf number loads ⌝ }
+// The totals on what a walk comes to, its refusal or 0 and the loads of workers and classes: all 0 beside a refusal.
+pub fn totals_of(number: u8, loads: [u64; WORKERS], classes: [u64; CLASSES]) -> Totals
+    ensures { λ r. ⌜ r ≡ totalsOf number loads classes ⌝ }
 {
     if number != 0 {
         return Totals {
             loads: [0; WORKERS],
             heaviest: 0,
+            classes: [0; CLASSES],
         };
     }
     let most = heaviest(&loads);
     Totals {
         loads,
         heaviest: most,
+        classes,
     }
 }

@@ -13,4 +13,5 @@ answers c =
       finished = c .finished;
       loads = c .loads;
       heaviest = c .heaviest;
+      classes = c .classLoads;
     }

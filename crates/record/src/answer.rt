@@ -1,10 +1,11 @@
-// What a record call answers, by value (document 01, "Trace, log, run list" and "Refusals").
+// What a record call answers, by value (document 01, "Trace, log, run list" and "Refusals"; document 02, #103).
 ghost use mathlib.Core.Path.{_≡_};
 ghost use Rattle.record.specs.Answer.Terms.{refusal, answered};
 use policy::WORKERS;
+use tree::CLASSES;
 
-// Its refusal and position, or the counts of log and trace records, whether every step has run, each worker's load and the
-// heaviest worker.
+// Its refusal and position, or the counts of log and trace records, whether every step has run, each worker's load, the heaviest
+// worker and each class's load.
 pub struct Recorded {
     pub number: u8,
     pub position: usize,
@@ -13,9 +14,11 @@ pub struct Recorded {
     pub finished: bool,
     pub loads: [u64; WORKERS],
     pub heaviest: usize,
+    pub classes: [u64; CLASSES],
 }
 
-// The answer on events whose walk is refused, or has come to these counts and loads; `last` is the tree's last step.
+// The answer on events whose walk is refused, or has come to these counts and loads, of workers and of classes; `last` is the tree's
+// last step.
 pub fn answer(
     number: u8,
     position: usize,
@@ -23,11 +26,13 @@ pub fn answer(
     steals: usize,
     last: usize,
     loads: [u64; WORKERS],
+    classes: [u64; CLASSES],
 ) -> Recorded
-    ensures { λ r. ⌜ r ≡ answered number position logs steals last loads ⌝ }
+    ensures { λ r. ⌜ r ≡ answered number position logs steals last loads classes ⌝ }
 {
-    let totals = loads::totals_of(number, loads);
-    let each = totals.loads;
+    let totals = loads::totals_of(number, loads, classes);
+    let by_worker = totals.loads;
+    let by_class = totals.classes;
     if number != 0 {
         return Recorded {
             number,
@@ -35,8 +40,9 @@ pub fn answer(
             logs: 0,
             steals: 0,
             finished: false,
-            loads: each,
+            loads: by_worker,
             heaviest: totals.heaviest,
+            classes: by_class,
         };
     }
     Recorded {
@@ -45,8 +51,9 @@ pub fn answer(
         logs,
         steals,
         finished: last < logs,
-        loads: each,
+        loads: by_worker,
         heaviest: totals.heaviest,
+        classes: by_class,
     }
 }
 
@@ -55,5 +62,5 @@ pub fn refused(number: u8, position: usize) -> Recorded
     requires { ⌜ (number ≡ 0 → ⊥) ⌝ }
     ensures { λ r. ⌜ r ≡ refusal number position ⌝ }
 {
-    answer(number, position, 0, 0, 0, [0; WORKERS])
+    answer(number, position, 0, 0, 0, [0; WORKERS], [0; CLASSES])
 }

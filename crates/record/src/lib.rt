@@ -8,6 +8,7 @@ ghost use Rattle.rules.specs.Calls.{recordCall};
 ghost use Rattle.record.specs.Contract.{answers};
 use answer::Recorded;
 use policy::Setup;
+use tree::CLASSES;
 
 // Records a list of events: refusals 1 to 12 and 16, or the log and the trace at the front of the lent buffers.
 pub fn record(
@@ -34,7 +35,8 @@ pub fn record(
     if admitted.number != 0 {
         return answer::refused(admitted.number, admitted.position);
     }
-    let walked = body::run(tree, setup, events, log, trace);
+    let mut classes: [u64; CLASSES] = [0; CLASSES];
+    let walked = body::run(tree, setup, events, log, trace, &mut classes);
     let last = admitted.steps - 1;
     let loads = walked.loads;
     answer::answer(
@@ -44,5 +46,6 @@ pub fn record(
         walked.steals,
         last,
         loads,
+        classes,
     )
 }

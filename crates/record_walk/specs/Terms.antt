@@ -9,6 +9,7 @@ use Rattle.rules.specs.Scheduling.{mostWorkers, Run}
 use Rattle.rules.specs.Traces.{traceBytes, entryBytes, loads}
 use Rattle.rules.specs.Calls.{recordWalk}
 use Rattle.run_invariant.specs.Invariant.{Invariant}
+use Rattle.loads.specs.Terms.{Whole}
 use Rattle.record_walk.specs.declared.Ended.{Ended}
 
 -- The bytes stand at the front of an array.
@@ -21,6 +22,7 @@ pub record Reached (p : ℕ) (tree : List ℕ) (s : Run) (r : Ended) (log trace 
   pub logs : r .logs ≡ length (s .log)
   pub steals : r .steals ≡ length (s .steals)
   pub loaded : r .loads ≡ loads mostWorkers (kinds tree) (weights tree) (s .phases)
+  pub whole : Whole (kinds tree) (s .phases)
   pub logged : Front (entryBytes (s .log)) log
   pub traced : Front (traceBytes p (kinds tree) (s .steals)) trace
 

@@ -11,4 +11,5 @@ answers c =
       phases = c .phaseCount;
       loads = c .loads;
       heaviest = c .heaviest;
+      classes = c .classLoads;
     }

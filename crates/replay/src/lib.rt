@@ -8,6 +8,7 @@ ghost use Rattle.rules.specs.Calls.{replayCall};
 ghost use Rattle.replay.specs.Contract.{answers};
 use answer::Replayed;
 use policy::Setup;
+use tree::CLASSES;
 
 // Replays a trace: refusals 1 to 8 and 13 to 16, or the run list at the front of the lent buffer.
 pub fn replay(tree: &[u8], setup: Setup, trace: &[u8], list: &mut [u8]) -> Replayed
@@ -22,7 +23,14 @@ pub fn replay(tree: &[u8], setup: Setup, trace: &[u8], list: &mut [u8]) -> Repla
     if admitted.number != 0 {
         return answer::refused(admitted.number, admitted.position);
     }
-    let walked = body::run(tree, setup, trace, admitted.steps, list);
+    let mut classes: [u64; CLASSES] = [0; CLASSES];
+    let walked = body::run(tree, setup, trace, admitted.steps, list, &mut classes);
     let loads = walked.loads;
-    answer::answer(walked.number, walked.position, walked.phases, loads)
+    answer::answer(
+        walked.number,
+        walked.position,
+        walked.phases,
+        loads,
+        classes,
+    )
 }

@@ -1,15 +1,15 @@
 -- Document 01, "Refusals": what whole calls answer and write, from their arguments alone. `w` is the run's count of workers,
--- which is document 02's, #101; `p` the policy's byte. "A refused call returns the number and the position (0 where none is named),
--- all other results 0, and changes no buffer."
+-- which is document 02's, #101, as are the class loads, #103; `p` is the policy's byte. "A refused call returns the number and the
+-- position (0 where none is named), all other results 0, and changes no buffer."
 use Prim.Native.Nat.{ℕ, _-_, _*_}
 use mathlib.Core.Bool.{Bool, false, cond, _&&_, _||_, not}
 use mathlib.Core.List.{List, [], _∷_, _++_}
 use lib.ListN.{length, drop, replicate}
 use lib.Dec.{eqb, ltb, leb}
 use Rattle.rules.specs.Bytes.{records, wholeRecords, count, all, Verdict, accepted, refusedIf, firstRefused, Walked, walk}
-use Rattle.rules.specs.Tree.{kinds, weights, treeVerdict}
+use Rattle.rules.specs.Tree.{classCount, kinds, classes, weights, treeVerdict}
 use Rattle.rules.specs.Scheduling.{workFirst, helpFirst, mostWorkers, Phase, Run, start, hasRun, judgeEvent, nextRun}
-use Rattle.rules.specs.Traces.{traceBytes, entryBytes, replayWalk, runList, loads, heaviest}
+use Rattle.rules.specs.Traces.{traceBytes, entryBytes, replayWalk, runList, loads, heaviest, classLoads}
 
 abbrev pub mostEvents : ℕ
 mostEvents = 8192
@@ -73,6 +73,7 @@ pub record Recorded : Type 0 where
   pub finished : Bool
   pub loads : List ℕ
   pub heaviest : ℕ
+  pub classLoads : List ℕ
   pub log : List ℕ
   pub trace : List ℕ
 
@@ -108,6 +109,7 @@ recordOf p tree s log trace =
       finished = finished ks s;
       loads = ls;
       heaviest = heaviest ls;
+      classLoads = classLoads ks (classes tree) (weights tree) (s .phases);
       log = written (entryBytes (s .log)) log;
       trace = written (traceBytes p ks (s .steals)) trace;
     }
@@ -121,6 +123,7 @@ recordRefused refusal log trace =
       finished = false;
       loads = replicate mostWorkers 0;
       heaviest = 0;
+      classLoads = replicate classCount 0;
       log = log;
       trace = trace;
     }
@@ -139,6 +142,7 @@ pub record Replayed : Type 0 where
   pub phaseCount : ℕ
   pub loads : List ℕ
   pub heaviest : ℕ
+  pub classLoads : List ℕ
   pub list : List ℕ
 
 --     6  as for record, here the trace.
@@ -162,12 +166,14 @@ replayOf p tree phs list =
       phaseCount = length phs;
       loads = ls;
       heaviest = heaviest ls;
+      classLoads = classLoads ks (classes tree) (weights tree) phs;
       list = written (entryBytes (runList p ks phs)) list;
     }
 
 unfoldable pub replayRefused : Verdict → List ℕ → Replayed
 replayRefused refusal list =
-    record { verdict = refusal; phaseCount = 0; loads = replicate mostWorkers 0; heaviest = 0; list = list }
+    let none : List ℕ = replicate classCount 0 in
+    record { verdict = refusal; phaseCount = 0; loads = replicate mostWorkers 0; heaviest = 0; classLoads = none; list = list }
 
 unfoldable pub replayCall : ℕ → ℕ → List ℕ → List ℕ → List ℕ → Replayed
 replayCall w p tree trace list =

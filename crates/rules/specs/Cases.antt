@@ -9,10 +9,10 @@ use lib.ListN.{length, take, drop, replicate}
 use lib.Dec.{eqb}
 use Rattle.rules.specs.Bytes.{littleEndian, twoBytes, cut, records, wholeRecords, count, all, any, sum, Verdict, accepted}
 use Rattle.rules.specs.Bytes.{refusedIf, firstRefused, walk}
-use Rattle.rules.specs.Tree.{treeRecords, kind, isAsync, isFinish, isEnd, weight, kinds, weights, kindAt, root, innermost}
-use Rattle.rules.specs.Tree.{leave, enter, openTasks, taskAt, task, ordinal, openAfter, afterEnds, taskEnd, cont}
-use Rattle.rules.specs.Tree.{finishChild, finishBefore, wellFormed, judgeTreeRecord, nextOpen, treeWalk, wrongLength}
-use Rattle.rules.specs.Tree.{treeVerdict}
+use Rattle.rules.specs.Tree.{treeRecords, kind, isAsync, isFinish, isEnd, class, weight, kinds, classes, weights, kindAt}
+use Rattle.rules.specs.Tree.{root, innermost, leave, enter, openTasks, taskAt, task, ordinal, openAfter, afterEnds, taskEnd}
+use Rattle.rules.specs.Tree.{cont, finishChild, finishBefore, hasKind, wellFormed, judgeTreeRecord, nextOpen, treeWalk}
+use Rattle.rules.specs.Tree.{wrongLength, treeVerdict}
 use Rattle.rules.specs.Scheduling.{workFirst, helpFirst, mostWorkers, pushesChild, holds, pushes, pop, afterRun}
 use Rattle.rules.specs.Scheduling.{firstPhases, phaseAt, begin, Run, idleWorker, start, workerAt, hasRun, waits, isRun}
 use Rattle.rules.specs.Scheduling.{judgeRun, runStep, holdsStep, judgeSteal, oldest, steal, judgeEvent, nextRun, idleSet}
@@ -21,6 +21,7 @@ use Rattle.rules.specs.Traces.{traceNumber, traceBytes, entryBytes, from
 use Rattle.rules.specs.Traces.{childCount, taskStep, ordinalAllowed, startsAsync, followsFinish, serialAllowed}
 use Rattle.rules.specs.Traces.{numberAllowed, stolenStep, recordNumber, judgeRead, judgeTraceRecord, nextPhases, replayWalk}
 use Rattle.rules.specs.Traces.{runAlone, runningOrder, runList, phaseLoad, workerLoad, loads, largest, firstAt, heaviest}
+use Rattle.rules.specs.Traces.{ofClass, classLoad, classLoads}
 use Rattle.rules.specs.Calls.{policyVerdict, countVerdict, startVerdict, eventCall, written, Recorded, recordWalk}
 use Rattle.rules.specs.Calls.{recordVerdict, finished, recordOf, recordRefused, recordCall, Replayed, replayVerdict}
 use Rattle.rules.specs.Calls.{replayOf, replayRefused, replayCall}
@@ -63,16 +64,16 @@ idleAnswer ks s = idle (finished ks s) (idleSet (s .workers)) (idleCount (s .wor
 
 -- What a run of w workers answers. Whoever unfolds it unfolds all the rules.
 unfoldable pub answerWith : ℕ → Case → Answer
-unfolding idleAnswer replayAnswer recordAnswer stepsOf ifAccepted littleEndian twoBytes cut records wholeRecords count all any
-    sum accepted refusedIf firstRefused walk treeRecords kind isAsync isFinish isEnd weight kinds weights kindAt root
-    innermost leave enter openTasks taskAt task ordinal openAfter afterEnds taskEnd cont finishChild finishBefore wellFormed
-    judgeTreeRecord nextOpen treeWalk wrongLength treeVerdict pushesChild holds pushes pop afterRun firstPhases phaseAt begin
-    idleWorker start workerAt hasRun waits isRun judgeRun runStep holdsStep judgeSteal oldest steal judgeEvent nextRun idleSet
-    idleCount idleLowest traceNumber traceBytes entryBytes fromStep covers latestPhase lastStolen frontier childCount taskStep
-    ordinalAllowed startsAsync followsFinish serialAllowed numberAllowed stolenStep recordNumber judgeRead judgeTraceRecord
-    nextPhases replayWalk runAlone runningOrder runList phaseLoad workerLoad loads largest firstAt heaviest policyVerdict
-    countVerdict startVerdict eventCall written recordWalk recordVerdict finished recordOf recordRefused recordCall
-    replayVerdict replayOf replayRefused replayCall flatten zipWith
+unfolding idleAnswer replayAnswer recordAnswer stepsOf ifAccepted littleEndian twoBytes cut records wholeRecords count all
+    any sum accepted refusedIf firstRefused walk treeRecords kind isAsync isFinish isEnd class weight kinds classes weights
+    kindAt root innermost leave enter openTasks taskAt task ordinal openAfter afterEnds taskEnd cont finishChild finishBefore
+    hasKind wellFormed judgeTreeRecord nextOpen treeWalk wrongLength treeVerdict pushesChild holds pushes pop afterRun
+    firstPhases phaseAt begin idleWorker start workerAt hasRun waits isRun judgeRun runStep holdsStep judgeSteal oldest steal
+    judgeEvent nextRun idleSet idleCount idleLowest traceNumber traceBytes entryBytes fromStep covers latestPhase lastStolen
+    frontier childCount taskStep ordinalAllowed startsAsync followsFinish serialAllowed numberAllowed stolenStep recordNumber
+    judgeRead judgeTraceRecord nextPhases replayWalk runAlone runningOrder runList phaseLoad workerLoad loads largest firstAt
+    heaviest ofClass classLoad classLoads policyVerdict countVerdict startVerdict eventCall written recordWalk recordVerdict
+    finished recordOf recordRefused recordCall replayVerdict replayOf replayRefused replayCall flatten zipWith
 answerWith w (recording p tree events) =
     recordAnswer
     (recordCall w p tree events (replicate (4 * length (kinds tree)) 0) (replicate (2 * (length (kinds tree) - 1)) 0))

@@ -11,7 +11,7 @@ use Rattle.rules.specs.Scheduling.{workFirst, helpFirst, start}
 use Rattle.rules.specs.Calls.{startVerdict, eventCall, afterEvents, Recorded, recordCall, Replayed, replayCall}
 use Rattle.rules.specs.Cases.{Case, recording, replaying, idling, Answer, ran, phases, idle, refused, answerWith, bytes}
 use Rattle.rules.specs.Cases.{ofKinds, S, oneEnd, seven}
-use Rattle.rules.specs.NearMisses.{flat, allSteal, bad, sixteenLoads, notRecorded, saidOf}
+use Rattle.rules.specs.NearMisses.{flat, allSteal, bad, sixteenLoads, notRecorded, notReplayed, saidOf}
 
 -- ---- the count's own refusal
 
@@ -73,6 +73,7 @@ recorded-with-enough :
       finished = true;
       loads = sixteenLoads (3 ∷ 3 ∷ 1 ∷ []);
       heaviest = 0;
+      classLoads = sixteenLoads (7 ∷ []);
       log = bytes 29 0x0000_0000_0100_0200_0100_0300_0000_0100_0300_0500_0100_0400_0200_0600_07;
       trace = threeSteals ++ (9 ∷ []);
     })
@@ -87,6 +88,7 @@ replayed-with-enough :
       phaseCount = 4;
       loads = sixteenLoads (3 ∷ 3 ∷ 1 ∷ []);
       heaviest = 0;
+      classLoads = sixteenLoads (7 ∷ []);
       list = bytes 29 0x0000_0000_0000_0100_0100_0200_0100_0300_0100_0400_0200_0600_0300_0500_07;
     })
 unfolding answerWith bytes replayed threeSteals sixteenLoads ofKinds S flatten
@@ -100,9 +102,9 @@ recorded-with-others = refl
 
 replayed-with-others :
     map replayed (2 ∷ 1 ∷ 0 ∷ 17 ∷ 255 ∷ [])
-    ≡ map (λ v. record { verdict = v; phaseCount = 0; loads = sixteenLoads []; heaviest = 0; list = replicate 29 7 })
+    ≡ map (λ v. notReplayed v (replicate 29 7))
     (bad 8 1 ∷ bad 8 0 ∷ replicate 3 (bad 16 0))
-unfolding answerWith bytes replayed threeSteals sixteenLoads bad ofKinds S flatten
+unfolding answerWith bytes replayed threeSteals sixteenLoads notReplayed bad ofKinds S flatten
 replayed-with-others = refl
 
 -- Help-first, worker 0 alone: the steps 0 2 3 5 4 6 1.

@@ -11,6 +11,7 @@
 --     NearMisses   cases that tell the rules from near misses, a theorem for each table
 --     Counts       cases of the run's own count of workers
 --     MadeLists    cases of the schedule maker
+--     Classes      cases of the classes
 --     Listing      the worked example of program `phases`, and refusals and numbers that it prints
 pub mod Bytes
 pub mod Tree
@@ -23,4 +24,5 @@ pub mod Cases
 pub mod NearMisses
 pub mod Counts
 pub mod MadeLists
+pub mod Classes
 pub mod Listing

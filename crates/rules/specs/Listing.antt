@@ -7,16 +7,18 @@ use lib.ListN.{take}
 use Rattle.rules.specs.Program.{inputPolicy, inputCount, inputTree, inputTrace, digits, decimal, line, heading, phaseLines}
 use Rattle.rules.specs.Program.{refusedLine, phasesText, printed}
 use Rattle.rules.specs.Cases.{answer, bytes, ofKinds, S, oneEnd}
+use Rattle.rules.specs.Classes.{C}
 
 -- Policy and n in front of a tree and a trace.
 unfoldable fed : List ℕ → List ℕ → List ℕ → List ℕ
 fed head tree trace = head ++ (tree ++ trace)
 
--- "For 01 07 00, S and P1's trace". Then help-first, where worker 15 takes the only child; one record where n is 256; P8 and P12;
--- worker 16; an empty input, one that breaks off within the count, and S cut to five records.
+-- "For 01 07 00, S and P1's trace", and so for C, which has classes. Then help-first, where worker 15 takes the only child; one record
+-- where n is 256; P8 and P12; worker 16; an empty input, one that breaks off within the count, and S cut to five records.
 unfoldable inputs : List (List ℕ)
 inputs =
     fed (bytes 3 0x01_0700) S (bytes 12 0x0100_0100_0201_0200_0001_0100)
+    ∷ fed (bytes 3 0x01_0700) C (bytes 12 0x0100_0100_0201_0200_0001_0100)
     ∷ fed (bytes 3 0x02_0300) (ofKinds (1 ∷ 3 ∷ 3 ∷ [])) (bytes 4 0x0f00_0100)
     ∷ fed (bytes 3 0x01_0001) oneEnd []
     ∷ fed (bytes 3 0x01_0700) S (bytes 8 0x0100_0100_0201_0100)
@@ -27,16 +29,22 @@ inputs =
     ∷ fed (bytes 3 0x01_0500) (take 40 S) []
     ∷ []
 
--- In ASCII: the heading and seven lines, three to a numeral; the heading and three lines; the heading and one line; then
--- `refused 15 1`, `refused 14 0`, `refused 8 0`, `refused 1 0`, `refused 2 0`, `refused 5 5`.
-unfoldable texts : List (List ℕ)
-texts =
+-- In ASCII: the heading and seven lines, three to a numeral.
+unfoldable sevenLines : List ℕ
+sevenLines =
     flatten
     (bytes 18 0x7068_6173_6520_776f_726b_6572_2073_7465_700a
     ∷ bytes 18 0x3020_3020_300a_3020_3020_310a_3120_3120_320a
     ∷ bytes 18 0x3120_3120_330a_3120_3120_340a_3220_3220_360a
     ∷ bytes 6 0x3320_3020_350a
     ∷ [])
+
+-- That twice; the heading and three lines; the heading and one line; then `refused 15 1`, `refused 14 0`, `refused 8 0`,
+-- `refused 1 0`, `refused 2 0`, `refused 5 5`.
+unfoldable texts : List (List ℕ)
+texts =
+    sevenLines
+    ∷ sevenLines
     ∷ (bytes 18 0x7068_6173_6520_776f_726b_6572_2073_7465_700a ++ bytes 19 0x3020_3020_300a_3020_3020_320a_3120_3135_2031_0a)
     ∷ (bytes 18 0x7068_6173_6520_776f_726b_6572_2073_7465_700a ++ bytes 6 0x3020_3020_300a)
     ∷ bytes 13 0x7265_6675_7365_6420_3135_2031_0a
@@ -48,8 +56,8 @@ texts =
     ∷ []
 
 printed-as-shown : map printed inputs ≡ texts
-unfolding answer bytes ofKinds S oneEnd fed inputs texts inputPolicy inputCount inputTree inputTrace digits decimal line heading
-    phaseLines refusedLine phasesText printed flatten
+unfolding answer bytes ofKinds S C oneEnd fed inputs sevenLines texts inputPolicy inputCount inputTree inputTrace digits decimal
+    line heading phaseLines refusedLine phasesText printed flatten
 printed-as-shown = refl
 
 -- A count of two bytes.

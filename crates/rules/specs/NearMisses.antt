@@ -242,9 +242,8 @@ trees =
     ∷ tree (ofKinds (8 ∷ [])) (bad 3 0)
     ∷ tree (ofKinds (255 ∷ [])) (bad 3 0)
     ∷ tree (ofKinds (0 ∷ [])) (bad 3 0)
-    -- a weight of 0; then byte 1, byte 2, byte 3
+    -- a weight of 0; then byte 2, byte 3
     ∷ tree (bytes 8 0x0300_0000_0000_0000) (bad 0 0)
-    ∷ tree (bytes 8 0x0301_0000_0000_0000) (bad 3 0)
     ∷ tree (unclean 3) (bad 3 0)
     ∷ tree (bytes 8 0x0300_0001_0000_0000) (bad 3 0)
     -- the root's end, then one record more or a second tree; 3 goes before 5 in one record
@@ -319,7 +318,7 @@ trace-2048 rs e = rw e refl
 unfoldable weighted : List ℕ
 weighted = bytes 24 0x0100_0000_0100_0000_0300_0000_0200_0000_0300_0000_0001_0000
 
--- Sixteen loads, of which these are the first.
+-- Sixteen loads, of workers or of classes, of which these are the first.
 unfoldable pub sixteenLoads : List ℕ → List ℕ
 sixteenLoads ls = take 16 (ls ++ replicate 16 0)
 
@@ -345,6 +344,7 @@ notRecorded v log trace =
       finished = false;
       loads = sixteenLoads [];
       heaviest = 0;
+      classLoads = sixteenLoads [];
       log = log;
       trace = trace;
     }
@@ -364,6 +364,7 @@ recordTaken events log trace steps whole log′ trace′ =
       finished = whole;
       loads = sixteenLoads (3 ∷ 0 ∷ 0 ∷ 0 ∷ 0 ∷ 256 ∷ []);
       heaviest = 5;
+      classLoads = sixteenLoads (259 ∷ []);
       log = log′;
       trace = trace′;
     })
@@ -400,6 +401,18 @@ record ReplayRow : Type 0 where
   list : List ℕ
   says : Replayed
 
+-- A refused replay: the number and the position, the other answers 0, the list as it was.
+unfoldable pub notReplayed : Verdict → List ℕ → Replayed
+notReplayed v list =
+    record {
+      verdict = v;
+      phaseCount = 0;
+      loads = sixteenLoads [];
+      heaviest = 0;
+      classLoads = sixteenLoads [];
+      list = list;
+    }
+
 unfoldable replays : List ReplayRow
 replays =
     -- a list one byte longer than asked; worker 1 has taken step 2
@@ -413,6 +426,7 @@ replays =
             phaseCount = 2;
             loads = sixteenLoads (3 ∷ 256 ∷ []);
             heaviest = 1;
+            classLoads = sixteenLoads (259 ∷ []);
             list = bytes 13 0x0000_0000_0000_0100_0100_0200_07;
           };
     }
@@ -427,6 +441,7 @@ replays =
             phaseCount = 3;
             loads = sixteenLoads (2 ∷ 1 ∷ 2 ∷ []);
             heaviest = 0;
+            classLoads = sixteenLoads (5 ∷ []);
             list = bytes 20 0x0000_0000_0000_0100_0100_0200_0100_0300_0200_0400;
           };
     }
@@ -436,7 +451,14 @@ replays =
       trace = [];
       list = replicate 4 7;
       says =
-          record { verdict = accepted; phaseCount = 1; loads = sixteenLoads []; heaviest = 0; list = bytes 4 0x0000_0000 };
+          record {
+            verdict = accepted;
+            phaseCount = 1;
+            loads = sixteenLoads [];
+            heaviest = 0;
+            classLoads = sixteenLoads [];
+            list = bytes 4 0x0000_0000;
+          };
     }
     -- weights of four bytes, and a load of more
     ∷ record {
@@ -449,6 +471,7 @@ replays =
             phaseCount = 1;
             loads = sixteenLoads (8606843650 ∷ []);
             heaviest = 0;
+            classLoads = sixteenLoads (8606843650 ∷ []);
             list = bytes 12 0x0000_0000_0000_0100_0000_0200;
           };
     }
@@ -457,33 +480,33 @@ replays =
       tree = take 16 weighted;
       trace = bytes 3 0x0100_01;
       list = replicate 11 7;
-      says = record { verdict = bad 5 2; phaseCount = 0; loads = sixteenLoads []; heaviest = 0; list = replicate 11 7 };
+      says = notReplayed (bad 5 2) (replicate 11 7);
     }
     -- a trace of three bytes, before a list one byte short
     ∷ record {
       tree = weighted;
       trace = bytes 3 0x0100_01;
       list = replicate 11 7;
-      says = record { verdict = bad 6 0; phaseCount = 0; loads = sixteenLoads []; heaviest = 0; list = replicate 11 7 };
+      says = notReplayed (bad 6 0) (replicate 11 7);
     }
     -- a list one byte short
     ∷ record {
       tree = weighted;
       trace = bytes 4 0x1010_0100;
       list = replicate 11 7;
-      says = record { verdict = bad 7 0; phaseCount = 0; loads = sixteenLoads []; heaviest = 0; list = replicate 11 7 };
+      says = notReplayed (bad 7 0) (replicate 11 7);
     }
     ∷ []
 
 replays-as-stated : map (λ r. replayCall mostWorkers workFirst (r .tree) (r .trace) (r .list)) replays ≡ map (λ r. r .says) replays
-unfolding answer bytes replays weighted sixteenLoads bad ofKinds flatten
+unfolding answer bytes replays weighted sixteenLoads notReplayed bad ofKinds flatten
 replays-as-stated = refl
 
 -- A policy that is none.
 replays-of-no-policy :
     map (λ p. replayCall mostWorkers p weighted [] (replicate 12 7)) (0 ∷ 3 ∷ [])
-    ≡ replicate 2 (record { verdict = bad 1 0; phaseCount = 0; loads = sixteenLoads []; heaviest = 0; list = replicate 12 7 })
-unfolding answer bytes weighted sixteenLoads bad
+    ≡ replicate 2 (notReplayed (bad 1 0) (replicate 12 7))
+unfolding answer bytes weighted sixteenLoads notReplayed bad
 replays-of-no-policy = refl
 
 -- ---- whole calls: the phase that a steal is entered in, and the steps that a phase covers

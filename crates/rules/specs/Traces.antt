@@ -1,5 +1,6 @@
 -- Document 01, "Trace, log, run list": trace and log records, how replay reads a steal, what a phase covers, its running
--- order, the run list, loads. `p` is the policy, `ks` the tree's kinds and `ws` its weights.
+-- order, the run list, loads. Document 02, #103: the loads of the classes. `p` is the policy, `ks` the tree's kinds, `cs` its
+-- classes and `ws` its weights.
 use Prim.Native.Nat.{ℕ, zero, suc, pred, _-_, max}
 use mathlib.Core.Bool.{Bool, true, false, cond, _&&_, _||_, not}
 use mathlib.Core.List.{List, [], _∷_, _++_, map, flatten, zipWith}
@@ -7,7 +8,7 @@ use mathlib.Core.Option.{Option, none, some}
 use lib.ListN.{length, getD, drop}
 use lib.Dec.{eqb, ltb, leb}
 use Rattle.rules.specs.Bytes.{littleEndian, twoBytes, count, all, any, sum, Walked, walk}
-use Rattle.rules.specs.Tree.{kindAt, isAsync, task, ordinal, taskEnd, cont, finishBefore}
+use Rattle.rules.specs.Tree.{classCount, kindAt, isAsync, task, ordinal, taskEnd, cont, finishBefore}
 use Rattle.rules.specs.Scheduling.{workFirst, Hand, afterRun, Phase, firstPhases, phaseAt, begin, Entry, Steal}
 
 -- ---- trace and log
@@ -169,3 +170,14 @@ firstAt x i (y ∷ ys) = cond (eqb y x) i (firstAt x (suc i) ys)
 -- "The heaviest worker, the lowest numbered among equals."
 unfoldable pub heaviest : List ℕ → ℕ
 heaviest ls = firstAt (largest ls) 0 ls
+
+-- The weights of the steps of class c; every other step has none.
+unfoldable pub ofClass : List ℕ → List ℕ → ℕ → List ℕ
+ofClass cs ws c = zipWith (λ k weight. cond (eqb k c) weight 0) cs ws
+
+-- "The load for each class": the sum of weights of all steps of the class that phases cover at the end.
+unfoldable pub classLoad : List ℕ → List ℕ → List ℕ → List Phase → ℕ → ℕ
+classLoad ks cs ws phs c = sum (phaseLoad ks (ofClass cs ws c)) phs
+
+unfoldable pub classLoads : List ℕ → List ℕ → List ℕ → List Phase → List ℕ
+classLoads ks cs ws phs = map (classLoad ks cs ws phs) (count 0 classCount)

@@ -1,11 +1,12 @@
 -- Document 01, "The tree file": records, kinds, weights; the task and ordinal of a step; the step after a child's end;
--- which trees are accepted. Everything after acceptance speaks of the list of kinds, one for each record.
+-- which trees are accepted. Document 02, #103: the class of a step. Everything after acceptance speaks of the list of kinds, one for
+-- each record.
 use Prim.Native.Nat.{ℕ, zero, suc, pred, _-_}
 use mathlib.Core.Bool.{Bool, false, cond, _&&_, _||_, not}
 use mathlib.Core.List.{List, [], _∷_, map, reverse}
 use mathlib.Core.Option.{Option, none, some}
 use lib.ListN.{length, take, drop, getD}
-use lib.Dec.{eqb}
+use lib.Dec.{eqb, ltb}
 use Rattle.rules.specs.Bytes.{littleEndian, records, wholeRecords, Verdict, refusedIf, firstRefused, Walked, walk}
 
 -- ---- records
@@ -30,12 +31,22 @@ isFinish k = eqb k 2
 unfoldable pub isEnd : ℕ → Bool
 isEnd k = eqb k 3
 
+-- "Byte 1 of a tree record becomes a class from 0 to 15": so many classes.
+abbrev pub classCount : ℕ
+classCount = 16
+
+unfoldable pub class : List ℕ → ℕ
+class r = getD r 1 0
+
 -- "Bytes 4 to 7 are the weight."
 unfoldable pub weight : List ℕ → ℕ
 weight r = littleEndian (drop 4 r)
 
 unfoldable pub kinds : List ℕ → List ℕ
 kinds tree = map kind (treeRecords tree)
+
+unfoldable pub classes : List ℕ → List ℕ
+classes tree = map class (treeRecords tree)
 
 unfoldable pub weights : List ℕ → List ℕ
 weights tree = map weight (treeRecords tree)
@@ -123,13 +134,16 @@ finishBefore ks (suc e) = cond (isEnd (kindAt ks e) && finishChild ks (task ks e
 abbrev pub mostOpen : ℕ
 mostOpen = 64
 
--- A kind of its own, and bytes 1 to 3 zero.
+-- One of the three kinds.
+unfoldable pub hasKind : List ℕ → Bool
+hasKind r = isAsync (kind r) || isFinish (kind r) || isEnd (kind r)
+
+-- One of the kinds, one of the classes, and bytes 2 and 3 zero.
 unfoldable pub wellFormed : List ℕ → Bool
-wellFormed r =
-    (isAsync (kind r) || isFinish (kind r) || isEnd (kind r)) && eqb (getD r 1 0) 0 && eqb (getD r 2 0) 0 && eqb (getD r 3 0) 0
+wellFormed r = hasKind r && ltb (class r) classCount && eqb (getD r 2 0) 0 && eqb (getD r 3 0) 0
 
 -- A record while d tasks are open.
---     3  "A tree record has another kind or a non-zero byte 1 to 3 (its position)."
+--     3  "A tree record has another kind (its position)"; it "covers a class above 15 and non-zero bytes 2 and 3".
 --     4  "A tree record opens a task while 64 are open (its position)."
 --     5  "A record follows the root's end (its position)", the first of its two conditions.
 unfoldable pub judgeTreeRecord : ℕ → List ℕ → ℕ

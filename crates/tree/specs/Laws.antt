@@ -1,8 +1,8 @@
 -- What need not be believed: everything here is proved from the rules.
---     Counts       the numbers of an interval
---     Records      records of any width, fields of two bytes; the tree's kinds and weights as bytes
+--     Counts       the numbers of an interval, and what a function makes of them
+--     Records      records of any width, fields of two bytes; the tree's kinds, classes and weights as bytes
 --     Walks        walks over any kind of record
---     Verdicts     conditions judged one after the other
+--     Verdicts     truth values, and conditions judged one after the other
 --     Acceptance   accepting a tree, as a loop does it
 pub mod Counts
 pub mod Records

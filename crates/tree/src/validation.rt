@@ -8,12 +8,16 @@ ghost use Rattle.tree.specs.Contract.{acceptance};
 ghost use Rattle.rules.specs.Tree.{kinds, treeRecords, wrongLength, wellFormed, judgeTreeRecord};
 use super::ASYNC;
 use super::Accepted;
+use super::CLASSES;
 use super::END;
 use super::MOST_STEPS;
 use super::TREE_RECORD;
 
 // The most tasks open together, the root counted.
 const MOST_OPEN: usize = 64;
+
+// The first four bytes of a record are a number below this: a class above one byte of a kind.
+const HEADS: u32 = 256 * CLASSES as u32;
 
 // Whether the tree is empty, not whole records, or too long.
 pub fn wrong_length(tree: &[u8]) -> bool
@@ -32,16 +36,20 @@ pub fn wrong_length(tree: &[u8]) -> bool
     false
 }
 
-// Whether a record's kind is one of the three and its bytes 1 to 3 are zero: these four bytes are a number from 1 to 3.
+// Whether a record has one of the kinds, one of the classes, and bytes 2 and 3 zero: then these four bytes, the kind lowest, are a
+// small number.
 fn well_formed(tree: &[u8], i: usize) -> bool
     requires { ⌜ i < length (kinds (now tree)) ⌝ }
     ensures { λ r. ⌜ r ≡ wellFormed (getD (treeRecords (now (tree .entry))) i []) ⌝ }
 {
-    let head = super::words::word(tree, TREE_RECORD * i);
-    if head < ASYNC as u32 {
+    let kind = tree[TREE_RECORD * i];
+    if kind < ASYNC {
         return false;
     }
-    head <= END as u32
+    if END < kind {
+        return false;
+    }
+    super::words::word(tree, TREE_RECORD * i) < HEADS
 }
 
 // The refusal of a record while so many tasks are open, 0 for none.

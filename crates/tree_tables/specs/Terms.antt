@@ -1,13 +1,14 @@
--- What the tables of a tree have. `ks` are the tree's kinds and `ws` its weights.
+-- What the tables of a tree have. `ks` are the tree's kinds, `cs` its classes and `ws` its weights.
 use Prim.Native.Nat.{ℕ, suc, pred, _≤_, _<_}
 use mathlib.Core.Path.{_≡_}
 use mathlib.Core.Bool.{false, cond, _&&_}
-use mathlib.Core.List.{List}
+use mathlib.Core.List.{List, map}
 use mathlib.Core.Logic.{_⊎_}
 use mathlib.Core.Option.{none, some}
 use lib.ListN.{getD}
 use Rattle.rules.specs.Bytes.{count, sum}
-use Rattle.rules.specs.Tree.{kindAt, isEnd, isFinish, taskEnd, cont, finishBefore}
+use Rattle.rules.specs.Tree.{classCount, kindAt, isEnd, isFinish, taskEnd, cont, finishBefore}
+use Rattle.rules.specs.Traces.{ofClass}
 
 -- For each of the first m steps the step after its task's end.
 abbrev pub Ends : List ℕ → List ℕ → ℕ → Type 0
@@ -36,3 +37,11 @@ weightBefore ws j = sum (λ i. getD ws i 0) (count 0 j)
 -- That, for each of the first m steps and for step m.
 abbrev pub Sums : List ℕ → List ℕ → ℕ → Type 0
 Sums ws sums m = (j : ℕ) → j ≤ m → getD sums j 0 ≡ weightBefore ws j
+
+-- For each class the weight of its steps before step j.
+unfoldable pub classesBefore : List ℕ → List ℕ → ℕ → List ℕ
+classesBefore cs ws j = map (λ c. weightBefore (ofClass cs ws c) j) (count 0 classCount)
+
+-- Each of the first m steps has a class.
+abbrev pub Classed : List ℕ → ℕ → Type 0
+Classed cs m = (i : ℕ) → i < m → getD cs i 0 < classCount

@@ -6,8 +6,10 @@ use std::fmt::Write;
 use frame_tests::cover::WORKERS;
 use frame_tests::phases::phases;
 use frame_tests::random::{
-    accepted_bytes, any_count, any_seed, damaged_tree, drive, nearest_count, trace, tree, worker_at_the_edge, Plan, Rng,
+    accepted_bytes, any_count, any_seed, damaged_tree, drive, nearest_count, set_classes, trace, tree, worker_at_the_edge, Classes,
+    Plan, Rng,
 };
+use frame_tests::tree::TREE_RECORD;
 use frame_tests::{record, replay, schedule, Policy, Run, Tree};
 
 /// How many rows a theorem has. antt computes each theorem within a fixed count of steps.
@@ -42,7 +44,18 @@ fn scene(rng: &mut Rng) -> (u8, Vec<u8>) {
     let policy = if rng.percent(5) { rng.pick(&[0, 3, 255]) } else { rng.pick(&[1, 2]) };
     let tasks = rng.below(7);
     let damaged = damaged_tree(rng, tasks);
-    let tree = if rng.percent(10) && damaged.len() < LONGEST { damaged } else { tree(rng, tasks) };
+    if rng.percent(10) && damaged.len() < LONGEST {
+        return (policy, damaged);
+    }
+    let mut tree = tree(rng, tasks);
+    if rng.percent(50) {
+        set_classes(rng, &mut tree, Classes::Any);
+    }
+    // A class, or a byte behind one, on either side of what is accepted.
+    if rng.percent(15) {
+        let record = rng.below(tree.len() / TREE_RECORD);
+        tree[TREE_RECORD * record + rng.between(1, 3)] = rng.pick(&[0, 1, 15, 16, 17, 255]);
+    }
     (policy, tree)
 }
 
@@ -86,7 +99,7 @@ fn record_row(out: &mut String, seed: u64) {
     write!(
         out,
         "record {{ got = {call}; says = record {{ verdict = record {{ number = {}; position = {} }}; logCount = {}; \
-         traceCount = {}; finished = {}; loads = {}; heaviest = {}; log = {}; trace = {} }} }} ∷ ",
+         traceCount = {}; finished = {}; loads = {}; heaviest = {}; classLoads = {}; log = {}; trace = {} }} }} ∷ ",
         answer.number,
         answer.position,
         answer.log_count,
@@ -94,6 +107,7 @@ fn record_row(out: &mut String, seed: u64) {
         answer.finished,
         numbers(&answer.loads),
         answer.heaviest,
+        numbers(&answer.class_loads),
         bytes(&log),
         bytes(&trace)
     )
@@ -123,12 +137,13 @@ fn replay_row(out: &mut String, seed: u64) {
     write!(
         out,
         "record {{ got = {call}; says = record {{ verdict = record {{ number = {}; position = {} }}; phaseCount = {}; \
-         loads = {}; heaviest = {}; list = {} }} }} ∷ ",
+         loads = {}; heaviest = {}; classLoads = {}; list = {} }} }} ∷ ",
         answer.number,
         answer.position,
         answer.phases,
         numbers(&answer.loads),
         answer.heaviest,
+        numbers(&answer.class_loads),
         bytes(&list)
     )
     .expect("a string takes all");

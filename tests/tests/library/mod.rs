@@ -94,6 +94,7 @@ pub struct FrameRecord {
     pub finished: usize,
     pub loads: [u64; 16],
     pub heaviest: usize,
+    pub class_loads: [u64; 16],
 }
 
 /// The simulator's answer as the library gives it.
@@ -107,6 +108,7 @@ impl From<RecordAnswer> for FrameRecord {
             finished: answer.finished.into(),
             loads: answer.loads,
             heaviest: answer.heaviest,
+            class_loads: answer.class_loads,
         }
     }
 }
@@ -119,6 +121,7 @@ pub struct FrameReplay {
     pub phases: usize,
     pub loads: [u64; 16],
     pub heaviest: usize,
+    pub class_loads: [u64; 16],
 }
 
 /// The simulator's answer as the library gives it.
@@ -130,6 +133,7 @@ impl From<ReplayAnswer> for FrameReplay {
             phases: answer.phases,
             loads: answer.loads,
             heaviest: answer.heaviest,
+            class_loads: answer.class_loads,
         }
     }
 }
@@ -158,6 +162,7 @@ mod c {
     extern "C" {
         pub fn frame_tree(tree: *const u8, len: usize) -> FrameTree;
         pub fn frame_kind(tree: *const u8, len: usize, step: usize) -> u8;
+        pub fn frame_class(tree: *const u8, len: usize, step: usize) -> u8;
         pub fn frame_weight(tree: *const u8, len: usize, step: usize) -> u32;
         pub fn frame_cont(tree: *const u8, len: usize, step: usize) -> usize;
         pub fn frame_task(tree: *const u8, len: usize, step: usize) -> FrameTask;
@@ -209,6 +214,10 @@ pub fn tree(tree: &[u8]) -> FrameTree {
 
 pub fn kind(tree: &[u8], step: usize) -> u8 {
     unsafe { c::frame_kind(tree.as_ptr(), tree.len(), step) }
+}
+
+pub fn class(tree: &[u8], step: usize) -> u8 {
+    unsafe { c::frame_class(tree.as_ptr(), tree.len(), step) }
 }
 
 pub fn weight(tree: &[u8], step: usize) -> u32 {

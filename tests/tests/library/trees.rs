@@ -13,7 +13,7 @@ fn changed(kinds: &[u8], position: usize, byte: usize, to: u8) -> Vec<u8> {
     bytes
 }
 
-/// Trees with the number and the position of their refusal: S, and every pair of 2 to 5 in one record or in two.
+/// Trees with the number and the position of their refusal: S, with classes too, and every pair of 2 to 5 in one record or in two.
 pub fn trees() -> Vec<(Vec<u8>, (usize, usize))> {
     // One child too many, one in the other.
     let mut chain = vec![1; MAX_OPEN];
@@ -22,6 +22,7 @@ pub fn trees() -> Vec<(Vec<u8>, (usize, usize))> {
     let s = tree_of_kinds(&S);
     vec![
         (s.clone(), (0, 0)),
+        (changed(&S, 4, 1, 15), (0, 0)),
         // 2 alone, and where each of the others would follow.
         (vec![], (2, 0)),
         (s[..55].to_vec(), (2, 0)),
@@ -31,21 +32,26 @@ pub fn trees() -> Vec<(Vec<u8>, (usize, usize))> {
         (tree_of_kinds(&[3; 4_096]), (2, 0)),
         // 3, alone and before or with 4 and 5.
         (changed(&S, 0, 0, 0), (3, 0)),
+        (changed(&S, 5, 1, 16), (3, 5)),
         (changed(&S, 6, 3, 1), (3, 6)),
-        (changed(&chain, 62, 1, 1), (3, 62)),
+        (changed(&chain, 62, 1, 16), (3, 62)),
         (changed(&chain, 63, 0, 4), (3, 63)),
+        (changed(&chain, 63, 1, 255), (3, 63)),
         (changed(&chain, 63, 2, 255), (3, 63)),
         (tree_of_kinds(&[7, 3, 3]), (3, 0)),
         (tree_of_kinds(&[3, 7, 3]), (3, 1)),
+        (changed(&[3, 3], 1, 1, 16), (3, 1)),
         (tree_of_kinds(&[1, 0]), (3, 1)),
         // 4, alone and before 3 and 5.
         (tree_of_kinds(&chain), (4, 63)),
+        (changed(&chain, 63, 1, 15), (4, 63)),
         (changed(&chain, 64, 0, 9), (4, 63)),
         (tree_of_kinds(&open), (4, 63)),
         (tree_of_kinds(&[&chain[..], &[3]].concat()), (4, 63)),
         // 5, alone and before 3 and 4.
         (tree_of_kinds(&S[..6]), (5, 6)),
         (tree_of_kinds(&[3, 3]), (5, 1)),
+        (changed(&[3, 3], 1, 1, 15), (5, 1)),
         (tree_of_kinds(&[3, 3, 7]), (5, 1)),
         (tree_of_kinds(&[&[3], &open[..]].concat()), (5, 1)),
     ]

@@ -18,7 +18,7 @@ use Rattle.rules.specs.Scheduling.{mostWorkers, Phase, phaseAt, Run, workerAt, 
 use Rattle.rules.specs.Traces.{latestPhase, numberAllowed, recordNumber, judgeRead, judgeTraceRecord, replayWalk, loads}
 use Rattle.rules.specs.Calls.{policyVerdict, countVerdict, startVerdict, Recorded, recordWalk, recordVerdict, recordOf, recordRefused}
 use Rattle.rules.specs.Calls.{recordCall, Replayed, replayVerdict, replayOf, replayRefused, replayCall}
-use Rattle.tree.specs.Laws.Verdicts.{first-accepts, first-refuses, first-passes}
+use Rattle.tree.specs.Laws.Verdicts.{cond-of, number-by, neither, first-accepts, first-refuses, first-passes}
 use Rattle.tree_scan.specs.Laws.Starts.{start-workers}
 use Rattle.arguments.specs.Laws.Starts.{count-outside, count-within}
 use Rattle.policy.specs.declared.Setup.{Setup}
@@ -99,33 +99,24 @@ event-keeps tree s a b = ap (λ (setup : Setup). setup .workers) (event-setup (f
 
 -- ---- walks
 
--- A test and an answer that is not 8 where it fails.
-eight-by : (far : Bool) (number : ℕ) → (number ≡ 8 → ⊥) → eqb (cond far 8 number) 8 ≡ far
-eight-by true number n = refl
-eight-by false number n = ne-eqb number 8 n
-
-either-other : (b : Bool) (x y : ℕ) → (x ≡ 8 → ⊥) → (y ≡ 8 → ⊥) → cond b x y ≡ 8 → ⊥
-either-other true x y n m = n
-either-other false x y n m = m
-
 run-other : (ks : List ℕ) (r : Run) (w : ℕ) → judgeRun ks r w ≡ 8 → ⊥
 unfolding judgeRun
 run-other ks r w = by (workerAt r w .hand .held) refl
   where
     by : (o : Option ℕ) → workerAt r w .hand .held ≡ o → judgeRun ks r w ≡ 8 → ⊥
     by none h = rw (h, judgeRun) (omega arith)
-    by (some i) h = rw (h, judgeRun) (either-other (waits ks (r .log) i) 10 0 (omega arith) (omega arith))
+    by (some i) h = rw (h, judgeRun) (neither 8 (waits ks (r .log) i) 10 0 (omega arith) (omega arith))
 
 steal-other : (r : Run) (t v : ℕ) → judgeSteal r t v ≡ 8 → ⊥
 unfolding judgeSteal
 steal-other r t v =
-    either-other (holdsStep (workerAt r t)) 11 _ (omega arith)
-    (either-other (eqb (length (workerAt r v .hand .deque)) 0) 12 0 (omega arith) (omega arith))
+    neither 8 (holdsStep (workerAt r t)) 11 _ (omega arith)
+    (neither 8 (eqb (length (workerAt r v .hand .deque)) 0) 12 0 (omega arith) (omega arith))
 
 event-walked : (ks : List ℕ) (r : Run) (e : List ℕ)
     → eqb (judgeEvent ks r e) 8 ≡ namesNone (length (r .workers)) (getD e 0 0) (getD e 1 0)
 unfolding judgeEvent namesNone
-event-walked ks r e = eight-by _ _ (either-other (isRun e) _ _ (run-other ks r (getD e 0 0)) (steal-other r (getD e 0 0) (getD e 1 0)))
+event-walked ks r e = number-by 8 _ _ (neither 8 (isRun e) _ _ (run-other ks r (getD e 0 0)) (steal-other r (getD e 0 0) (getD e 1 0)))
 
 read-other : (p : ℕ) (ks : List ℕ) (phs : List Phase) (v number : ℕ) → judgeRead p ks phs v number ≡ 8 → ⊥
 unfolding judgeRead
@@ -133,13 +124,13 @@ read-other p ks phs v number = by (latestPhase v 0 phs) refl
   where
     by : (o : Option ℕ) → latestPhase v 0 phs ≡ o → judgeRead p ks phs v number ≡ 8 → ⊥
     by none h = rw (h, judgeRead) (omega arith)
-    by (some k) h = rw (h, judgeRead) (either-other (numberAllowed p ks (phaseAt phs k) number) 0 15 (omega arith) (omega arith))
+    by (some k) h = rw (h, judgeRead) (neither 8 (numberAllowed p ks (phaseAt phs k) number) 0 15 (omega arith) (omega arith))
 
 record-walked : (p : ℕ) (ks : List ℕ) (w : ℕ) (phs : List Phase) (r : List ℕ)
     → eqb (judgeTraceRecord w p ks phs r) 8 ≡ namesNone w (getD r 0 0) (getD r 1 0)
 unfolding judgeTraceRecord namesNone
 record-walked p ks w phs r =
-    eight-by _ _ (either-other (eqb (getD r 0 0) (getD r 1 0)) 13 _ (omega arith) (read-other p ks phs (getD r 1 0) (recordNumber r)))
+    number-by 8 _ _ (neither 8 (eqb (getD r 0 0) (getD r 1 0)) 13 _ (omega arith) (read-other p ks phs (getD r 1 0) (recordNumber r)))
 
 -- ---- the idle workers
 
@@ -155,7 +146,7 @@ idle-none s z = rw z at (sym (lowest-set (s .held) (workerLimit (s .workers)) (l
 
 -- What a call tells of the loads of some phases, where its refusal is a number, 0 for none.
 module _ (tree : List ℕ) (number : ℕ) (phs : List Phase) where
-  abbrev told : List ℕ
+  abbrev pub told : List ℕ
   told = cond (eqb number 0) (loads mostWorkers (kinds tree) (weights tree) phs) (replicate mostWorkers 0)
 
   told-many : length told ≡ mostWorkers
@@ -172,25 +163,17 @@ module _ (tree : List ℕ) (number : ℕ) (phs : List Phase) where
         | no n ↦ rw (ne-eqb number 0 n) (getD-alike mostWorkers u 0)
       ]
 
-record-either : (b : Bool) (x y : Recorded) → cond b x y .loads ≡ cond b (x .loads) (y .loads)
-record-either true x y = refl
-record-either false x y = refl
-
-replay-either : (b : Bool) (x y : Replayed) → cond b x y .loads ≡ cond b (x .loads) (y .loads)
-replay-either true x y = refl
-replay-either false x y = refl
-
 module _ (w p : ℕ) (tree : List ℕ) where
   module _ (events log trace : List ℕ) where
-    abbrev recording : ℕ
+    abbrev pub recording : ℕ
     recording = recordVerdict w p tree events log trace .number
 
-    abbrev recorded : List Phase
+    abbrev pub recorded : List Phase
     recorded = recordWalk w p (kinds tree) (records 2 events) .state .phases
 
-    record-told : recordCall w p tree events log trace .loads ≡ told tree recording recorded
+    pub record-told : recordCall w p tree events log trace .loads ≡ told tree recording recorded
     unfolding recordCall recordOf recordRefused
-    record-told = record-either (eqb recording 0) _ _
+    record-told = cond-of (λ (r : Recorded). r .loads) (eqb recording 0) _ _
 
     record-many : length (recordCall w p tree events log trace .loads) ≡ mostWorkers
     record-many = rw record-told (told-many tree recording recorded)
@@ -202,15 +185,15 @@ module _ (w p : ℕ) (tree : List ℕ) where
         recorded-unused u w p (kinds tree) (start-workers w p tree (first-accepts _ _ z .0) .0) beyond (records 2 events)))
 
   module _ (trace list : List ℕ) where
-    abbrev replaying : ℕ
+    abbrev pub replaying : ℕ
     replaying = replayVerdict w p tree trace list .number
 
-    abbrev replayed : List Phase
+    abbrev pub replayed : List Phase
     replayed = replayWalk w p (kinds tree) (records 4 trace) .state
 
-    replay-told : replayCall w p tree trace list .loads ≡ told tree replaying replayed
+    pub replay-told : replayCall w p tree trace list .loads ≡ told tree replaying replayed
     unfolding replayCall replayOf replayRefused
-    replay-told = replay-either (eqb replaying 0) _ _
+    replay-told = cond-of (λ (r : Replayed). r .loads) (eqb replaying 0) _ _
 
     replay-many : length (replayCall w p tree trace list .loads) ≡ mostWorkers
     replay-many = rw replay-told (told-many tree replaying replayed)

@@ -109,7 +109,7 @@ module _ (w p : ℕ) (ks : List ℕ) (es : List (List ℕ)) where
 -- ---- whole calls
 
 -- The events of an accepted call.
-folded : (w p : ℕ) (tree events log trace : List ℕ) → recordVerdict w p tree events log trace .number ≡ 0
+pub folded : (w p : ℕ) (tree events log trace : List ℕ) → recordVerdict w p tree events log trace .number ≡ 0
     → (recordWalk w p (kinds tree) (records 2 events) .state ≡ afterEvents p (kinds tree) (start w) (records 2 events))
     × AcceptedTo w p (kinds tree) (records 2 events) (length (records 2 events))
 folded w p tree events log trace e = walk-folds w p (kinds tree) (records 2 events) (accepts-both w p tree events log trace e .1)

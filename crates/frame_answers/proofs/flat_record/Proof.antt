@@ -12,14 +12,14 @@ byte : (b : Bool) → boolByte b ≡ cond b 1 0
 byte true = refl
 byte false = refl
 
-cast-t3 : tie.Need-cast-t3
-cast-t3 c = search needs
-
 cast-t4 : tie.Need-cast-t4
 cast-t4 c = search needs
 
+cast-t5 : tie.Need-cast-t5
+cast-t5 c = search needs
+
 returns : tie.Need-returns
-returns c = rw (byte (c .before .before .before .args .recorded .finished)) refl
+returns c = rw (byte (c .before .before .before .before .args .recorded .finished)) refl
 
 pub flat-record-spec : {M : Type 1} → statement M
-flat-record-spec = tie.close (tie.spec cast-t3 cast-t4 returns)
+flat-record-spec = tie.close (tie.spec cast-t4 cast-t5 returns)

@@ -5,11 +5,11 @@ use borrow.Author.Needs.{needs}
 use Rattle.frame_answers.proofs.flat_replay.Statement.{statement}
 use Rattle.frame_answers.proofs.flat_replay.Tie as tie
 
-cast-t3 : tie.Need-cast-t3
-cast-t3 c = search needs
+cast-t4 : tie.Need-cast-t4
+cast-t4 c = search needs
 
 returns : tie.Need-returns
 returns c = refl
 
 pub flat-replay-spec : {M : Type 1} → statement M
-flat-replay-spec = tie.close (tie.spec cast-t3 returns)
+flat-replay-spec = tie.close (tie.spec cast-t4 returns)

@@ -19,8 +19,8 @@ unfolding totalsOf
 returns-2 c =
     let one = c .before .before in
     let a = one .before .args in
-    let loads = a .t2 in
-    rw (eq-eqb (a .number) 0 (one .if1 .left)) (λ k. record { loads = loads; heaviest = c .heaviest .ensures k })
+    rw (eq-eqb (a .number) 0 (one .if1 .left))
+    (λ k. record { loads = a .t2; heaviest = c .heaviest .ensures k; classes = a .classes })
 
 pub totals-of-spec : {M : Type 1} → statement M
 totals-of-spec = tie.close (tie.spec returns heaviest-requires returns-2)

@@ -3,7 +3,7 @@
 use Prim.Native.Nat.{ℕ, zero, suc, _+_, _-_, _≤_, _<_}
 use mathlib.Core.Path.{_≡_, refl, sym, ap, _∙_}
 use mathlib.Core.Bool.{Bool, true, false, cond, _&&_, _||_, not, and-true, or-false}
-use mathlib.Core.List.{List, [], map}
+use mathlib.Core.List.{List, [], _∷_}
 use native.Mathlib.Decide.{ℕ-discrete, decLt}
 use native.Mathlib.Nat.{zero-add, add-zero}
 use native.Mathlib.Omega.{arith}
@@ -15,14 +15,14 @@ use Rattle.rules.specs.Bytes.{count, any, sum}
 use Rattle.rules.specs.Tree.{taskEnd}
 use Rattle.rules.specs.Scheduling.{mostWorkers, Phase, firstPhases, phaseAt, begin}
 use Rattle.rules.specs.Traces.{fromStep, covers, phaseLoad, workerLoad, loads}
-use Rattle.tree.specs.Laws.Counts.{length-count}
+use Rattle.tree.specs.Laws.Counts.{map-at, map-length}
 use Rattle.tree_scan.specs.Laws.Shape.{Shape}
 use Rattle.tree_scan.specs.Laws.Frames.{endAt, sizeAt}
 use Rattle.tree_tables.specs.Terms.{Ends, Sums, weightBefore}
 use Rattle.run_invariant.specs.Laws.Counts.{any-one, any-sum, sum-plus, sum-two}
 use Rattle.run_invariant.specs.Laws.Weights.{span, end-within}
 use Rattle.run_invariant.specs.Laws.Moves.{sum-one, sum-set, robbed}
-use Rattle.loads.specs.Terms.{weightBetween, Movable, loadMoved}
+use Rattle.loads.specs.Terms.{weightBetween, Movable, loadMoved, Whole}
 
 -- ---- sums
 
@@ -55,18 +55,6 @@ weight-rises : (ws : List ℕ) (i j : ℕ) → i ≤ j → weightBefore ws i ≤
 unfolding weightBefore
 weight-rises ws i j h = sum-rises (λ k. getD ws k 0) 0 i j h
 
--- Moving weight changes no sum.
-moved-sum : (ls : List ℕ) (t v x : ℕ) → t < length ls → v < length ls → x ≤ getD ls v 0
-    → sum (λ y. y) (loadMoved ls t v x) ≡ sum (λ y. y) ls
-unfolding loadMoved
-moved-sum ls t v x h l fits =
-    let less = set ls v (getD ls v 0 - x) in
-    omega (
-      arith,
-      sum-set (λ (y : ℕ). y) ls v (getD ls v 0 - x) 0 l,
-      sum-set (λ (y : ℕ). y) less t (getD less t 0 + x) 0 (lt-length-set ls v (getD ls v 0 - x) h),
-    )
-
 -- A list with the moved weights in both places and the same elsewhere is the list with the weight moved.
 moved-is : (ls new : List ℕ) (t v x : ℕ) → length new ≡ length ls → t < length ls → v < length ls → (t ≡ v → ⊥)
     → getD new t 0 ≡ getD ls t 0 + x → getD new v 0 + x ≡ getD ls v 0
@@ -90,18 +78,9 @@ moved-is ls new t v x size h l n more less same =
 
 -- ---- loads as a list
 
--- What stands at place i.
-map-at : (f : ℕ → ℕ) (n a i : ℕ) → i < n → getD (map f (count a n)) i 0 ≡ f (a + i)
-unfolding count
-map-at f zero a i h = absurd (omega arith)
-map-at f (suc n) a zero h = rw add-zero refl
-map-at f (suc n) a (suc i) h =
-    let place : a + suc i ≡ suc a + i = omega arith in
-    rw place (map-at f n (suc a) i (omega arith))
-
 pub loads-length : (w : ℕ) (ks ws : List ℕ) (phs : List Phase) → length (loads w ks ws phs) ≡ w
 unfolding loads
-loads-length w ks ws phs = length-map (count 0 w) (workerLoad ks ws phs) ∙ length-count w 0
+loads-length w ks ws phs = map-length (workerLoad ks ws phs) w 0
 
 pub loads-at : (w : ℕ) (ks ws : List ℕ) (phs : List Phase) (u : ℕ) → u < w → getD (loads w ks ws phs) u 0 ≡ workerLoad ks ws phs u
 unfolding loads
@@ -219,17 +198,35 @@ module _ (ks ws : List ℕ) where
         sum-set (share u) phs k more (record { worker = 0; first = 0; stolen = [] }) h,
       )
 
-module _ (ks ws : List ℕ) (some-step : 1 ≤ length ks) (sh : Shape (length ks) (endAt ks) (sizeAt ks)) where
-  first-load : phaseLoad ks ws (record { worker = 0; first = 0; stolen = [] }) ≡ weightBefore ws (length ks)
+  -- Two workers' loads are within those of all phases.
+  two-loads : (t v : ℕ) → (t ≡ v → ⊥) → (phs : List Phase)
+      → workerLoad ks ws phs t + workerLoad ks ws phs v ≤ sum (phaseLoad ks ws) phs
+  unfolding workerLoad sum
+  two-loads t v n [] = omega arith
+  two-loads t v n (ph ∷ phs) =
+      elim (ℕ-discrete (ph .worker) t) [
+        | yes e ↦ rw (eq-eqb (ph .worker) t e, ne-eqb (ph .worker) v (λ s. n (sym e ∙ s))) (omega (arith, two-loads t v n phs))
+        | no m ↦ rw (ne-eqb (ph .worker) t m) (elim (ℕ-discrete (ph .worker) v) [
+          | yes e ↦ rw (eq-eqb (ph .worker) v e) (omega (arith, two-loads t v n phs))
+          | no k ↦ rw (ne-eqb (ph .worker) v k) (omega (arith, two-loads t v n phs))
+        ])
+      ]
+
+module _ (ks : List ℕ) (some-step : 1 ≤ length ks) (sh : Shape (length ks) (endAt ks) (sizeAt ks)) where
+  first-load : (ws : List ℕ) → phaseLoad ks ws (record { worker = 0; first = 0; stolen = [] }) ≡ weightBefore ws (length ks)
   unfolding partWeight weightBefore sum count sizeAt
-  first-load =
+  first-load ws =
       let end : taskEnd ks 0 ≡ length ks = omega (arith, sh .whole) in
       omega (arith, fresh-load ks ws 0 0, rw end at (part-is ks ws sh 0 some-step))
 
   -- At the start worker 0's phase covers all.
-  pub start-loads : loads mostWorkers ks ws firstPhases ≡ set (replicate mostWorkers 0) 0 (weightBefore ws (length ks))
+  pub start-loads : (ws : List ℕ) → loads mostWorkers ks ws firstPhases ≡ set (replicate mostWorkers 0) 0 (weightBefore ws (length ks))
   unfolding loads workerLoad firstPhases count sum
-  start-loads = rw (first-load, add-zero (weightBefore ws (length ks))) refl
+  start-loads ws = rw (first-load ws, add-zero (weightBefore ws (length ks))) refl
+
+  pub start-whole : Whole ks firstPhases
+  unfolding firstPhases sum
+  start-whole ws = omega (arith, first-load ws)
 
 -- Worker t takes step o from phase k, which is worker v's.
 pub record Takes (ks : List ℕ) (phs : List Phase) (t k v o : ℕ) : Type 0 where
@@ -241,6 +238,20 @@ pub record Takes (ks : List ℕ) (phs : List Phase) (t k v o : ℕ) : Type 0 whe
   pub within : o < length ks
   -- The parts stolen from the phase before and the part taken now are apart, and inside the part from its first step.
   pub apart : (j : ℕ) → sum (span ks j) (phaseAt phs k .stolen) + span ks j o ≤ span ks j (phaseAt phs k .first)
+
+-- A part goes from one phase to another, so all loads together stay what they were.
+pub begin-whole : (ks : List ℕ) {phs : List Phase} {t k v o : ℕ} → Takes ks phs t k v o → Whole ks phs → Whole ks (begin phs t k o)
+unfolding begin phaseAt
+begin-whole ks {phs} {t} {k} {v} {o} x whole ws =
+    let more : Phase = robbed (phaseAt phs k) o in
+    omega (
+      arith,
+      whole ws,
+      sum-one (phaseLoad ks ws) (set phs k more) (record { worker = t; first = o; stolen = [] }),
+      sum-set (phaseLoad ks ws) phs k more (record { worker = 0; first = 0; stolen = [] }) (x .begun),
+      robbed-load ks ws (phaseAt phs k) o (x .apart),
+      fresh-load ks ws t o,
+    )
 
 module _ (ks ws : List ℕ) (sh : Shape (length ks) (endAt ks) (sizeAt ks)) {phs : List Phase} {t k v o : ℕ}
     (x : Takes ks phs t k v o) where
@@ -292,26 +303,20 @@ module _ (ks ws : List ℕ) (sh : Shape (length ks) (endAt ks) (sizeAt ks)) {phs
       let h : u < mostWorkers = omega arith in
       omega (arith, old u h, new u h, rest-same u n m))
 
-  -- All loads together stay what they were.
-  pub begin-whole : sum (λ y. y) (loads mostWorkers ks ws (begin phs t k o)) ≡ sum (λ y. y) (loads mostWorkers ks ws phs)
-  begin-whole =
-      let size = loads-length mostWorkers ks ws phs in
-      rw begin-loads (moved-sum (loads mostWorkers ks ws phs) t v (partWeight ks ws o) (omega arith) (omega arith) begin-fits)
-
   -- By the tables the part can be moved, where all loads together are the tree's weight and that fits 64 bits.
   pub begin-movable : (ends sums : List ℕ) → length ks ≤ length ends → Ends ks ends (length ks) → length ks < length sums
-      → Sums ws sums (length ks) → sum (λ y. y) (loads mostWorkers ks ws phs) ≡ weightBefore ws (length ks)
+      → Sums ws sums (length ks) → sum (phaseLoad ks ws) phs ≡ weightBefore ws (length ks)
       → weightBefore ws (length ks) < 18446744073709551616 → Movable ends sums (loads mostWorkers ks ws phs) t v o
   begin-movable ends sums long right longer added whole light =
-      let size = loads-length mostWorkers ks ws phs in
       let inside = end-within ks sh o (x .within) in
       let weighs = part-between ks ws sh ends sums right added o (x .within) in
-      let room = sum-two (λ (y : ℕ). y) 0 (loads mostWorkers ks ws phs) t v (omega arith) (omega arith) (x .other) in
+      let at = loads-at mostWorkers ks ws phs in
+      let room = two-loads ks ws t v (x .other) phs in
       record {
         inTable = omega arith;
         inSums = (omega arith, omega (arith, right o (x .within)));
         rises = rw (start-sum ks ws sh ends sums right added o (x .within), end-sum ks ws sh ends sums right added o (x .within))
             (weight-rises ws o (taskEnd ks o) (omega arith));
         leaves = rw weighs begin-fits;
-        fits = rw weighs (omega (arith, begin-fits));
+        fits = rw weighs (omega (arith, at t (x .thief), at v (x .victim), begin-fits));
       }

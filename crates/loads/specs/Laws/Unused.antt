@@ -1,5 +1,5 @@
 -- A worker that a run of w workers does not have has no phase, live or replayed, and no load.
-use Prim.Native.Nat.{ℕ, _≤_}
+use Prim.Native.Nat.{ℕ, zero, suc, _≤_, _<_}
 use mathlib.Core.Path.{_≡_, refl, sym, _∙_}
 use mathlib.Core.Bool.{false}
 use mathlib.Core.List.{List, [], _∷_, map}
@@ -10,7 +10,7 @@ use lib.ListN.{length, getD, List·getD-eq-default}
 use lib.Dec.{eqb}
 use borrow.Author.Tests.{eq-eqb, ne-eqb, eqb-false, le-leb}
 use Rattle.rules.specs.Bytes.{any, sum}
-use Rattle.rules.specs.Scheduling.{mostWorkers, Phase, firstPhases, begin, Run, start, isRun, steal, judgeEvent}
+use Rattle.rules.specs.Scheduling.{mostWorkers, Phase, firstPhases, phaseAt, begin, Run, start, isRun, steal, judgeEvent}
 use Rattle.rules.specs.Scheduling.{nextRun}
 use Rattle.rules.specs.Traces.{latestPhase, judgeTraceRecord, nextPhases, replayWalk, workerLoad, loads}
 use Rattle.rules.specs.Calls.{recordWalk}
@@ -20,6 +20,7 @@ use Rattle.run_invariant.specs.Laws.Counts.{any-one}
 use Rattle.run_invariant.specs.Laws.Moves.{begin-map, ran, run-is, run-held, event-runs, first-within}
 use Rattle.run_invariant.specs.Laws.Crew.{event-many, start-many}
 use Rattle.loads.specs.Laws.Loads.{loads-length, loads-at}
+use Rattle.loads.specs.Laws.Classes.{Manned}
 
 -- No phase is worker u's.
 abbrev pub Unused : ℕ → List Phase → Type 0
@@ -44,6 +45,20 @@ module _ (ks ws : List ℕ) (u : ℕ) where
       ]
 
 -- ---- phases
+
+unused-at : (u : ℕ) (phs : List Phase) → Unused u phs → (k : ℕ) → k < length phs → u ≡ phaseAt phs k .worker → ⊥
+unfolding any phaseAt
+unused-at u [] free k h = absurd (omega arith)
+unused-at u (ph ∷ phs) free zero h = eqb-false u (ph .worker) (or-none (eqb u (ph .worker)) _ free .0)
+unused-at u (ph ∷ phs) free (suc k) h = unused-at u phs (or-none (eqb u (ph .worker)) _ free .1) k (omega arith)
+
+-- Where no worker above sixteen has a phase, each phase is a worker's of the sixteen.
+pub unused-manned : (phs : List Phase) → ((u : ℕ) → mostWorkers ≤ u → Unused u phs) → Manned phs
+unused-manned phs free k h =
+    elim (decLt (phaseAt phs k .worker) 16) [
+      | yes few ↦ few
+      | no n ↦ absurd (unused-at (phaseAt phs k .worker) phs (free (phaseAt phs k .worker) (omega arith)) k h refl)
+    ]
 
 module _ (u : ℕ) where
   unused-begin : (phs : List Phase) (t k s : ℕ) → Unused u phs → (u ≡ t → ⊥) → Unused u (begin phs t k s)

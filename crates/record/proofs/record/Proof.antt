@@ -1,6 +1,6 @@
 -- `record::record` meets its contract: the rules judge what the call is given before its events, as the code does, and the answer is on
 -- the first that is refused, or on the run. Assumes nothing.
-use mathlib.Core.Path.{_≡_}
+use mathlib.Core.Path.{_≡_, refl}
 use lib.ListN.{length}
 use borrow.Author.Needs.{needs}
 use Rattle.arguments.specs.Terms.{recordJudged}
@@ -21,7 +21,7 @@ judged c = c .judge-record .ensures
 
 -- The events have been walked.
 abbrev given : tie.After-struct-known2 → tie.Else1
-given c = c .before .before .before .before .before .before .before .before
+given c = c .before .before .before .before .before .before .before .before .before
 
 judge-record-requires : tie.Need-judge-record-requires
 judge-record-requires c κs = search needs
@@ -38,12 +38,12 @@ returns c =
 
 run-requires : tie.Need-run-requires
 run-requires c κs =
-    let one = c .before .before in
+    let one = c .before .before .before in
     let at = one .before .before in
     let a = entry at .args in
-    ready-admitted (a .events .now)
-    (record-ready _ _ (a .tree .now) (a .events .now) (a .log .now) (a .trace .now) (at .judge-record .result) (judged at)
-    (one .if1 .left))
+    let ready = record-ready _ _ (a .tree .now) (a .events .now) (a .log .now) (a .trace .now) (at .judge-record .result) (judged at)
+    (one .if1 .left) in
+    (ready-admitted (a .events .now) ready, refl)
 
 sub-last : tie.Need-sub-last
 sub-last c =
@@ -70,7 +70,7 @@ returns-2 c =
     let at = one .before .before in
     let a = entry at .args in
     walk-answered _ _ (a .tree .now) (a .events .now) (a .log .now) (a .trace .now) (at .judge-record .result) (judged at)
-    (one .if1 .left) (run .result) (run .last .1 .1 .1 .0) (run .last .1 .1 .1 .1 .0) (run .ensures) (c .answer .result)
+    (one .if1 .left) (run .result) (run .last .1 .1 .1 .0) (run .last .1 .1 .1 .1 .0) _ (run .ensures) (c .answer .result)
     (c .answer .ensures)
 
 pub record-spec : {M : Type 1} → statement M

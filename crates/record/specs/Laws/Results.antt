@@ -7,9 +7,9 @@ use native.Mathlib.Decide.{ℕ-discrete}
 use lib.ListN.{length}
 use borrow.Author.Tests.{eq-eqb, ne-eqb}
 use Rattle.rules.specs.Bytes.{records, Verdict, accepted}
-use Rattle.rules.specs.Tree.{kinds, weights}
+use Rattle.rules.specs.Tree.{kinds, classes, weights}
 use Rattle.rules.specs.Scheduling.{mostWorkers, Run}
-use Rattle.rules.specs.Traces.{loads, heaviest}
+use Rattle.rules.specs.Traces.{loads, heaviest, classLoads}
 use Rattle.rules.specs.Calls.{recordWalk, finished, recordOf, recordRefused, recordCall, Recorded as Call}
 use Rattle.tree.specs.declared.Accepted.{Accepted}
 use Rattle.tree_scan.specs.Laws.Starts.{start-tree-accepts}
@@ -35,14 +35,24 @@ refusal-meets v log trace call e r f =
     (f ∙ ap {B = Recorded} answers e, (ap (λ (c : Call). c .log) e, ap (λ (c : Call). c .trace) e))
 
 -- The answers on a run, by its counts, whether it has finished and its loads.
-run-answers : (p : ℕ) (tree : List ℕ) (r : Run) (log trace : List ℕ) (logs steals : ℕ) (done : Bool) (ls : List ℕ)
+run-answers : (p : ℕ) (tree : List ℕ) (r : Run) (log trace : List ℕ) (logs steals : ℕ) (done : Bool) (ls byClass : List ℕ)
     → logs ≡ length (r .log) → steals ≡ length (r .steals) → done ≡ finished (kinds tree) r
     → ls ≡ loads mostWorkers (kinds tree) (weights tree) (r .phases)
+    → byClass ≡ classLoads (kinds tree) (classes tree) (weights tree) (r .phases)
     → _≡_ {A = Recorded}
-    (record { number = 0; position = 0; logs = logs; steals = steals; finished = done; loads = ls; heaviest = heaviest ls })
+    (record {
+      number = 0;
+      position = 0;
+      logs = logs;
+      steals = steals;
+      finished = done;
+      loads = ls;
+      heaviest = heaviest ls;
+      classes = byClass;
+    })
     (answers (recordOf p tree r log trace))
 unfolding answers recordOf accepted
-run-answers p tree r log trace logs steals done ls e f g h = rw (e, f, g, h) refl
+run-answers p tree r log trace logs steals done ls byClass e f g h i = rw (e, f, g, h, i) refl
 
 module _ (w p : ℕ) (tree events log trace : List ℕ) (a : Accepted) (is : a ≡ recordJudged w p tree events (length log) (length trace)) where
   pub given-refusal : (a .number ≡ 0 → ⊥) → (r : Recorded) → r ≡ refusal (a .number) (a .position)
@@ -56,9 +66,9 @@ module _ (w p : ℕ) (tree events log trace : List ℕ) (a : Accepted) (is : a �
       rw (given-steps w p tree _ _ a is z) (accepted-frame tree (start-tree-accepts w p tree (ready .started)) .some)
 
   -- The walk over the events, and the answer on what it comes to.
-  module _ (z : a .number ≡ 0) (ended : Ended) (log-out trace-out : List ℕ) (so : Result w p tree events log trace ended log-out trace-out)
-      (r : Recorded)
-      (answer : r ≡ answered (ended .number) (ended .position) (ended .logs) (ended .steals) (a .steps - 1) (ended .loads)) where
+  module _ (z : a .number ≡ 0) (ended : Ended) (log-out trace-out charges : List ℕ)
+      (so : Result w p tree events log trace ended log-out trace-out charges) (r : Recorded)
+      (answer : r ≡ answered (ended .number) (ended .position) (ended .logs) (ended .steals) (a .steps - 1) (ended .loads) charges) where
     event-refusal : (ended .number ≡ 0 → ⊥) → Meets (recordCall w p tree events log trace) r log-out trace-out
     unfolding answered
     event-refusal n =
@@ -78,7 +88,7 @@ module _ (w p : ℕ) (tree events log trace : List ℕ) (a : Accepted) (is : a �
         let all = record-all w p tree events log trace (record-ready w p tree events log trace a is z) (sym (so .number) ∙ none) in (
           answer
               ∙ rw (eq-eqb (ended .number) 0 none, steps)
-              (run-answers p tree _ log trace _ _ _ _ (told .logs) (told .steals) (told .finished) (told .loaded))
+              (run-answers p tree _ log trace _ _ _ _ _ (told .logs) (told .steals) (told .finished) (told .loaded) (told .classed))
               ∙ ap {B = Recorded} answers all,
           (told .logged ∙ ap (λ (c : Call). c .log) all, told .traced ∙ ap (λ (c : Call). c .trace) all),
         )

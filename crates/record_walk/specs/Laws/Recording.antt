@@ -10,7 +10,7 @@ use native.Mathlib.Omega.{arith}
 use lib.ListN.{length, drop, getD, set, replicate, length-append}
 use lib.Dec.{eqb}
 use borrow.Author.Tests.{eqb-true, eqb-false}
-use Rattle.rules.specs.Bytes.{records, Verdict, accepted, sum, Walked, walk}
+use Rattle.rules.specs.Bytes.{records, Verdict, accepted, Walked, walk}
 use Rattle.rules.specs.Tree.{mostSteps, kinds, weights}
 use Rattle.rules.specs.Scheduling.{mostWorkers, phaseAt, Worker, Run, start, workerAt, isRun, holdsStep, oldest, steal}
 use Rattle.rules.specs.Scheduling.{judgeEvent, nextRun}
@@ -41,8 +41,8 @@ use Rattle.run_refinement.specs.Laws.AnyState.{event-setup}
 use Rattle.run_refinement.specs.Laws.Events.{start-shows, event-tells, event-shows}
 use Rattle.buffers.specs.Terms.{recordPut}
 use Rattle.buffers.specs.Laws.Records.{length-entries, entries-one, length-trace, trace-one, put-length, put-front}
-use Rattle.loads.specs.Terms.{Movable, loadMoved}
-use Rattle.loads.specs.Laws.Loads.{partWeight, start-loads, Takes, begin-loads, begin-whole, begin-movable}
+use Rattle.loads.specs.Terms.{Movable, loadMoved, Whole}
+use Rattle.loads.specs.Laws.Loads.{partWeight, start-loads, start-whole, Takes, begin-loads, begin-whole, begin-movable}
 use Rattle.record_walk.specs.Terms.{Front}
 
 -- After the first k events, none of them refused: the rules' run and the state that shows it, and log, trace and loads so far.
@@ -59,7 +59,7 @@ pub record Recording (w p : ℕ) (tree events : List ℕ) (k : ℕ) (s : Fields)
   pub logged : Front (entryBytes (run .log)) log
   pub traced : Front (traceBytes p (kinds tree) (run .steals)) trace
   pub loaded : ls ≡ loads mostWorkers (kinds tree) (weights tree) (run .phases)
-  pub whole : sum (λ x. x) ls ≡ weightBefore (weights tree) (length (kinds tree))
+  pub whole : Whole (kinds tree) (run .phases)
 
 -- ---- what an outcome tells
 
@@ -163,7 +163,7 @@ module _ (w p : ℕ) (tree events : List ℕ) (accepts : startVerdict w p tree .
   pub recording-start : (log trace : List ℕ) → length log ≡ 4 * mostSteps → length trace ≡ 4 * mostTraceRecords
       → Recording w p tree events 0 (fresh (record { policy = p; workers = w })) log trace
       (set (replicate mostWorkers 0) 0 (weightBefore (weights tree) (length (kinds tree)))) 0 0
-  unfolding recordWalk start entryBytes traceBytes flatten sum
+  unfolding recordWalk start entryBytes traceBytes flatten
   recording-start log trace h l =
       record {
         run = start w;
@@ -176,8 +176,8 @@ module _ (w p : ℕ) (tree events : List ℕ) (accepts : startVerdict w p tree .
         stealCount = refl;
         logged = refl;
         traced = refl;
-        loaded = sym (start-loads (kinds tree) (weights tree) (frame .some) (frame .shape));
-        whole = omega arith;
+        loaded = sym (start-loads (kinds tree) (frame .some) (frame .shape) (weights tree));
+        whole = start-whole (kinds tree) (frame .some) (frame .shape);
       }
 
   module _ {k : ℕ} {s : Fields} {log trace ls : List ℕ} {logs steals : ℕ}
@@ -366,18 +366,13 @@ module _ (w p : ℕ) (tree events : List ℕ) (accepts : startVerdict w p tree .
         stole-weight ends sums long right longer added light =
             rw (taken-held .0, so .loaded)
             (begin-movable (kinds tree) (weights tree) (frame .shape) takes ends sums long right longer added
-            (rw (so .loaded) at (so .whole)) light)
+            (so .whole (weights tree)) light)
 
         -- and then the loads are the next run's.
         stole-loads : loadMoved ls a b (partWeight (kinds tree) (weights tree) step)
             ≡ loads mostWorkers (kinds tree) (weights tree) (stole-run .phases)
         unfolding steal
         stole-loads = rw (taken-held .0, so .loaded) (sym (begin-loads (kinds tree) (weights tree) (frame .shape) takes))
-
-        stole-whole : sum (λ x. x) (loads mostWorkers (kinds tree) (weights tree) (stole-run .phases))
-            ≡ weightBefore (weights tree) (length (kinds tree))
-        unfolding steal
-        stole-whole = begin-whole (kinds tree) (weights tree) (frame .shape) takes ∙ rw (so .loaded) at (so .whole)
 
         pub stole-next : Recording w p tree events (k + 1) (eventMove s tree a b .after) log
             (recordPut trace steals a b (numberValue number))
@@ -400,5 +395,5 @@ module _ (w p : ℕ) (tree events : List ℕ) (accepts : startVerdict w p tree .
                   (omega (arith, length-trace p (kinds tree) ss, so .stealCount))
                   (omega (arith, so .traceRoom, stole-room .3, frame .most)) (so .traced));
               loaded = stole-loads;
-              whole = rw stole-loads stole-whole;
+              whole = begin-whole (kinds tree) takes (so .whole);
             }

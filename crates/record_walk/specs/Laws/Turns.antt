@@ -57,6 +57,7 @@ turn-done {w} {p} {tree} {events} {k} {s} {log} {trace} {ls} {logs} accepts so l
       logs = so .logCount;
       steals = so .stealCount;
       loaded = so .loaded;
+      whole = so .whole;
       logged = so .logged;
       traced = so .traced;
     }

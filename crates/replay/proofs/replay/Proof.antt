@@ -1,6 +1,6 @@
 -- `replay::replay` meets its contract: the call is judged in the order of the rules' refusals, first what it is given, then
 -- the trace record by record, and the list is left as it was unless every record is accepted. Assumes nothing.
-use mathlib.Core.Path.{_≡_}
+use mathlib.Core.Path.{_≡_, refl}
 use lib.ListN.{length}
 use borrow.Author.Needs.{needs}
 use Rattle.arguments.specs.Terms.{replayJudged}
@@ -33,10 +33,10 @@ returns c =
 
 run-requires : tie.Need-run-requires
 run-requires c κs =
-    let one = c .before in
+    let one = c .before .before in
     let at = one .before .before in
     let a = entry at .args in
-    replay-ready _ _ (a .tree .now) (a .trace .now) (a .list .now) (at .judge-replay .result) (judged at) (one .if1 .left)
+    (replay-ready _ _ (a .tree .now) (a .trace .now) (a .list .now) (at .judge-replay .result) (judged at) (one .if1 .left), refl)
 
 answer-requires : tie.Need-answer-requires
 answer-requires c κs = search needs
@@ -48,11 +48,11 @@ returns-2 : tie.Need-returns-2
 returns-2 c =
     let walked = c .before .before .before .before in
     let run = walked .run in
-    let one = walked .before .before in
+    let one = walked .before .before .before in
     let at = one .before .before in
     let a = entry at .args in
     walk-answered _ _ (a .tree .now) (a .trace .now) (a .list .now) (at .judge-replay .result) (judged at) (one .if1 .left)
-    (run .result) (run .last .1 .1 .1 .1 .0) (run .ensures) (c .answer .result) (c .answer .ensures)
+    (run .result) (run .last .1 .1 .1 .1 .0) _ (run .ensures) (c .answer .result) (c .answer .ensures)
 
 pub replay-spec : {M : Type 1} → statement M
 replay-spec =

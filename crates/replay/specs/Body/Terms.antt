@@ -5,9 +5,9 @@ use mathlib.Core.Bool.{true}
 use mathlib.Core.List.{List}
 use lib.ListN.{length}
 use Rattle.rules.specs.Bytes.{wholeRecords}
-use Rattle.rules.specs.Tree.{kinds, weights}
+use Rattle.rules.specs.Tree.{kinds, classes, weights}
 use Rattle.rules.specs.Scheduling.{mostWorkers}
-use Rattle.rules.specs.Traces.{entryBytes, runList, loads}
+use Rattle.rules.specs.Traces.{entryBytes, runList, loads, classLoads}
 use Rattle.rules.specs.Calls.{mostTraceRecords, written, startVerdict}
 use Rattle.replay_walk.specs.declared.Ended.{Ended}
 use Rattle.replay_walk.specs.Terms.{ruled}
@@ -19,12 +19,13 @@ pub record Admitted (w p : ℕ) (tree trace : List ℕ) (n : ℕ) (list : List �
   pub steps : n ≡ length (kinds tree)
   pub fits : 4 * length (kinds tree) ≤ length list
 
--- The verdict on the trace's records; then either the lent list is as it was, or the phases are answered and their run list
--- stands at the front of it.
-pub record Result (w p : ℕ) (tree trace list : List ℕ) (r : Ended) (after : List ℕ) : Type 0 where
+-- The verdict on the trace's records; then either the lent list is as it was, or the phases are answered, their run list stands at
+-- the front of it, and the classes are charged with their loads.
+pub record Result (w p : ℕ) (tree trace list : List ℕ) (r : Ended) (after charges : List ℕ) : Type 0 where
   pub number : r .number ≡ ruled w p tree trace .verdict .number
   pub position : r .position ≡ ruled w p tree trace .verdict .position
   pub same : (r .number ≡ 0 → ⊥) → after ≡ list
   pub phases : r .number ≡ 0 → r .phases ≡ length (ruled w p tree trace .state)
   pub loaded : r .number ≡ 0 → r .loads ≡ loads mostWorkers (kinds tree) (weights tree) (ruled w p tree trace .state)
   pub listed : r .number ≡ 0 → after ≡ written (entryBytes (runList p (kinds tree) (ruled w p tree trace .state))) list
+  pub classed : r .number ≡ 0 → charges ≡ classLoads (kinds tree) (classes tree) (weights tree) (ruled w p tree trace .state)

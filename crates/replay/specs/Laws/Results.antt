@@ -6,9 +6,9 @@ use native.Mathlib.Decide.{ℕ-discrete}
 use lib.ListN.{length}
 use borrow.Author.Tests.{eq-eqb, ne-eqb}
 use Rattle.rules.specs.Bytes.{records, Verdict, accepted}
-use Rattle.rules.specs.Tree.{kinds, weights}
-use Rattle.rules.specs.Scheduling.{Phase}
-use Rattle.rules.specs.Traces.{replayWalk, loads, heaviest}
+use Rattle.rules.specs.Tree.{kinds, classes, weights}
+use Rattle.rules.specs.Scheduling.{mostWorkers, Phase}
+use Rattle.rules.specs.Traces.{replayWalk, loads, heaviest, classLoads}
 use Rattle.rules.specs.Calls.{replayOf, replayRefused, replayCall, Replayed as Call}
 use Rattle.tree.specs.declared.Accepted.{Accepted}
 use Rattle.replay_walk.specs.declared.Ended.{Ended}
@@ -30,12 +30,13 @@ unfolding replayRefused refusal answers
 refusal-meets v list call e r f = (f ∙ ap {B = Replayed} answers e, ap (λ (c : Call). c .list) e)
 
 -- The answers on phases, by their count and their loads.
-phase-answers : (p : ℕ) (tree : List ℕ) (phs : List Phase) (list : List ℕ) (many : ℕ) (ls : List ℕ) → many ≡ length phs
-    → ls ≡ loads 16 (kinds tree) (weights tree) phs
-    → _≡_ {A = Replayed} (record { number = 0; position = 0; phases = many; loads = ls; heaviest = heaviest ls })
+phase-answers : (p : ℕ) (tree : List ℕ) (phs : List Phase) (list : List ℕ) (many : ℕ) (ls byClass : List ℕ) → many ≡ length phs
+    → ls ≡ loads mostWorkers (kinds tree) (weights tree) phs → byClass ≡ classLoads (kinds tree) (classes tree) (weights tree) phs
+    → _≡_ {A = Replayed}
+    (record { number = 0; position = 0; phases = many; loads = ls; heaviest = heaviest ls; classes = byClass })
     (answers (replayOf p tree phs list))
 unfolding answers replayOf accepted
-phase-answers p tree phs list many ls e f = rw (e, f) refl
+phase-answers p tree phs list many ls byClass e f g = rw (e, f, g) refl
 
 module _ (w p : ℕ) (tree trace list : List ℕ) (a : Accepted) (is : a ≡ replayJudged w p tree trace (length list)) where
   pub given-refusal : (a .number ≡ 0 → ⊥) → (r : Replayed) → r ≡ refusal (a .number) (a .position)
@@ -43,8 +44,8 @@ module _ (w p : ℕ) (tree trace list : List ℕ) (a : Accepted) (is : a ≡ rep
   given-refusal n = refusal-meets _ list _ (replay-given w p tree trace list a is n)
 
   -- The walk over the trace's records, and the answer on what it comes to.
-  module _ (z : a .number ≡ 0) (ended : Ended) (out : List ℕ) (so : Result w p tree trace list ended out)
-      (r : Replayed) (answer : r ≡ answered (ended .number) (ended .position) (ended .phases) (ended .loads)) where
+  module _ (z : a .number ≡ 0) (ended : Ended) (out charges : List ℕ) (so : Result w p tree trace list ended out charges)
+      (r : Replayed) (answer : r ≡ answered (ended .number) (ended .position) (ended .phases) (ended .loads) charges) where
     record-refusal : (ended .number ≡ 0 → ⊥) → Meets (replayCall w p tree trace list) r out
     unfolding answered
     record-refusal n =
@@ -60,7 +61,8 @@ module _ (w p : ℕ) (tree trace list : List ℕ) (a : Accepted) (is : a ≡ rep
     all-answered none =
         let all = none-refused w p tree trace list a is z (sym (so .number) ∙ none) in (
           answer
-              ∙ rw (eq-eqb (ended .number) 0 none) (phase-answers p tree _ list _ _ (so .phases none) (so .loaded none))
+              ∙ rw (eq-eqb (ended .number) 0 none)
+              (phase-answers p tree _ list _ _ _ (so .phases none) (so .loaded none) (so .classed none))
               ∙ ap {B = Replayed} answers all,
           so .listed none ∙ ap (λ (c : Call). c .list) all,
         )

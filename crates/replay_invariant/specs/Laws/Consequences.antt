@@ -15,12 +15,12 @@ use Rattle.rules.specs.Scheduling.{afterRun, Phase, phaseAt, Entry}
 use Rattle.rules.specs.Traces.{covers, runAlone, runningOrder, runList, replayWalk}
 use Rattle.rules.specs.Calls.{startVerdict, replayVerdict}
 use Rattle.tree.specs.Laws.Counts.{length-count}
-use Rattle.tree.specs.Laws.Verdicts.{first-accepts}
+use Rattle.tree.specs.Laws.Verdicts.{cond-same, first-accepts}
 use Rattle.tree_scan.specs.Laws.Starts.{start-tree-accepts, admitted-policy}
 use Rattle.tree_scan.specs.Laws.Shape.{Shape}
 use Rattle.tree_scan.specs.Laws.Frames.{endAt, sizeAt, Frame, accepted-frame}
 use Rattle.run_invariant.specs.Invariant.{logOf, self, frontierEnd}
-use Rattle.run_invariant.specs.Laws.Counts.{sum-ones, sum-same, sum-alike, sum-missed, sum-self, cond-same}
+use Rattle.run_invariant.specs.Laws.Counts.{sum-ones, sum-same, sum-alike, sum-missed, sum-self}
 use Rattle.run_invariant.specs.Laws.Weights.{sum-append}
 use Rattle.run_invariant.specs.Laws.Moves.{log-append}
 use Rattle.replay_invariant.specs.Invariant.{Cut, Split}

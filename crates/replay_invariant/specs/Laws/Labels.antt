@@ -15,9 +15,10 @@ use Rattle.rules.specs.Bytes.{any}
 use Rattle.rules.specs.Tree.{kindAt, isEnd, taskEnd}
 use Rattle.rules.specs.Scheduling.{pushes, Phase, firstPhases, phaseAt, begin}
 use Rattle.rules.specs.Traces.{fromStep, covers}
+use Rattle.tree.specs.Laws.Verdicts.{cond-same}
 use Rattle.tree_scan.specs.Laws.Shape.{Shape}
 use Rattle.tree_scan.specs.Laws.Frames.{endAt, sizeAt}
-use Rattle.run_invariant.specs.Laws.Counts.{Has, has-cases, has-none, one-true, has-head, has-tail, cond-same}
+use Rattle.run_invariant.specs.Laws.Counts.{Has, has-cases, has-none, one-true, has-head, has-tail}
 use Rattle.run_invariant.specs.Laws.Weights.{end-within, nested-end, inside-from, from-inside, outside-from, span-in, from-self}
 use Rattle.run_invariant.specs.Laws.Weights.{pushed-within}
 use Rattle.run_invariant.specs.Laws.Moves.{begin-length, begin-new, begin-robbed, begin-other, begin-same}

@@ -10,22 +10,25 @@ use lib.ListN.{length, drop, getD, set, replicate, length-set, length-replicate,
 use lib.Seq.{getD-set-same, getD-set-other}
 use lib.Dec.{eqb, leb}
 use borrow.Author.Tests.{leb-true, ne-eqb}
-use Rattle.rules.specs.Bytes.{records, wholeRecords, accepted, sum, Walked, walk}
+use Rattle.rules.specs.Bytes.{records, wholeRecords, accepted, Walked, walk}
 use Rattle.rules.specs.Tree.{kinds, weights, ordinal}
 use Rattle.rules.specs.Scheduling.{workFirst, helpFirst, mostWorkers, Phase, firstPhases, phaseAt}
-use Rattle.rules.specs.Traces.{latestPhase, judgeTraceRecord, nextPhases, replayWalk, loads}
+use Rattle.rules.specs.Traces.{latestPhase, judgeTraceRecord, nextPhases, replayWalk, phaseLoad, loads}
 use Rattle.rules.specs.Calls.{mostTraceRecords, startVerdict}
 use Rattle.tree.specs.Laws.Records.{length-records}
 use Rattle.tree.specs.Laws.Walks.{walk-stop, walk-end}
-use Rattle.tree_scan.specs.Laws.Frames.{Frame, accepted-frame}
+use Rattle.tree_scan.specs.Laws.Shape.{Shape}
+use Rattle.tree_scan.specs.Laws.Frames.{endAt, sizeAt, Frame, accepted-frame}
 use Rattle.tree_scan.specs.Laws.Places.{root-first}
 use Rattle.tree_scan.specs.Laws.Starts.{start-tree-accepts, start-workers, admitted-policy}
 use Rattle.tree_tables.specs.Terms.{Ends, Openers, Sums, weightBefore}
 use Rattle.run_invariant.specs.Laws.Counts.{and-both}
 use Rattle.replay_invariant.specs.Invariant.{Split}
+use Rattle.replay_invariant.specs.Laws.Parts.{covered-sum}
 use Rattle.replay_invariant.specs.Laws.Reads.{Based, based-fresh}
 use Rattle.replay_invariant.specs.Laws.Labels.{first-labels}
 use Rattle.replay_invariant.specs.Laws.Always.{first-split}
+use Rattle.loads.specs.Terms.{Whole}
 use Rattle.loads.specs.Laws.Loads.{start-loads}
 use Rattle.trace.specs.Terms.{RecordAt}
 use Rattle.replay_spec.specs.Workers.{judgedWorkers}
@@ -35,6 +38,12 @@ use Rattle.replay_walk.specs.declared.Ended.{Ended}
 use Rattle.replay_walk.specs.Terms.{Retraced}
 use Rattle.replay_spec.specs.Laws.Begins.{based-at}
 use Rattle.replay_invariant.specs.Terms.{free, labelOf, Labels}
+
+-- Phases that split the tree cover each step once, so all loads together are its weight.
+pub split-whole : (p : ℕ) (ks : List ℕ) → 1 ≤ length ks → Shape (length ks) (endAt ks) (sizeAt ks) → (phs : List Phase)
+    → Split p ks phs → Whole ks phs
+unfolding phaseLoad weightBefore
+split-whole p ks some-step sh phs split ws = covered-sum ks sh p some-step phs split (λ j. getD ws j 0)
 
 pub record Retracing (w p : ℕ) (tree trace : List ℕ) (k : ℕ) (labels firsts bases ordinals latest ls : List ℕ) : Type 0 where
   pub either : (p ≡ workFirst) ⊎ (p ≡ helpFirst)
@@ -60,7 +69,6 @@ pub record Retracing (w p : ℕ) (tree trace : List ℕ) (k : ℕ) (labels first
       → Based (kinds tree) (frame .shape) (phaseAt phs i) (getD bases i 0) (getD ordinals i 0)
   pub latests : Latest phs latest
   pub loaded : ls ≡ loads mostWorkers (kinds tree) (weights tree) phs
-  pub whole : sum (λ x. x) ls ≡ weightBefore (weights tree) (length (kinds tree))
 
 -- The tree's tables; all weights together fit a sum.
 pub record Tables (tree ends openers sums : List ℕ) : Type 0 where
@@ -129,7 +137,7 @@ module _ (w p : ℕ) (tree trace : List ℕ) (accepts : startVerdict w p tree .n
       → Sums (weights tree) sums (length (kinds tree)) → n ≡ length (kinds tree)
       → Retracing w p tree trace 0 (set labels 0 0) (set firsts 0 0) bases ordinals (set (replicate mostWorkers free) 0 0)
       (set (replicate mostWorkers 0) 0 (getD sums n 0))
-  unfolding replayWalk firstPhases phaseAt sum
+  unfolding replayWalk firstPhases phaseAt
   started labels firsts bases ordinals sums n unlabelled room zeros also added count =
       let ks = kinds tree in
       let sh = frame .shape in
@@ -163,8 +171,7 @@ module _ (w p : ℕ) (tree trace : List ℕ) (accepts : startVerdict w p tree .n
             (base-zero i (omega arith)) (ordinal-zero i (omega arith) ∙ sym root)
             (based-fresh ks sh 0 0 (omega (arith, frame .some)));
         latests = first-latest;
-        loaded = rw all (sym (start-loads ks (weights tree) (frame .some) sh));
-        whole = omega (arith, all);
+        loaded = rw all (sym (start-loads ks (frame .some) sh (weights tree)));
       }
 
   -- The tables then, of those that the walk is lent and of its own.

@@ -33,7 +33,7 @@ use Rattle.policy.specs.Contract.{mostPhases}
 use Rattle.replay_spec.specs.Begins.{basesBegun, ordinalsBegun}
 use Rattle.replay_spec.specs.Laws.Reading.{opener-parts, read-allowed, read-broken}
 use Rattle.loads.specs.Terms.{loadMoved, weightBetween, Movable}
-use Rattle.loads.specs.Laws.Loads.{Takes, part-between, begin-loads, begin-whole, begin-movable}
+use Rattle.loads.specs.Laws.Loads.{Takes, part-between, begin-loads, begin-movable}
 use Rattle.trace.specs.Contract.{numberBy}
 use Rattle.trace.specs.declared.number.TraceNumber.{TraceNumber}
 use Rattle.trace.specs.Terms.{RecordAt}
@@ -42,7 +42,7 @@ use Rattle.replay_spec.specs.Laws.Workers.{fine-workers, latest-some, latest-ne
 use Rattle.replay_walk.specs.declared.Ended.{Ended}
 use Rattle.replay_walk.specs.Terms.{Retraced}
 use Rattle.replay_spec.specs.Laws.Begins.{firsts-next, bases-within, bases-next}
-use Rattle.replay_walk.specs.Laws.Retracing.{Retracing, Tables, retrace-stopped}
+use Rattle.replay_walk.specs.Laws.Retracing.{split-whole, Retracing, Tables, retrace-stopped}
 use Rattle.replay_invariant.specs.Terms.{free, labelOf, Climb, labelled, PartOf}
 
 -- What was pushed is not step 0.
@@ -190,7 +190,7 @@ module _ {w p : ℕ} {tree trace : List ℕ} {k : ℕ} {labels firsts bases ordi
       part-movable =
           rw (j .so .loaded)
           (begin-movable ks (weights tree) sh takes ends sums (t .tables .long) (t .tables .right) (t .tables .longer) (t .tables .added)
-          (rw (j .so .loaded) at (j .so .whole)) (t .tables .light))
+          (split-whole p ks (j .so .frame .some) sh (j .so .phs) (j .so .split) (weights tree)) (t .tables .light))
 
       next-phases : nextPhases p ks (j .so .phs) (getD (records 4 trace) k []) ≡ begin (j .so .phs) thief from s
       next-phases =
@@ -233,7 +233,6 @@ module _ {w p : ℕ} {tree trace : List ℕ} {k : ℕ} {labels firsts bases ordi
             let room = read-ready .0 in
             let baseFits : k + 1 < length bases = omega (arith, j .so .baseRoom) in
             let begun = own .0 in
-            let loaded = load ∙ next-loads in
             record {
               either = j .so .either;
               most = j .so .most;
@@ -263,6 +262,5 @@ module _ {w p : ℕ} {tree trace : List ℕ} {k : ℕ} {labels firsts bases ordi
                   (omega (arith, j .so .ordinalRoom)) p number o counted (j .so .based) allowed step-is taken);
               latests = rw (last, j .so .many)
                   (latest-next (j .so .phs) latest (j .so .latests) thief from s (omega (arith, j .so .latestRoom, two-workers .0)) begun);
-              loaded = loaded;
-              whole = rw loaded (begin-whole ks (weights tree) sh takes ∙ (rw (j .so .loaded) at (j .so .whole)));
+              loaded = load ∙ next-loads;
             }

@@ -1,6 +1,6 @@
 -- Truth values, intervals of numbers, members of lists, and sums over lists: what the laws of phases and runs count with.
 use Prim.Native.Nat.{ℕ, zero, suc, _+_, _≤_, _<_}
-use mathlib.Core.Path.{_≡_, refl, sym, ap}
+use mathlib.Core.Path.{_≡_, refl, sym, ap, _∙_}
 use mathlib.Core.Bool.{Bool, true, false, cond, _&&_, _||_, true≢false, or-false, or-assoc, or-true}
 use mathlib.Core.List.{List, [], _∷_, _++_}
 use native.Mathlib.Decide.{ℕ-discrete, decLe}
@@ -21,10 +21,6 @@ and-both false y e = absurd (true≢false (sym e))
 pub not-so : (x : Bool) → (x ≡ true → ⊥) → x ≡ false
 not-so true n = absurd (n refl)
 not-so false n = refl
-
-pub cond-same : {A : Type 0} (x : Bool) (a : A) → cond x a a ≡ a
-cond-same true a = refl
-cond-same false a = refl
 
 -- Counted as 1 or 0.
 pub at-most-one : (x : Bool) → cond x 1 0 ≤ 1
@@ -211,3 +207,25 @@ sum-self f x (suc m) a l u =
       | yes e ↦ rw (eq-eqb x a e) (omega (arith, sum-missed f x m (suc a) (λ i h s. omega arith), ap f e))
       | no n ↦ rw (ne-eqb x a n) (omega (arith, sum-self f x m (suc a) (omega arith) (omega arith)))
     ]
+
+-- Two sums, one inside the other, in either order.
+module _ {A : Type 0} where
+  pub sum-nothing : (l : List A) → sum (λ x. 0) l ≡ 0
+  unfolding sum
+  sum-nothing [] = refl
+  sum-nothing (x ∷ l) = omega (arith, sum-nothing l)
+
+  pub sum-exchange : {B : Type 0} (g : B → A → ℕ) (bs : List B) (l : List A)
+      → sum (λ b. sum (g b) l) bs ≡ sum (λ x. sum (λ b. g b x) bs) l
+  unfolding sum
+  sum-exchange g [] l = sym (sum-nothing l)
+  sum-exchange g (b ∷ bs) l =
+      omega (arith, sum-exchange g bs l, sum-plus (λ x. sum (λ c. g c x) (b ∷ bs)) (g b) (λ x. sum (λ c. g c x) bs) (λ x. refl) l)
+
+  -- Sums by a key: each member has a key below m, so the sums over the members of each key are together the sum over all.
+  pub keys-sum : (key f : A → ℕ) (m : ℕ) (d : A) (l : List A) → ((i : ℕ) → i < length l → key (getD l i d) < m)
+      → sum (λ k. sum (λ x. cond (eqb (key x) k) (f x) 0) l) (count 0 m) ≡ sum f l
+  keys-sum key f m d l below =
+      sum-exchange (λ k x. cond (eqb (key x) k) (f x) 0) (count 0 m) l
+      ∙ sum-alike (λ x. sum (λ k. cond (eqb (key x) k) (f x) 0) (count 0 m)) f d l
+      (λ i h. sum-self (λ k. f (getD l i d)) (key (getD l i d)) m 0 (omega arith) (omega (arith, below i h)))

@@ -4,16 +4,16 @@ use Prim.Native.Nat.{ℕ, zero, suc, _+_, _-_, _*_, _/_, _%_, _≤_, _<_}
 use mathlib.Core.Path.{_≡_, refl, sym, ap, _∙_}
 use mathlib.Core.Bool.{Bool, true, false, _&&_, _||_, true≢false, and-false, or-true}
 use mathlib.Core.List.{List, []}
-use native.Mathlib.Decide.{ℕ-discrete, decLe}
+use native.Mathlib.Decide.{ℕ-discrete, decLt, decLe}
 use native.Mathlib.Nat.{lt-of-not-le}
 use native.Mathlib.Numerals.{add-one, sub-one}
 use native.Mathlib.Omega.{arith}
 use lib.ListN.{length, drop, getD}
-use lib.Dec.{eqb, leb}
-use borrow.Author.Tests.{eq-eqb, ne-eqb, le-leb, lt-leb}
+use lib.Dec.{eqb, ltb, leb}
+use borrow.Author.Tests.{eq-eqb, ne-eqb, lt-ltb, le-ltb, le-leb, lt-leb, ltb-true}
 use Rattle.rules.specs.Bytes.{Verdict, accepted, Walked, walk, wholeRecords, refusedIf, firstRefused}
-use Rattle.rules.specs.Tree.{treeRecords, kind, isAsync, isFinish, isEnd, kinds, openAfter, wellFormed, judgeTreeRecord, nextOpen}
-use Rattle.rules.specs.Tree.{treeWalk, wrongLength, treeVerdict}
+use Rattle.rules.specs.Tree.{treeRecords, kind, isAsync, isFinish, isEnd, classCount, class, kinds, openAfter, hasKind, wellFormed}
+use Rattle.rules.specs.Tree.{judgeTreeRecord, nextOpen, treeWalk, wrongLength, treeVerdict}
 use Rattle.tree.specs.declared.Accepted.{Accepted}
 use Rattle.tree.specs.Contract.{acceptance}
 use Rattle.tree.specs.Laws.Records.{length-records, length-kinds, field-at}
@@ -23,7 +23,7 @@ use Rattle.tree.specs.Laws.Walks.{walk-on, walk-stop, walk-end}
 
 -- Well formed, from the four bytes.
 unfoldable pub formed : ℕ → ℕ → ℕ → ℕ → Bool
-formed k a b c = (isAsync k || isFinish k || isEnd k) && eqb a 0 && eqb b 0 && eqb c 0
+formed k a b c = (isAsync k || isFinish k || isEnd k) && ltb a classCount && eqb b 0 && eqb c 0
 
 -- Another kind.
 pub formed-other : (k a b c : ℕ) → ((j : ℕ) → 1 ≤ j → j ≤ 3 → k ≡ j → ⊥) → formed k a b c ≡ false
@@ -35,13 +35,10 @@ formed-other k a b c other =
       ne-eqb k 3 (other 3 (omega arith) (omega arith)),
     ) refl
 
-pub formed-first : (k a b c : ℕ) → (a ≡ 0 → ⊥) → formed k a b c ≡ false
+-- No class.
+formed-class : (k a b c : ℕ) → 16 ≤ a → formed k a b c ≡ false
 unfolding formed
-formed-first k a b c h = rw (ne-eqb a 0 h, and-false (isAsync k || isFinish k || isEnd k)) refl
-
-pub formed-second : (k a b c : ℕ) → (b ≡ 0 → ⊥) → formed k a b c ≡ false
-unfolding formed
-formed-second k a b c h = rw (ne-eqb b 0 h, and-false ((isAsync k || isFinish k || isEnd k) && eqb a 0)) refl
+formed-class k a b c h = rw (le-ltb a 16 h, and-false (isAsync k || isFinish k || isEnd k)) refl
 
 one-of-three : (k : ℕ) → 1 ≤ k → k ≤ 3 → isAsync k || isFinish k || isEnd k ≡ true
 unfolding isAsync isFinish isEnd
@@ -51,34 +48,32 @@ one-of-three (suc (suc zero)) l h = refl
 one-of-three (suc (suc (suc zero))) l h = refl
 one-of-three (suc (suc (suc (suc k)))) l h = absurd (omega arith)
 
-pub formed-last : (k a b c : ℕ) → 1 ≤ k → k ≤ 3 → a ≡ 0 → b ≡ 0 → formed k a b c ≡ eqb c 0
+-- One of the kinds: the other three bytes decide.
+formed-rest : (k a b c : ℕ) → 1 ≤ k → k ≤ 3 → formed k a b c ≡ ltb a classCount && eqb b 0 && eqb c 0
 unfolding formed
-formed-last k a b c l h x y = rw (one-of-three k l h, eq-eqb a 0 x, eq-eqb b 0 y) refl
+formed-rest k a b c l h = rw (one-of-three k l h) refl
 
--- The four bytes as one number, the kind lowest: from 1 to 3 where they are well formed, and nowhere else.
-module _ (k a b c head : ℕ) (number : head ≡ k + 256 * a + 65536 * b + 16777216 * c) where
-  pub head-none : head < 1 → false ≡ formed k a b c
-  head-none h = sym (formed-other k a b c (λ j l u e. absurd (omega arith)))
+-- The four bytes as one number, the kind lowest. Where that is one of the three they are well formed exactly where the number is
+-- below 16 times 256.
+module _ (k a b c head : ℕ) (number : head ≡ k + 256 * a + 65536 * b + 16777216 * c) (l : 1 ≤ k) (h : k ≤ 3) where
+  rest-below : head < 4096 → ltb a classCount && eqb b 0 && eqb c 0 ≡ true
+  rest-below m = rw (lt-ltb a 16 (omega arith), eq-eqb b 0 (omega arith), eq-eqb c 0 (omega arith)) refl
 
-  pub head-most : 1 ≤ head → leb head 3 ≡ formed k a b c
-  head-most l =
-      elim (decLe head 3) [
-        | yes h ↦
-            let last = formed-last k a b c (omega arith) (omega arith) (omega arith) (omega arith) in
-            le-leb head 3 h ∙ sym (last ∙ eq-eqb c 0 (omega arith))
-        | no n ↦ lt-leb head 3 (omega arith) ∙ sym (elim (ℕ-discrete a 0) [
-          | no m ↦ formed-first k a b c m
-          | yes x ↦ elim (ℕ-discrete b 0) [
-            | no m ↦ formed-second k a b c m
-            | yes y ↦ elim (decLe k 3) [
-              | no m ↦ formed-other k a b c (λ j o u e. absurd (omega arith))
-              | yes u ↦ elim (decLe 1 k) [
-                | no m ↦ formed-other k a b c (λ j o v e. absurd (omega arith))
-                | yes o ↦ formed-last k a b c o u x y ∙ ne-eqb c 0 (λ z. absurd (omega arith))
-              ]
-            ]
-          ]
-        ])
+  rest-above : 4096 ≤ head → ltb a classCount && eqb b 0 && eqb c 0 ≡ false
+  rest-above m =
+      elim (ℕ-discrete c 0) [
+        | no n ↦ rw (ne-eqb c 0 n) (and-false (ltb a classCount && eqb b 0))
+        | yes z ↦ elim (ℕ-discrete b 0) [
+          | no n ↦ rw (ne-eqb b 0 n, and-false (ltb a classCount)) refl
+          | yes y ↦ rw (le-ltb a 16 (omega arith)) refl
+        ]
+      ]
+
+  pub head-below : ltb head 4096 ≡ formed k a b c
+  head-below =
+      elim (decLt head 4096) [
+        | yes m ↦ lt-ltb head 4096 m ∙ sym (formed-rest k a b c l h ∙ rest-below m)
+        | no n ↦ le-ltb head 4096 (omega arith) ∙ sym (formed-rest k a b c l h ∙ rest-above (omega arith))
       ]
 
 module _ (tree : List ℕ) (i : ℕ) (h : i < length (kinds tree)) where
@@ -95,7 +90,7 @@ module _ (tree : List ℕ) (i : ℕ) (h : i < length (kinds tree)) where
   pub well-formed-at :
       wellFormed (getD (treeRecords tree) i [])
       ≡ formed (getD tree (8 * i) 0) (getD tree (8 * i + 1) 0) (getD tree (8 * i + 2) 0) (getD tree (8 * i + 3) 0)
-  unfolding wellFormed formed
+  unfolding wellFormed hasKind class formed
   well-formed-at = rw (record-kind, byte 1 (omega arith), byte 2 (omega arith), byte 3 (omega arith)) refl
 
 -- ---- one record's refusal
@@ -137,7 +132,7 @@ judged-open d r e =
     )
 
 pub judged-kind : (d : ℕ) (r : List ℕ) → judgeTreeRecord d r ≡ 0 → (1 ≤ kind r) × (kind r ≤ 3)
-unfolding wellFormed formed
+unfolding wellFormed hasKind class formed
 judged-kind d r e = (
   elim (decLe 1 (kind r)) [ yes h ↦ h | no h ↦ other (λ j l u s. absurd (omega (arith, lt-of-not-le h))) ],
   elim (decLe (kind r) 3) [ yes h ↦ h | no h ↦ other (λ j l u s. absurd (omega (arith, lt-of-not-le h))) ],
@@ -145,6 +140,15 @@ judged-kind d r e = (
   where
     other : {A : Type 0} → ((j : ℕ) → 1 ≤ j → j ≤ 3 → kind r ≡ j → ⊥) → A
     other f = absurd (true≢false (sym (judged-formed d r e) ∙ formed-other (kind r) (getD r 1 0) (getD r 2 0) (getD r 3 0) f))
+
+pub judged-class : (d : ℕ) (r : List ℕ) → judgeTreeRecord d r ≡ 0 → class r < classCount
+unfolding wellFormed hasKind class formed
+judged-class d r e =
+    elim (decLt (class r) 16) [
+      | yes h ↦ h
+      | no n ↦ absurd
+          (true≢false (sym (judged-formed d r e) ∙ formed-class (kind r) (class r) (getD r 2 0) (getD r 3 0) (omega arith)))
+    ]
 
 -- ---- the walk as a loop
 

@@ -1,10 +1,11 @@
--- The numbers of an interval: how many, one more at its end, and two intervals one behind the other.
-use Prim.Native.Nat.{ℕ, zero, suc, _+_}
-use mathlib.Core.Path.{_≡_, refl, ap}
-use mathlib.Core.List.{List, [], _∷_, _++_}
+-- The numbers of an interval: how many, one more at its end, two intervals one behind the other, and what a function makes of them.
+use Prim.Native.Nat.{ℕ, zero, suc, _+_, _<_}
+use mathlib.Core.Path.{_≡_, refl, sym, ap, _∙_}
+use mathlib.Core.List.{List, [], _∷_, _++_, map, map-id}
 use native.Mathlib.Nat.{zero-add, add-zero}
 use native.Mathlib.Omega.{arith}
-use lib.ListN.{length}
+use lib.ListN.{length, getD, length-map}
+use lib.Seq.{ext-getD}
 use Rattle.rules.specs.Bytes.{count}
 
 pub length-count : (m low : ℕ) → length (count low m) ≡ m
@@ -28,3 +29,26 @@ count-split (suc j) k low =
     let e : suc j + k ≡ suc (j + k) = omega arith in
     let f : low + suc j ≡ suc low + j = omega arith in
     rw (e, f) (ap (λ (x : List ℕ). low ∷ x) (count-split j k (suc low)))
+
+-- What stands at place i.
+pub map-at : (f : ℕ → ℕ) (n low i : ℕ) → i < n → getD (map f (count low n)) i 0 ≡ f (low + i)
+unfolding count
+map-at f zero low i h = absurd (omega arith)
+map-at f (suc n) low zero h = rw add-zero refl
+map-at f (suc n) low (suc i) h =
+    let place : low + suc i ≡ suc low + i = omega arith in
+    rw place (map-at f n (suc low) i (omega arith))
+
+pub count-at : (n low i : ℕ) → i < n → getD (count low n) i 0 ≡ low + i
+count-at n low i h = ap (λ (l : List ℕ). getD l i 0) (sym (map-id (count low n))) ∙ map-at (λ (x : ℕ). x) n low i h
+
+pub map-length : (f : ℕ → ℕ) (n low : ℕ) → length (map f (count low n)) ≡ n
+map-length f n low = length-map (count low n) f ∙ length-count n low
+
+-- A list that has the same at each place.
+pub map-is : (f : ℕ → ℕ) (n : ℕ) (l : List ℕ) → length l ≡ n → ((i : ℕ) → i < n → getD l i 0 ≡ f i) → l ≡ map f (count 0 n)
+map-is f n l size same =
+    ext-getD 0 l (map f (count 0 n)) (size ∙ sym (map-length f n 0)) (λ i h.
+    let within : i < n = omega arith in
+    let place : 0 + i ≡ i = omega arith in
+    same i within ∙ sym (map-at f n 0 i within ∙ rw place refl))

@@ -1,15 +1,15 @@
 -- Laws of records, over their width: how many a list of bytes has, and which byte of the list a field is; and of fields of two
--- bytes. Then of the tree's records: kinds and weights.
+-- bytes. Then of the tree's records: kinds, classes and weights.
 use Prim.Native.Nat.{ℕ, zero, suc, _+_, _*_, _/_, _≤_, _<_}
-use mathlib.Core.Path.{_≡_, refl, ap, _∙_}
-use mathlib.Core.List.{List, [], _∷_}
+use mathlib.Core.Path.{_≡_, refl, sym, ap, _∙_}
+use mathlib.Core.List.{List, [], _∷_, map}
 use native.Mathlib.Nat.{mul-zero, mul-suc}
 use native.Mathlib.Omega.{arith}
 use lib.ListN.{length, take, drop, getD, length-take, length-drop, length-map, drop-of-length-le, List·getD-map}
 use lib.ListN.{List·getD-eq-default}
 use lib.Seq.{getD-take, getD-drop, drop-drop, drop-cons}
 use Rattle.rules.specs.Bytes.{cut, records, littleEndian, twoBytes}
-use Rattle.rules.specs.Tree.{treeRecords, kind, weight, kinds, weights, kindAt}
+use Rattle.rules.specs.Tree.{treeRecords, kind, class, weight, kinds, classes, weights, kindAt}
 
 -- ---- records of any width
 
@@ -49,20 +49,58 @@ number-back x h = omega arith
 
 -- ---- the tree's records
 
-pub length-kinds : (tree : List ℕ) → length (kinds tree) ≡ length tree / 8
-unfolding kinds treeRecords
-length-kinds tree = length-map (records 8 tree) kind ∙ length-records 8 tree
+-- What the records say of the steps, one number for each; past the last it is 0.
+module _ (field : List ℕ → ℕ) (tree : List ℕ) where
+  length-fields : length (map field (treeRecords tree)) ≡ length tree / 8
+  unfolding treeRecords
+  length-fields = length-map (records 8 tree) field ∙ length-records 8 tree
 
--- A step's kind is byte 0 of its record, and 0 past the last.
+  field-past : (i : ℕ) → length tree / 8 ≤ i → getD (map field (treeRecords tree)) i 0 ≡ 0
+  field-past i h = List·getD-eq-default (map field (treeRecords tree)) 0 (rw length-fields h)
+
+-- Byte j of each record.
+pub byte-at : (j : ℕ) (tree : List ℕ) (i : ℕ) → j < 8 → i < length tree / 8
+    → getD (map (λ r. getD r j 0) (treeRecords tree)) i 0 ≡ getD tree (8 * i + j) 0
+unfolding treeRecords
+byte-at j tree i l h = List·getD-map (λ (r : List ℕ). getD r j 0) (records 8 tree) i [] ∙ field-at 8 tree i j h l
+
+pub byte-past : (j : ℕ) (tree : List ℕ) (i : ℕ) → length tree / 8 ≤ i → getD (map (λ r. getD r j 0) (treeRecords tree)) i 0 ≡ 0
+byte-past j tree i h = field-past (λ (r : List ℕ). getD r j 0) tree i h
+
+pub length-kinds : (tree : List ℕ) → length (kinds tree) ≡ length tree / 8
+unfolding kinds
+length-kinds tree = length-fields kind tree
+
+length-classes : (tree : List ℕ) → length (classes tree) ≡ length tree / 8
+unfolding classes
+length-classes tree = length-fields class tree
+
+length-weights : (tree : List ℕ) → length (weights tree) ≡ length tree / 8
+unfolding weights
+length-weights tree = length-fields weight tree
+
+-- Each record has a class and a weight.
+pub length-paired : (tree : List ℕ) → length (classes tree) ≡ length (weights tree)
+length-paired tree = length-classes tree ∙ sym (length-weights tree)
+
+-- A step's kind is byte 0 of its record, its class byte 1.
 pub kind-at : (tree : List ℕ) (i : ℕ) → i < length tree / 8 → kindAt (kinds tree) i ≡ getD tree (8 * i) 0
-unfolding kindAt kinds treeRecords kind
+unfolding kindAt kinds kind
 kind-at tree i h =
     let e : 8 * i + 0 ≡ 8 * i = omega arith in
-    List·getD-map kind (records 8 tree) i [] ∙ (rw e at (field-at 8 tree i 0 h (omega arith)))
+    rw e at (byte-at 0 tree i (omega arith) h)
 
 pub kind-past : (tree : List ℕ) (i : ℕ) → length tree / 8 ≤ i → kindAt (kinds tree) i ≡ 0
-unfolding kindAt
-kind-past tree i h = List·getD-eq-default (kinds tree) 0 (rw length-kinds h)
+unfolding kindAt kinds
+kind-past tree i h = field-past kind tree i h
+
+pub class-at : (tree : List ℕ) (i : ℕ) → i < length tree / 8 → getD (classes tree) i 0 ≡ getD tree (8 * i + 1) 0
+unfolding classes class
+class-at tree i h = byte-at 1 tree i (omega arith) h
+
+pub class-past : (tree : List ℕ) (i : ℕ) → length tree / 8 ≤ i → getD (classes tree) i 0 ≡ 0
+unfolding classes
+class-past tree i h = field-past class tree i h
 
 -- The last four of eight bytes.
 last-four : (r : List ℕ) → length r ≡ 8 → drop 4 r ≡ getD r 4 0 ∷ getD r 5 0 ∷ getD r 6 0 ∷ getD r 7 0 ∷ []
@@ -75,7 +113,7 @@ last-four r e =
       drop-of-length-le r {i = 8} (omega arith),
     ) refl
 
--- A step's weight is bytes 4 to 7 of its record, and 0 past the last.
+-- A step's weight is bytes 4 to 7 of its record.
 pub weight-at : (tree : List ℕ) (i : ℕ) → i < length tree / 8
     → getD (weights tree) i 0
     ≡ getD tree (8 * i + 4) 0
@@ -89,5 +127,5 @@ weight-at tree i h =
     ∙ omega (arith, byte 4 (omega arith), byte 5 (omega arith), byte 6 (omega arith), byte 7 (omega arith)))
 
 pub weight-past : (tree : List ℕ) (i : ℕ) → length tree / 8 ≤ i → getD (weights tree) i 0 ≡ 0
-unfolding weights treeRecords
-weight-past tree i h = List·getD-eq-default (weights tree) 0 (rw (length-map (records 8 tree) weight, length-records 8 tree) h)
+unfolding weights
+weight-past tree i h = field-past weight tree i h

@@ -1,4 +1,5 @@
--- An accepted tree, as later proofs use it: its length, its shape, its count of spawned tasks and its open tasks.
+-- An accepted tree, as later proofs use it: its length, its kinds and classes, its shape, its count of spawned tasks and its open
+-- tasks.
 use Prim.Native.Nat.{ℕ, zero, suc, pred, _+_, _-_, _*_, _/_, _%_, _≤_, _<_}
 use mathlib.Core.Path.{_≡_, refl, sym, ap, _∙_}
 use mathlib.Core.Bool.{Bool, true, false, cond, true≢false}
@@ -6,17 +7,18 @@ use mathlib.Core.List.{List, [], _∷_, map}
 use native.Mathlib.Decide.{ℕ-discrete, decLe}
 use native.Mathlib.Nat.{lt-of-not-le}
 use native.Mathlib.Omega.{arith}
-use lib.ListN.{length, drop, getD, length-drop}
+use lib.ListN.{length, drop, getD, length-drop, List·getD-map}
 use lib.Seq.{drop-cons, drop-drop}
 use lib.Dec.{eqb}
 use borrow.Author.Tests.{eq-eqb, ne-eqb, eqb-false}
 use Rattle.rules.specs.Bytes.{Verdict, Walked, walk}
-use Rattle.rules.specs.Tree.{treeRecords, kind, isEnd, kinds, kindAt, Task, leave, enter, openTasks, openAfter, afterEnds}
-use Rattle.rules.specs.Tree.{taskEnd, cont, judgeTreeRecord, nextOpen, treeWalk, wrongLength, treeVerdict}
-use Rattle.tree.specs.Laws.Records.{length-kinds}
+use Rattle.rules.specs.Tree.{treeRecords, kind, isEnd, classCount, class, kinds, classes, kindAt, Task, leave, enter, openTasks}
+use Rattle.rules.specs.Tree.{openAfter, afterEnds, taskEnd, cont, judgeTreeRecord, nextOpen, treeWalk, wrongLength, treeVerdict}
+use Rattle.tree.specs.Laws.Records.{length-records, length-kinds}
+use Rattle.tree.specs.Laws.Walks.{walk-each}
 use Rattle.tree_scan.specs.Laws.Scans.{after-none, after-one, openAt, open-step}
-use Rattle.tree.specs.Laws.Acceptance.{judged-open, judged-kind, wrong-empty, wrong-part, wrong-long, verdict-wrong, verdict-stop}
-use Rattle.tree.specs.Laws.Acceptance.{verdict-open}
+use Rattle.tree.specs.Laws.Acceptance.{judged-open, judged-kind, judged-class, wrong-empty, wrong-part, wrong-long, verdict-wrong}
+use Rattle.tree.specs.Laws.Acceptance.{verdict-stop, verdict-open}
 use Rattle.tree_scan.specs.Laws.Shape.{after, At, Shape}
 use Rattle.tree_scan.specs.Laws.Balance.{Balanced, spawned, after-sum, after-short, after-drop, balanced-after}
 use Rattle.tree_scan.specs.Laws.Balance.{balanced-drop, balanced-kind, balanced-none, balanced-some, balanced-count}
@@ -207,6 +209,7 @@ pub record Frame (tree : List ℕ) : Type 0 where
   pub most : length (kinds tree) ≤ 4095
   pub whole : length tree ≡ 8 * length (kinds tree)
   pub kind : (i : ℕ) → i < length (kinds tree) → (1 ≤ kindAt (kinds tree) i) × (kindAt (kinds tree) i ≤ 3)
+  pub class : (i : ℕ) → i < length (kinds tree) → getD (classes tree) i 0 < classCount
   pub shape : Shape (length (kinds tree)) (endAt (kinds tree)) (sizeAt (kinds tree))
   -- n is odd, and (n - 1) / 2 tasks are spawned
   pub odd : length (kinds tree) ≡ suc (spawned (kinds tree) + spawned (kinds tree))
@@ -258,6 +261,15 @@ module _ (tree : List ℕ) (accepts : treeVerdict tree .number ≡ 0) where
   unfolding kinds treeWalk walked
   balanced = walk-balanced (treeRecords tree) 0 1 (omega arith) walk-number walk-state
 
+  classed : (i : ℕ) → i < length (kinds tree) → getD (classes tree) i 0 < classCount
+  unfolding classes class treeWalk treeRecords
+  classed i h =
+      let below =
+      walk-each judgeTreeRecord nextOpen (λ r. class r < classCount) [] judged-class (treeRecords tree) 0 1 walk-number i
+      (omega (arith, length-kinds tree, length-records 8 tree))
+      in
+      rw (List·getD-map class (treeRecords tree) i []) below
+
   pub accepted-frame : Frame tree
   accepted-frame =
       record {
@@ -265,6 +277,7 @@ module _ (tree : List ℕ) (accepts : treeVerdict tree .number ≡ 0) where
         most = omega (arith, length-kinds tree, bytes-most);
         whole = omega (arith, length-kinds tree, bytes-whole);
         kind = λ i h. balanced-kind (kinds tree) i 1 balanced h;
+        class = classed;
         shape = shape-of (kinds tree) balanced;
         odd = omega (arith, balanced-count (kinds tree) 1 balanced);
         spawns = omega (arith, balanced-count (kinds tree) 1 balanced);

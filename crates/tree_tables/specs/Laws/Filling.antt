@@ -19,7 +19,7 @@ use Rattle.tree_scan.specs.Laws.Places.{Part, last-step, finish-child, finish-c
 use Rattle.tree_tables.specs.Terms.{Ends, Opener, Openers, weightBefore, Sums}
 
 -- What is read after a store: what was stored there, or what stood there.
-stored : (P : ℕ → Type 0) (l : List ℕ) (j v i : ℕ) → j < length l → (i ≡ j → P v) → ((i ≡ j → ⊥) → P (getD l i 0))
+pub stored : (P : ℕ → Type 0) (l : List ℕ) (j v i : ℕ) → j < length l → (i ≡ j → P v) → ((i ≡ j → ⊥) → P (getD l i 0))
     → P (getD (set l j v) i 0)
 stored P l j v i h new old =
     elim (ℕ-discrete i j) [
@@ -199,7 +199,7 @@ unfolding sum
 sum-snoc f [] x = omega arith
 sum-snoc f (y ∷ xs) x = omega (arith, sum-snoc f xs x)
 
-weight-step : (ws : List ℕ) (j : ℕ) → weightBefore ws (suc j) ≡ weightBefore ws j + getD ws j 0
+pub weight-step : (ws : List ℕ) (j : ℕ) → weightBefore ws (suc j) ≡ weightBefore ws j + getD ws j 0
 unfolding weightBefore
 weight-step ws j =
     let e : 0 + j ≡ j = omega arith in

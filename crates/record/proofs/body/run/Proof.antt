@@ -12,14 +12,14 @@ use Rattle.record.proofs.body.run.Tie as tie
 
 -- Past the walk over the events.
 abbrev entry : tie.After-walk-events → tie.Start
-entry c = c .before .before .before .before .before .before .before
+entry c = c .before .before .before .before .before .before .before .before
 
 walked : (c : tie.After-walk-events)
     → let a = entry c .args in
     let walk = c .walk-events in
     Walks (a .setup .workers) (a .setup .policy) (a .tree .now) (a .events .now) (walk .result) (walk .last .1 .1 .1 .0)
     (walk .last .1 .1 .1 .1 .0)
-walked c = c .walk-events .ensures
+walked c = c .walk-events .ensures .0
 
 -- Past the events.
 abbrev walk-at : tie.Else1 → tie.After-walk-events
@@ -38,12 +38,14 @@ slice-aggregate-walk-events-2 : tie.Need-slice-aggregate-walk-events-2
 slice-aggregate-walk-events-2 c = search needs
 
 walk-events-requires : tie.Need-walk-events-requires
-walk-events-requires c κs = (c .before .before .before .before .before .before .pre .started, (refl, refl))
+walk-events-requires c κs =
+    let at = c .before .before .before .before .before .before .before in
+    (at .pre .0 .started, ((refl, refl), at .pre .1))
 
 returns : tie.Need-returns
 returns c =
     let at = c .before .before .before .before in
-    lost-result (entry at .pre) (walked at) (c .if1 .taken)
+    lost-result (entry at .pre .0) (walked at) (c .if1 .taken) _
 
 slice-aggregate-copy-out : tie.Need-slice-aggregate-copy-out
 slice-aggregate-copy-out c = search needs
@@ -52,14 +54,14 @@ mul-copy-out : tie.Need-mul-copy-out
 mul-copy-out c =
     let one = c .before .before in
     let at = walk-at one in
-    omega (arith, bytes-most (entry at .pre) (walked at) (one .if1 .left))
+    omega (arith, bytes-most (entry at .pre .0) (walked at) (one .if1 .left))
 
 copy-out-requires : tie.Need-copy-out-requires
 copy-out-requires c κs =
     let one = c .before .before .before in
     let at = walk-at one in
-    let few = bytes-most (entry at .pre) (walked at) (one .if1 .left) in
-    (omega arith, log-room (entry at .pre) (walked at) (one .if1 .left))
+    let few = bytes-most (entry at .pre .0) (walked at) (one .if1 .left) in
+    (omega arith, log-room (entry at .pre .0) (walked at) (one .if1 .left))
 
 slice-aggregate-copy-out-2 : tie.Need-slice-aggregate-copy-out-2
 slice-aggregate-copy-out-2 c = search needs
@@ -68,14 +70,14 @@ mul-copy-out-2 : tie.Need-mul-copy-out-2
 mul-copy-out-2 c =
     let one = one-copied (c .before .before) in
     let at = walk-at one in
-    omega (arith, bytes-most (entry at .pre) (walked at) (one .if1 .left))
+    omega (arith, bytes-most (entry at .pre .0) (walked at) (one .if1 .left))
 
 copy-out-requires-2 : tie.Need-copy-out-requires-2
 copy-out-requires-2 c κs =
     let one = one-copied (c .before .before .before) in
     let at = walk-at one in
-    let few = bytes-most (entry at .pre) (walked at) (one .if1 .left) in
-    (omega arith, trace-room (entry at .pre) (walked at) (one .if1 .left))
+    let few = bytes-most (entry at .pre .0) (walked at) (one .if1 .left) in
+    (omega arith, trace-room (entry at .pre .0) (walked at) (one .if1 .left))
 
 same-length : tie.Need-same-length
 same-length c = search needs
@@ -90,7 +92,8 @@ returns-2 c =
     let log = first .before .before .copy-out in
     let one = one-copied first in
     let at = walk-at one in
-    done-result (entry at .pre) (walked at) (one .if1 .left) (log .last .1 .1 .0) (trace .last .1 .1 .0) (log .ensures) (trace .ensures)
+    done-result (entry at .pre .0) (walked at) (one .if1 .left) (log .last .1 .1 .0) (trace .last .1 .1 .0) _ (log .ensures)
+    (trace .ensures) (at .walk-events .ensures .1)
 
 pub run-spec : {M : Type 1} → statement M
 run-spec =

@@ -46,23 +46,24 @@ slice-aggregate-add-up c = search needs
 
 add-up-requires : tie.Need-add-up-requires
 add-up-requires c κs =
-    let most = frame (c .before .before .before .before .before .before .before .before .before .before .before) .most in
-    (most, omega (arith, most))
+    let at = c .before .before .before .before .before .before .before .before .before .before .before .before in
+    let most = frame at .most in
+    (most, (omega (arith, most), (frame at .class, at .pre .1 .1)))
 
 array-share-prefix-ends : tie.Need-array-share-prefix-ends
-array-share-prefix-ends c = ends-room (c .before .before .before .before .before)
+array-share-prefix-ends c = ends-room (c .before .before .before .before .before .before)
 
 slice-aggregate-walk : tie.Need-slice-aggregate-walk
 slice-aggregate-walk c =
-    let at = c .before .before .before .before .before .before in
+    let at = c .before .before .before .before .before .before .before in
     sym (length-take-le (at .before .before .before .steps .result) (at .fill .last .1 .0) (ends-room at))
 
 array-share-prefix-openers : tie.Need-array-share-prefix-openers
-array-share-prefix-openers c = openers-room (c .before .before .before .before .before .before)
+array-share-prefix-openers c = openers-room (c .before .before .before .before .before .before .before)
 
 slice-aggregate-walk-2 : tie.Need-slice-aggregate-walk-2
 slice-aggregate-walk-2 c =
-    let at = c .before .before .before .before .before .before .before in
+    let at = c .before .before .before .before .before .before .before .before in
     sym (length-take-le (at .before .before .before .steps .result) (at .fill .last .1 .1 .0) (openers-room at))
 
 slice-aggregate-walk-3 : tie.Need-slice-aggregate-walk-3
@@ -71,7 +72,7 @@ slice-aggregate-walk-3 c = search needs
 walk-requires : tie.Need-walk-requires
 walk-requires c κs =
     let summed = c .before .before .before .before .before .before in
-    let filled = summed .before .before .before .before in
+    let filled = summed .before .before .before .before .before in
     let counted = filled .before .before .before in
     let at = counted .before .before .before .before .before in
     let ks = kinds (at .args .tree .now) in
@@ -80,7 +81,7 @@ walk-requires c κs =
     let ends = ends-prefix ks (tables .last .1 .0) (n .result) (n .ensures) (ends-room filled) (tables .ensures .0) in
     let openers = openers-prefix ks (tables .last .1 .1 .0) (n .result) (n .ensures) (openers-room filled) (tables .ensures .1) in
     let few : length ks < length (summed .add-up .last .1 .0) = omega (arith, frame at .most, summed .add-up .kept .1 .0) in
-    (at .pre .0, (ends, (openers, ((few, summed .add-up .ensures), at .pre .1))))
+    (at .pre .0, (ends, (openers, ((few, summed .add-up .ensures .0), at .pre .1 .0))))
 
 same-length : tie.Need-same-length
 same-length c = search needs
@@ -89,7 +90,10 @@ same-length-2 : tie.Need-same-length-2
 same-length-2 c = search needs
 
 returns : tie.Need-returns
-returns c = search needs
+returns c =
+    let walked = c .before .before .before .before in
+    let summed = walked .before .before .before .before .before .before .before in
+    (walked .walk .ensures, summed .add-up .ensures .1)
 
 pub walk-events-spec : {M : Type 1} → statement M
 walk-events-spec =

@@ -9,14 +9,16 @@ use lib.ListN.{length, take}
 use lib.Dec.{ltb}
 use borrow.Author.Tests.{lt-ltb, le-ltb}
 use Rattle.rules.specs.Bytes.{records}
-use Rattle.rules.specs.Tree.{mostSteps, kinds}
+use Rattle.rules.specs.Tree.{mostSteps, kinds, classes, weights}
 use Rattle.rules.specs.Scheduling.{Run}
 use Rattle.rules.specs.Traces.{traceBytes, entryBytes}
 use Rattle.rules.specs.Calls.{mostTraceRecords, written, recordWalk, finished}
 use Rattle.tree_scan.specs.Laws.Starts.{start-tree-accepts}
 use Rattle.tree_scan.specs.Laws.Frames.{Frame, accepted-frame}
 use Rattle.run_invariant.specs.Laws.Consequences.{runs-most, steals-most, finished-runs, runs-finished}
+use Rattle.tree_tables.specs.Terms.{classesBefore}
 use Rattle.buffers.specs.Laws.Records.{length-entries, length-trace}
+use Rattle.loads.specs.Laws.Classes.{classes-are}
 use Rattle.record_walk.specs.declared.Ended.{Ended}
 use Rattle.record_walk.specs.Terms.{Reached, Walks}
 use Rattle.record.specs.Body.Terms.{Admitted, Told, Result}
@@ -24,8 +26,8 @@ use Rattle.record.specs.Body.Terms.{Admitted, Told, Result}
 module _ {w p : ℕ} {tree events log trace : List ℕ} {ended : Ended} {own-log own-trace : List ℕ}
     (ready : Admitted w p tree log trace) (walks : Walks w p tree events ended own-log own-trace) where
   -- An event is refused: log and trace are as they were.
-  pub lost-result : (ended .number ≡ 0 → ⊥) → Result w p tree events log trace ended log trace
-  lost-result n =
+  pub lost-result : (ended .number ≡ 0 → ⊥) → (charges : List ℕ) → Result w p tree events log trace ended log trace charges
+  lost-result n charges =
       record {
         number = walks .number;
         position = walks .position;
@@ -80,9 +82,10 @@ module _ {w p : ℕ} {tree events log trace : List ℕ} {ended : Ended} {own-log
               | no n ↦ omega (arith, logs-fit)
             ])
 
-    module _ (log-out trace-out : List ℕ) (logged : log-out ≡ written (take (4 * ended .logs) own-log) log)
-        (traced : trace-out ≡ written (take (4 * ended .steals) own-trace) trace) where
-      run-told : Told p tree run log trace ended log-out trace-out
+    module _ (log-out trace-out charges : List ℕ) (logged : log-out ≡ written (take (4 * ended .logs) own-log) log)
+        (traced : trace-out ≡ written (take (4 * ended .steals) own-trace) trace)
+        (charged : charges ≡ classesBefore (classes tree) (weights tree) (length (kinds tree))) where
+      run-told : Told p tree run log trace ended log-out trace-out charges
       run-told =
           let log-bytes : 4 * ended .logs ≡ length (entryBytes (run .log)) = omega (arith, so .logs, length-entries (run .log)) in
           let trace-bytes : 4 * ended .steals ≡ length (traceBytes p (kinds tree) (run .steals)) =
@@ -94,9 +97,10 @@ module _ {w p : ℕ} {tree events log trace : List ℕ} {ended : Ended} {own-log
             loaded = so .loaded;
             logged = logged ∙ ap (λ (x : List ℕ). written x log) (ap (λ (m : ℕ). take m own-log) log-bytes ∙ so .logged);
             traced = traced ∙ ap (λ (x : List ℕ). written x trace) (ap (λ (m : ℕ). take m own-trace) trace-bytes ∙ so .traced);
+            classed = charged ∙ sym (classes-are (kinds tree) (classes tree) (weights tree) (run .phases) (so .whole));
           }
 
-      pub done-result : Result w p tree events log trace ended log-out trace-out
+      pub done-result : Result w p tree events log trace ended log-out trace-out charges
       done-result =
           record {
             number = walks .number;

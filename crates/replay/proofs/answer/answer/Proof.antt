@@ -14,8 +14,8 @@ totals-of-requires c κs = search needs
 returns : tie.Need-returns
 unfolding answered refusal
 returns c =
-    let a = c .before .before .before .args in
-    let none = c .before .before .totals-of .ensures ∙ totals-refused (a .number) (a .loads) (c .if1 .taken) in
+    let a = c .before .before .before .before .args in
+    let none = c .before .before .before .totals-of .ensures ∙ totals-refused (a .number) (a .loads) (a .classes) (c .if1 .taken) in
     rw (ne-eqb (a .number) 0 (c .if1 .taken))
     (λ k. record {
       number = a .number;
@@ -23,13 +23,14 @@ returns c =
       phases = 0;
       loads = none k .loads;
       heaviest = none k .heaviest;
+      classes = none k .classes;
     })
 
 returns-2 : tie.Need-returns-2
 unfolding answered
 returns-2 c =
-    let a = c .before .before .before .args in
-    let all = c .before .before .totals-of .ensures ∙ totals-accepted (a .number) (a .loads) (c .if1 .left) in
+    let a = c .before .before .before .before .args in
+    let all = c .before .before .before .totals-of .ensures ∙ totals-accepted (a .number) (a .loads) (a .classes) (c .if1 .left) in
     rw (eq-eqb (a .number) 0 (c .if1 .left))
     (λ k. record {
       number = 0;
@@ -37,6 +38,7 @@ returns-2 c =
       phases = a .phases;
       loads = all k .loads;
       heaviest = all k .heaviest;
+      classes = all k .classes;
     })
 
 pub answer-spec : {M : Type 1} → statement M

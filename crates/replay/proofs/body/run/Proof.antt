@@ -10,28 +10,39 @@ use lib.Seq.{length-take-le, take-at}
 use borrow.Author.Needs.{needs}
 use Rattle.rules.specs.Tree.{kinds}
 use Rattle.tree_scan.specs.Laws.Starts.{start-tree-accepts}
+use Rattle.tree_scan.specs.Laws.Frames.{Frame}
 use Rattle.tree_tables.specs.Terms.{Ends}
 use Rattle.tree_tables.specs.Laws.Fronts.{start-frame, ends-prefix, openers-prefix}
 use Rattle.replay_walk.specs.Terms.{Retraced}
+use Rattle.replay.specs.Body.Terms.{Admitted}
 use Rattle.replay.specs.Body.Laws.Results.{take-replicate, front-room, front-length, lost-result, done-asked, done-result}
 use Rattle.replay.proofs.body.run.Statement.{statement}
 use Rattle.replay.proofs.body.run.Tie as tie
 
 -- ---- what is known at a place, and the way back to an earlier one
 
+-- The call is admitted.
+ready : (c : tie.Start)
+    → let a = c .args in
+    Admitted (a .setup .workers) (a .setup .policy) (a .tree .now) (a .trace .now) (a .n) (a .list .now)
+ready c = c .pre .0
+
+frame : (c : tie.Start) → Frame (c .args .tree .now)
+frame c = start-frame _ _ (c .args .tree .now) (ready c .started)
+
 most : (c : tie.Start) → length (kinds (c .args .tree .now)) ≤ 4095
-most c = start-frame _ _ (c .args .tree .now) (c .pre .started) .most
+most c = frame c .most
 
 -- An array has room for the steps.
 fits : (c : tie.Start) {m : ℕ} → m ≡ 4095 → c .args .n ≤ m
-fits c e = omega (arith, most c, c .pre .steps, e)
+fits c e = omega (arith, most c, ready c .steps, e)
 
 -- Past the tables.
 abbrev entry : tie.After-fill → tie.Start
 entry c = c .before .before .before .before .before .before
 
 abbrev filled : tie.After-add-up → tie.After-fill
-filled c = c .before .before .before .before
+filled c = c .before .before .before .before .before
 
 ends-room : (c : tie.After-fill) → entry c .args .n ≤ length (c .fill .last .1 .0)
 ends-room c = fits (entry c) (c .fill .kept .1 .0)
@@ -44,7 +55,7 @@ ends-lent : (c : tie.After-fill)
 ends-lent c =
     let at = entry c in
     let ks = kinds (at .args .tree .now) in
-    ends-prefix ks (c .fill .last .1 .0) (at .args .n) (at .pre .steps) (ends-room c) (c .fill .ensures .0)
+    ends-prefix ks (c .fill .last .1 .0) (at .args .n) (ready at .steps) (ends-room c) (c .fill .ensures .0)
 
 openers-room : (c : tie.After-fill) → entry c .args .n ≤ length (c .fill .last .1 .1 .0)
 openers-room c = fits (entry c) (c .fill .kept .1 .1 .0)
@@ -69,7 +80,7 @@ walked c = c .walk .ensures
 
 -- It leaves as many labels as it is lent, so the front of the array is those.
 labels-many : (c : tie.After-walk) → length (labels c) ≡ start c .args .n
-labels-many c = walked c .sizes .0 ∙ sym (start c .pre .steps)
+labels-many c = walked c .sizes .0 ∙ sym (ready (start c) .steps)
 
 abbrev walk-at : tie.Else1 → tie.After-walk
 walk-at c = c .before .before .before
@@ -85,15 +96,16 @@ slice-aggregate-fill-2 c = search needs
 fill-requires : tie.Need-fill-requires
 fill-requires c κs =
     let start = c .before .before .before .before .before in
-    (start-tree-accepts _ _ (start .args .tree .now) (start .pre .started), (most start, most start))
+    (start-tree-accepts _ _ (start .args .tree .now) (ready start .started), (most start, most start))
 
 slice-aggregate-add-up : tie.Need-slice-aggregate-add-up
 slice-aggregate-add-up c = search needs
 
 add-up-requires : tie.Need-add-up-requires
 add-up-requires c κs =
-    let few = most (entry (c .before .before .before)) in
-    (few, omega (arith, few))
+    let at = entry (c .before .before .before .before) in
+    let few = most at in
+    (few, (omega (arith, few), (frame at .class, at .pre .1)))
 
 array-share-prefix-ends : tie.Need-array-share-prefix-ends
 array-share-prefix-ends c = ends-room (filled (c .before))
@@ -130,15 +142,15 @@ walk-requires c κs =
     let ks = kinds (one .args .tree .now) in
     let n = one .args .n in
     let fill = tables .fill in
-    let openers = openers-prefix ks (fill .last .1 .1 .0) n (one .pre .steps) (openers-room tables) (fill .ensures .1) in
+    let openers = openers-prefix ks (fill .last .1 .1 .0) n (ready one .steps) (openers-room tables) (fill .ensures .1) in
     let few : length ks < length (sums .add-up .last .1 .0) = omega (arith, most one, sums .add-up .kept .1 .0) in
-    let free = take-replicate n 4095 65535 (fits one refl) ∙ ap (λ (m : ℕ). replicate m 65535) (one .pre .steps) in
-    ((one .pre .started, one .pre .traced), (ends-lent tables, (openers, ((few, sums .add-up .ensures), (free, refl)))))
+    let free = take-replicate n 4095 65535 (fits one refl) ∙ ap (λ (m : ℕ). replicate m 65535) (ready one .steps) in
+    ((ready one .started, ready one .traced), (ends-lent tables, (openers, ((few, sums .add-up .ensures .0), (free, refl)))))
 
 returns : tie.Need-returns
 returns c =
     let at = c .before .before .before in
-    lost-result (start at .pre) (walked at) (c .if1 .taken)
+    lost-result (ready (start at)) (walked at) (c .if1 .taken) _
 
 array-share-prefix-ends-2 : tie.Need-array-share-prefix-ends-2
 array-share-prefix-ends-2 c = ends-room (filled (summed (walk-at c .before)))
@@ -165,8 +177,8 @@ write-list-requires c κs =
     let at = walk-at one in
     let s = start at in
     let same = take-at (labels at) _ (s .args .n) (labels-many at) in
-    let asked = done-asked (s .pre) (walked at) (one .if1 .left) _ same in
-    ((start-tree-accepts _ _ (s .args .tree .now) (s .pre .started), ends-lent (filled (summed (at .before))) .1), asked)
+    let asked = done-asked (ready s) (walked at) (one .if1 .left) _ same in
+    ((start-tree-accepts _ _ (s .args .tree .now) (ready s .started), ends-lent (filled (summed (at .before))) .1), asked)
 
 same-length : tie.Need-same-length
 same-length c = search needs
@@ -178,7 +190,8 @@ returns-2 c =
     let one = wrote .before .before .before .before .before in
     let at = walk-at one in
     let same = take-at (labels at) _ (start at .args .n) (labels-many at) in
-    done-result (start at .pre) (walked at) (one .if1 .left) _ same (list .last .1 .1 .1 .1 .1 .1 .0) (list .ensures)
+    done-result (ready (start at)) (walked at) (one .if1 .left) _ same (list .last .1 .1 .1 .1 .1 .1 .0) _ (list .ensures)
+    (summed (at .before) .add-up .ensures .1)
 
 pub run-spec : {M : Type 1} → statement M
 run-spec =

@@ -7,13 +7,15 @@ use native.Mathlib.Omega.{arith}
 use lib.ListN.{length, take, replicate, length-append}
 use lib.Seq.{take-at}
 use Rattle.rules.specs.Bytes.{records}
-use Rattle.rules.specs.Tree.{kinds}
+use Rattle.rules.specs.Tree.{kinds, classes, weights}
 use Rattle.rules.specs.Scheduling.{Phase}
 use Rattle.rules.specs.Traces.{entryBytes, replayWalk, runList}
 use Rattle.rules.specs.Calls.{written}
 use Rattle.tree_scan.specs.Laws.Starts.{admitted-policy}
 use Rattle.tree_scan.specs.Laws.Frames.{Frame}
+use Rattle.tree_tables.specs.Terms.{classesBefore}
 use Rattle.tree_tables.specs.Laws.Fronts.{start-frame}
+use Rattle.loads.specs.Laws.Classes.{classes-are}
 use Rattle.replay_invariant.specs.Invariant.{Split}
 use Rattle.replay_invariant.specs.Laws.Always.{always-split}
 use Rattle.policy.specs.Contract.{mostPhases}
@@ -21,6 +23,7 @@ use Rattle.replay_spec.specs.Lists.{listed, Listable}
 use Rattle.replay_spec.specs.Laws.RunLists.{listed-is}
 use Rattle.replay_walk.specs.declared.Ended.{Ended}
 use Rattle.replay_walk.specs.Terms.{Retraced}
+use Rattle.replay_walk.specs.Laws.Retracing.{split-whole}
 use Rattle.replay.specs.Body.Terms.{Admitted, Result}
 
 -- ---- arrays whose front is lent
@@ -44,8 +47,8 @@ module _ (n : ℕ) (front rest : List ℕ) (many : length front ≡ n) where
 module _ {w p : ℕ} {tree trace list : List ℕ} {n : ℕ} {ended : Ended} {labels firsts : List ℕ}
     (ready : Admitted w p tree trace n list) (so : Retraced w p tree trace ended labels firsts) where
   -- A record is refused: the list is as it was.
-  pub lost-result : (ended .number ≡ 0 → ⊥) → Result w p tree trace list ended list
-  lost-result n =
+  pub lost-result : (ended .number ≡ 0 → ⊥) → (charges : List ℕ) → Result w p tree trace list ended list charges
+  lost-result n charges =
       record {
         number = so .number;
         position = so .position;
@@ -53,6 +56,7 @@ module _ {w p : ℕ} {tree trace list : List ℕ} {n : ℕ} {ended : Ended} {lab
         phases = λ z. absurd (n z);
         loaded = λ z. absurd (n z);
         listed = λ z. absurd (n z);
+        classed = λ z. absurd (n z);
       }
 
   -- Every record is accepted.
@@ -95,9 +99,12 @@ module _ {w p : ℕ} {tree trace list : List ℕ} {n : ℕ} {ended : Ended} {lab
         rw (so .phases none)
         (listed-is p (kinds tree) (frame .some) (frame .shape) phs split labels shown firsts (so .begins none))
 
-    pub done-result : (lent : List ℕ) → lent ≡ labels → (out : List ℕ)
-        → out ≡ written (entryBytes (listed p (kinds tree) lent firsts (ended .phases))) list → Result w p tree trace list ended out
-    done-result lent same out g =
+    -- The phases share the whole tree, so what its classes weigh are their loads.
+    pub done-result : (lent : List ℕ) → lent ≡ labels → (out charges : List ℕ)
+        → out ≡ written (entryBytes (listed p (kinds tree) lent firsts (ended .phases))) list
+        → charges ≡ classesBefore (classes tree) (weights tree) (length (kinds tree)) → Result w p tree trace list ended out charges
+    done-result lent same out charges g charged =
+        let whole = split-whole p (kinds tree) (frame .some) (frame .shape) phs split in
         record {
           number = so .number;
           position = so .position;
@@ -105,4 +112,5 @@ module _ {w p : ℕ} {tree trace list : List ℕ} {n : ℕ} {ended : Ended} {lab
           phases = so .phases;
           loaded = so .loaded;
           listed = λ z. g ∙ rw (same, done-list) refl;
+          classed = λ z. charged ∙ sym (classes-are (kinds tree) (classes tree) (weights tree) phs whole);
         }

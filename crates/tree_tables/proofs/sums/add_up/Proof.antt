@@ -1,85 +1,76 @@
--- `tree_tables::sums::add_up` meets its contract: each turn adds one step's weight to the sum before it, and 4,095 weights of 32 bits
--- stay below 64 bits. Assumes nothing.
-use Prim.Native.Nat.{_-_}
-use mathlib.Core.Path.{_∙_}
+-- `tree_tables::sums::add_up` meets its contract: classes that add up to 0 are all 0, and then class 0 has what all steps weigh, which
+-- is the last of the sums. Assumes nothing.
+use mathlib.Core.Path.{_≡_, sym, ap, _∙_}
+use mathlib.Core.List.{List}
+use Prim.Native.Nat.{ℕ, _/_, _<_}
 use native.Mathlib.Omega.{arith}
-use lib.ListN.{length, set, length-set}
-use Rattle.rules.specs.Tree.{kinds, weights}
-use Rattle.tree.specs.Laws.Records.{length-kinds}
-use Rattle.tree_tables.specs.Laws.Filling.{Added, add-start, add-turn, added-all}
+use lib.ListN.{length, getD, set}
+use borrow.Author.Needs.{needs}
+use Rattle.rules.specs.Tree.{kinds, classes, weights}
+use Rattle.tree.specs.Laws.Records.{length-kinds, length-paired}
+use Rattle.tree_tables.specs.Terms.{weightBefore}
+use Rattle.tree_tables.specs.Laws.Charging.{zeros-all, sum-zeros}
 use Rattle.tree_tables.proofs.sums.add_up.Statement.{statement}
 use Rattle.tree_tables.proofs.sums.add_up.Tie as tie
 
-abbrev Inv-loop : tie.InvT-loop
-Inv-loop tree sums₀ n j₀ total₀ sums j total = Added (weights tree) (length (kinds tree)) sums₀ sums j total
+-- Past the sums.
+abbrev entry : tie.After-add-weights → tie.Start
+entry c = c .before .before .before .before
 
-abbrev μ-loop : tie.MeasureT-loop
-μ-loop tree sums₀ n j₀ total₀ sums j total = n - j
+add-weights-requires : tie.Need-add-weights-requires
+add-weights-requires c κs =
+    let at = c .before .before .before in
+    (at .pre .0, at .pre .1 .0)
 
-slice-write-sums : tie.Need-slice-write-sums Inv-loop μ-loop
-slice-write-sums c = omega (arith, c .before .before .pre .1)
+mul-classes : tie.Need-mul-classes
+mul-classes c =
+    let at = entry (c .before .before .before) in
+    omega (arith, length-kinds (at .args .tree .now), at .pre .0)
 
-loop-holds : tie.Need-loop-holds Inv-loop μ-loop
-loop-holds c =
-    let a = c .before .before .args in
-    add-start (weights (a .tree .now)) (length (kinds (a .tree .now))) (a .sums .now) (c .before .before .pre .1)
+slice-read-classes : tie.Need-slice-read-classes
+slice-read-classes c =
+    let summed = c .before .before .before .before in
+    let at = entry summed in
+    omega (arith, length-kinds (at .args .tree .now), summed .add-weights .kept .1 .0, at .pre .1 .0)
 
-weight-requires : tie.Need-weight-requires Inv-loop μ-loop
-weight-requires c κs = tt
+element-write-classes : tie.Need-element-write-classes
+element-write-classes c = search needs
 
-cast-total : tie.Need-cast-total Inv-loop μ-loop
-cast-total c = omega arith
+same-length : tie.Need-same-length
+same-length c = search needs
 
-add-total : tie.Need-add-total Inv-loop μ-loop
-add-total c = omega (arith, c .before .before .loop .inv .small, c .before .before .loop .inv .within)
-
-add-j : tie.Need-add-j Inv-loop μ-loop
-add-j c = omega arith
-
-mul-sums : tie.Need-mul-sums Inv-loop μ-loop
-mul-sums c = omega (arith, length-kinds (c .before .before .before .before .before .args .tree .now))
-
-slice-write-sums-2 : tie.Need-slice-write-sums-2 Inv-loop μ-loop
-slice-write-sums-2 c =
-    omega (arith, length-kinds (c .before .before .before .before .before .args .tree .now), c .before .before .loop .inv .room)
-
-loop-less : tie.Need-loop-less Inv-loop μ-loop
-loop-less c = omega arith
-
-loop-again : tie.Need-loop-again Inv-loop μ-loop
-loop-again c =
-    let a = c .before .before .before .before .before .args in
-    let tree = a .tree .now in
-    let loop = c .before .before .loop in
-    add-turn (weights tree) (length (kinds tree)) (set (a .sums .now) 0 0) (loop .sums) (loop .j) (loop .total) (loop .inv)
-    (omega (arith, length-kinds tree)) (c .weight .result) (c .weight .ensures) (omega arith)
-
-same-length : tie.Need-same-length Inv-loop μ-loop
-same-length c = c .before .loop .inv .same ∙ length-set (c .before .before .before .before .args .sums .now) 0 0
-
-returns : tie.Need-returns Inv-loop μ-loop
+returns : tie.Need-returns
 returns c =
-    let a = c .before .before .before .before .args in
-    let tree = a .tree .now in
-    let loop = c .before .loop in
-    added-all (weights tree) (length (kinds tree)) (set (a .sums .now) 0 0) (loop .sums) (loop .j) (loop .total) (loop .inv)
-    (omega (arith, length-kinds tree))
+    let summed = c .before .before .before .before in
+    let at = entry summed in
+    let tree = at .args .tree .now in
+    let n = length (kinds tree) in
+    let sums = summed .add-weights .ensures .0 in
+    let none : weightBefore (classes tree) n ≡ 0 = omega (arith, summed .add-weights .ensures .1, c .before .if1 .taken) in
+    let all = zeros-all (classes tree) (weights tree) (length-paired tree) n (sum-zeros (classes tree) n none) in
+    (sums, rw (at .pre .1 .1 .1, ← length-kinds tree, sums n (omega arith)) (sym all))
+
+charge-requires : tie.Need-charge-requires
+charge-requires c κs =
+    let at = entry (c .before .before .before .before) in
+    (at .pre .0, (at .pre .1 .1 .0, at .pre .1 .1 .1))
+
+same-length-2 : tie.Need-same-length-2
+same-length-2 c = search needs
+
+returns-2 : tie.Need-returns-2
+returns-2 c = (c .before .before .before .before .before .add-weights .ensures .0, c .charge .ensures)
 
 pub add-up-spec : {M : Type 1} → statement M
 add-up-spec =
     tie.close
     (tie.spec
-    Inv-loop
-    μ-loop
-    slice-write-sums
-    loop-holds
-    weight-requires
-    cast-total
-    add-total
-    add-j
-    mul-sums
-    slice-write-sums-2
-    loop-less
-    loop-again
+    add-weights-requires
+    mul-classes
+    slice-read-classes
+    element-write-classes
     same-length
-    returns)
+    returns
+    charge-requires
+    same-length-2
+    returns-2)
