@@ -112,11 +112,9 @@ replayed-whole :
 unfolding answer bytes sixteenLoads byClass C flatten
 replayed-whole = refl
 
--- Recordings of C and of S: after no event all is covered by worker 0's phase; S is all class 0.
-recorded-loads :
-    map (λ r. r .loads ∷ r .classLoads ∷ []) (recorded C [] ∷ recorded S ten ∷ [])
-    ≡ (sixteenLoads (127 ∷ []) ∷ byClass ∷ []) ∷ (sixteenLoads (3 ∷ 3 ∷ 1 ∷ []) ∷ sixteenLoads (7 ∷ []) ∷ []) ∷ []
-unfolding answer bytes recorded ten seven sixteenLoads byClass ofKinds S C flatten
+-- After no event worker 0's phase covers all. S is all class 0: `recorded-with-enough` of `Counts`.
+recorded-loads : recorded C [] .loads ∷ recorded C [] .classLoads ∷ [] ≡ sixteenLoads (127 ∷ []) ∷ byClass ∷ []
+unfolding answer bytes recorded sixteenLoads byClass C flatten
 recorded-loads = refl
 
 -- A refused recording of C.
