@@ -1,13 +1,13 @@
 -- Document 02, #103: cases of the classes, each table one theorem, closed by computation. The policy is work-first.
-use Prim.Native.Nat.{ℕ, _*_}
+use Prim.Native.Nat.{ℕ}
 use mathlib.Core.Path.{_≡_, refl}
-use mathlib.Core.Bool.{true, false}
+use mathlib.Core.Bool.{true}
 use mathlib.Core.List.{List, [], _∷_, _++_, map, flatten}
 use lib.ListN.{replicate}
-use Rattle.rules.specs.Bytes.{count, Verdict, accepted}
+use Rattle.rules.specs.Bytes.{count, accepted}
 use Rattle.rules.specs.Tree.{kinds, classes, treeVerdict}
 use Rattle.rules.specs.Scheduling.{workFirst, mostWorkers}
-use Rattle.rules.specs.Calls.{Recorded, recordCall, Replayed, replayCall}
+use Rattle.rules.specs.Calls.{Recorded, recordCall, replayCall}
 use Rattle.rules.specs.Cases.{answer, bytes, ofKinds, S, seven}
 use Rattle.rules.specs.NearMisses.{bad, sixteenLoads, notRecorded, saidOf}
 

@@ -2,7 +2,7 @@
 -- loads by sums over keys, and all else since the calls ask a tree for its verdict, its kinds and its weights.
 use Prim.Native.Nat.{ℕ, _≤_, _<_}
 use mathlib.Core.Path.{_≡_, refl, sym, ap, subst, _∙_}
-use mathlib.Core.Bool.{Bool, true, false, cond, _&&_, _||_, not, true≢false}
+use mathlib.Core.Bool.{Bool, true, false, cond, _&&_, _||_, not}
 use mathlib.Core.List.{List, [], _∷_, map}
 use mathlib.Core.Option.{Option, none, some}
 use native.Mathlib.Decide.{ℕ-discrete, decLt}
@@ -10,11 +10,11 @@ use native.Mathlib.Omega.{arith}
 use lib.ListN.{length, getD, replicate, List·getD-map}
 use lib.Dec.{eqb, ltb, leb}
 use borrow.Author.Tests.{eq-eqb, ne-eqb, eqb-true, lt-ltb, le-ltb, le-leb, lt-leb}
-use Rattle.rules.specs.Bytes.{records, count, sum, Verdict, accepted, firstRefused, Walked, walk}
+use Rattle.rules.specs.Bytes.{records, count, sum, Verdict}
 use Rattle.rules.specs.Tree.{treeRecords, kind, isEnd, classCount, class, kinds, classes, weights, mostOpen, hasKind, wellFormed}
-use Rattle.rules.specs.Tree.{judgeTreeRecord, nextOpen, treeWalk, wrongLength, treeVerdict}
+use Rattle.rules.specs.Tree.{judgeTreeRecord, nextOpen, treeWalk, treeVerdict}
 use Rattle.rules.specs.Scheduling.{mostWorkers, Phase, Run, start}
-use Rattle.rules.specs.Traces.{traceBytes, replayWalk, loads, ofClass, classLoads}
+use Rattle.rules.specs.Traces.{traceBytes, replayWalk, loads, classLoads}
 use Rattle.rules.specs.Calls.{startVerdict, afterEvents, Recorded, recordWalk, recordVerdict, recordOf, recordRefused, recordCall}
 use Rattle.rules.specs.Calls.{Replayed, replayVerdict, replayOf, replayRefused, replayCall}
 use Rattle.rules.specs.Schedules.{scheduleVerdict, scheduleCall}
@@ -28,6 +28,7 @@ use Rattle.tree_tables.specs.Terms.{weightBefore, classesBefore}
 use Rattle.tree_tables.specs.Laws.Charging.{of-class-at}
 use Rattle.run_invariant.specs.Laws.Counts.{and-both}
 use Rattle.replay_invariant.specs.Laws.Always.{always-split}
+use Rattle.replay_invariant.specs.Laws.Consequences.{replay-starts}
 use Rattle.replay_invariant.specs.Laws.Traces.{trace-replays}
 use Rattle.run_spec.specs.Deques.{oldestMark}
 use Rattle.run_spec.specs.Moves.{Fields, runMove, stealMove, eventMove}
@@ -36,6 +37,7 @@ use Rattle.run_state.specs.Contract.{fields, startAnswer, eventAnswer}
 use Rattle.loads.specs.Terms.{Whole}
 use Rattle.loads.specs.Laws.Classes.{Manned, classes-are, workers-sum, classes-sum, zeros-loads}
 use Rattle.loads.specs.Laws.Unused.{unused-manned, recorded-unused, replayed-unused}
+use Rattle.record.specs.Laws.Cases.{accepts-both}
 use Rattle.replay_walk.specs.Laws.Retracing.{split-whole}
 use Rattle.agreement.specs.StepClasses.{formerlyFormed, formerJudge, formerWalk, formerVerdict, together, ownLoads}
 use Rattle.agreement.specs.StepClasses.{recordedElse, replayedElse, Alike, StepClasses}
@@ -111,9 +113,6 @@ module _ (tree : List ℕ) where
         (walk-too formerJudge judgeTreeRecord nextOpen (λ r. 0 ≤ 0) [] (λ d r q e. same-judge d r (former-class d r e) ∙ e)
         (treeRecords tree) 0 1 (λ k h. omega arith) former-walks)
 
-    old-number : treeVerdict tree .number ≡ 0
-    old-number = ap (λ (v : Verdict). v .number) old-accepted ∙ old
-
     old-classes : (j : ℕ) → getD (classes tree) j 0 ≡ 0
     unfolding formerWalk
     old-classes j =
@@ -175,7 +174,8 @@ module _ (tree : List ℕ) (number : ℕ) (phs : List Phase) where
         | no n ↦ rw (ne-eqb number 0 n) refl
       ]
 
-  told-old : ((j : ℕ) → getD (classes tree) j 0 ≡ 0) → (number ≡ 0 → Manned phs) → byClass ≡ together (told tree number phs) ∷ replicate 15 0
+  told-old : ((j : ℕ) → getD (classes tree) j 0 ≡ 0) → (number ≡ 0 → Manned phs)
+      → byClass ≡ together (told tree number phs) ∷ replicate 15 0
   unfolding together sum
   told-old zeros known =
       elim (ℕ-discrete number 0) [
@@ -220,8 +220,7 @@ module _ (w p : ℕ) (tree : List ℕ) where
     run = recorded w p tree events log trace
 
     record-starts : number ≡ 0 → startVerdict w p tree .number ≡ 0
-    unfolding recordVerdict
-    record-starts z = first-accepts _ _ z .0
+    record-starts z = accepts-both w p tree events log trace z .0
 
     record-classes : recordCall w p tree events log trace .classLoads ≡ byClass tree number run
     unfolding recordCall recordOf recordRefused
@@ -259,10 +258,6 @@ module _ (w p : ℕ) (tree : List ℕ) where
     abbrev phs : List Phase
     phs = replayed w p tree trace list
 
-    replay-starts : numbered ≡ 0 → startVerdict w p tree .number ≡ 0
-    unfolding replayVerdict
-    replay-starts z = first-accepts _ _ z .0
-
     replay-classes : replayCall w p tree trace list .classLoads ≡ byClass tree numbered phs
     unfolding replayCall replayOf replayRefused
     replay-classes = cond-of (λ (r : Replayed). r .classLoads) (eqb numbered 0) _ _
@@ -274,19 +269,19 @@ module _ (w p : ℕ) (tree : List ℕ) where
     replay-none n = replay-classes ∙ told-none tree numbered phs n
 
     replay-own : numbered ≡ 0 → replayCall w p tree trace list .classLoads ≡ ownLoads tree
-    replay-own z = replay-classes ∙ told-own tree numbered phs z (trace-whole (replay-starts z) (records 4 trace))
+    replay-own z = replay-classes ∙ told-own tree numbered phs z (trace-whole (replay-starts w p tree trace list z) (records 4 trace))
 
     replay-adds : together (replayCall w p tree trace list .classLoads) ≡ together (replayCall w p tree trace list .loads)
     replay-adds =
         rw (replay-classes, replay-told w p tree trace list)
         (told-adds tree numbered phs (λ z.
-        (start-tree-accepts w p tree (replay-starts z), trace-manned (replay-starts z) (records 4 trace))))
+        (start-tree-accepts w p tree (replay-starts w p tree trace list z), trace-manned (replay-starts w p tree trace list z) (records 4 trace))))
 
     replay-old : formerVerdict tree .number ≡ 0
         → replayCall w p tree trace list .classLoads ≡ together (replayCall w p tree trace list .loads) ∷ replicate 15 0
     replay-old old =
         rw (replay-classes, replay-told w p tree trace list)
-        (told-old tree numbered phs (old-classes tree old) (λ z. trace-manned (replay-starts z) (records 4 trace)))
+        (told-old tree numbered phs (old-classes tree old) (λ z. trace-manned (replay-starts w p tree trace list z) (records 4 trace)))
 
 -- ---- all else
 

@@ -7,7 +7,7 @@ use mathlib.Core.List.{List, [], _∷_}
 use native.Mathlib.Decide.{ℕ-discrete, decLt}
 use native.Mathlib.Nat.{zero-add, add-zero}
 use native.Mathlib.Omega.{arith}
-use lib.ListN.{length, getD, set, replicate, length-set, length-map}
+use lib.ListN.{length, getD, set, replicate, length-set}
 use lib.Seq.{ext-getD, lt-length-set, getD-set-same, getD-set-other}
 use lib.Dec.{eqb, ltb, leb}
 use borrow.Author.Tests.{lt-ltb, le-ltb, le-leb, lt-leb, eq-eqb, ne-eqb}
@@ -19,7 +19,7 @@ use Rattle.tree.specs.Laws.Counts.{map-at, map-length}
 use Rattle.tree_scan.specs.Laws.Shape.{Shape}
 use Rattle.tree_scan.specs.Laws.Frames.{endAt, sizeAt}
 use Rattle.tree_tables.specs.Terms.{Ends, Sums, weightBefore}
-use Rattle.run_invariant.specs.Laws.Counts.{any-one, any-sum, sum-plus, sum-two}
+use Rattle.run_invariant.specs.Laws.Counts.{any-one, any-sum, sum-plus}
 use Rattle.run_invariant.specs.Laws.Weights.{span, end-within}
 use Rattle.run_invariant.specs.Laws.Moves.{sum-one, sum-set, robbed}
 use Rattle.loads.specs.Terms.{weightBetween, Movable, loadMoved, Whole}

@@ -177,7 +177,7 @@ module _ (p : ℕ) (ks : List ℕ) (some-step : 1 ≤ length ks) (sh : Shape (le
 
 -- ---- accepted traces
 
-replay-starts : (w p : ℕ) (tree trace list : List ℕ) → replayVerdict w p tree trace list .number ≡ 0
+pub replay-starts : (w p : ℕ) (tree trace list : List ℕ) → replayVerdict w p tree trace list .number ≡ 0
     → startVerdict w p tree .number ≡ 0
 unfolding replayVerdict
 replay-starts w p tree trace list e = first-accepts _ _ e .0

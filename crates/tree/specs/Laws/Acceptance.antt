@@ -9,8 +9,8 @@ use native.Mathlib.Nat.{lt-of-not-le}
 use native.Mathlib.Numerals.{add-one, sub-one}
 use native.Mathlib.Omega.{arith}
 use lib.ListN.{length, drop, getD}
-use lib.Dec.{eqb, ltb, leb}
-use borrow.Author.Tests.{eq-eqb, ne-eqb, lt-ltb, le-ltb, le-leb, lt-leb, ltb-true}
+use lib.Dec.{eqb, ltb}
+use borrow.Author.Tests.{eq-eqb, ne-eqb, lt-ltb, le-ltb, le-leb, lt-leb}
 use Rattle.rules.specs.Bytes.{Verdict, accepted, Walked, walk, wholeRecords, refusedIf, firstRefused}
 use Rattle.rules.specs.Tree.{treeRecords, kind, isAsync, isFinish, isEnd, classCount, class, kinds, openAfter, hasKind, wellFormed}
 use Rattle.rules.specs.Tree.{judgeTreeRecord, nextOpen, treeWalk, wrongLength, treeVerdict}

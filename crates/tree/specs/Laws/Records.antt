@@ -83,20 +83,12 @@ length-weights tree = length-fields weight tree
 pub length-paired : (tree : List ℕ) → length (classes tree) ≡ length (weights tree)
 length-paired tree = length-classes tree ∙ sym (length-weights tree)
 
--- A step's kind is byte 0 of its record, its class byte 1.
+-- A step's kind is byte 0 of its record.
 pub kind-at : (tree : List ℕ) (i : ℕ) → i < length tree / 8 → kindAt (kinds tree) i ≡ getD tree (8 * i) 0
 unfolding kindAt kinds kind
 kind-at tree i h =
     let e : 8 * i + 0 ≡ 8 * i = omega arith in
     rw e at (byte-at 0 tree i (omega arith) h)
-
-pub kind-past : (tree : List ℕ) (i : ℕ) → length tree / 8 ≤ i → kindAt (kinds tree) i ≡ 0
-unfolding kindAt kinds
-kind-past tree i h = field-past kind tree i h
-
-pub class-at : (tree : List ℕ) (i : ℕ) → i < length tree / 8 → getD (classes tree) i 0 ≡ getD tree (8 * i + 1) 0
-unfolding classes class
-class-at tree i h = byte-at 1 tree i (omega arith) h
 
 pub class-past : (tree : List ℕ) (i : ℕ) → length tree / 8 ≤ i → getD (classes tree) i 0 ≡ 0
 unfolding classes

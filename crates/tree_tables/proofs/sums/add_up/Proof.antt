@@ -1,10 +1,8 @@
 -- `tree_tables::sums::add_up` meets its contract: classes that add up to 0 are all 0, and then class 0 has what all steps weigh, which
 -- is the last of the sums. Assumes nothing.
-use mathlib.Core.Path.{_≡_, sym, ap, _∙_}
-use mathlib.Core.List.{List}
-use Prim.Native.Nat.{ℕ, _/_, _<_}
+use mathlib.Core.Path.{_≡_, sym}
 use native.Mathlib.Omega.{arith}
-use lib.ListN.{length, getD, set}
+use lib.ListN.{length}
 use borrow.Author.Needs.{needs}
 use Rattle.rules.specs.Tree.{kinds, classes, weights}
 use Rattle.tree.specs.Laws.Records.{length-kinds, length-paired}

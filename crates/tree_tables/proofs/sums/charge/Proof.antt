@@ -1,9 +1,9 @@
 -- `tree_tables::sums::charge` meets its contract: each turn charges the class of one step with its weight; 4,095 weights of 32 bits
 -- stay below 64 bits. Assumes nothing.
 use Prim.Native.Nat.{_-_, _≤_, _<_}
-use mathlib.Core.Path.{_≡_, sym, _∙_}
+use mathlib.Core.Path.{_≡_}
 use native.Mathlib.Omega.{arith}
-use lib.ListN.{length, getD}
+use lib.ListN.{length}
 use Rattle.rules.specs.Tree.{kinds, classes, weights}
 use Rattle.tree.specs.Laws.Records.{length-kinds, length-paired}
 use Rattle.tree_tables.specs.Laws.Charging.{Charged, charge-start, charge-turn, charged-all}
