@@ -1,9 +1,9 @@
 //! A plain reference simulator of document 01, with a worker count for each
-//! run, the schedule maker and a class for each step as document 02 has them:
-//! reading a task tree, running it under scheduler events, recording,
-//! replaying, making schedules, and the listing program. It is written from
-//! these two documents alone and shares no code with the library it is meant
-//! to test.
+//! run, the schedule maker, a class for each step and the step that a worker
+//! waits for as document 02 has them: reading a task tree, running it under
+//! scheduler events, recording, replaying, making schedules, and the listing
+//! program. It is written from these two documents alone and shares no code
+//! with the library it is meant to test.
 
 pub mod cover;
 pub mod phases;

@@ -147,6 +147,17 @@ pub fn flat_tree(children: usize) -> Vec<u8> {
     tree_of_kinds(&kinds)
 }
 
+/// A tree whose root opens one finish child and then ends. The child's records
+/// are these, which have at most 63 tasks open together.
+pub fn pile(child: &[u8]) -> Vec<u8> {
+    [&tree_record(2, 1), child, &tree_record(3, 1)].concat()
+}
+
+/// A tree of so many finish children, one in the other; all weights 1.
+pub fn nested_finishes(depth: usize) -> Vec<u8> {
+    tree_of_kinds(&[vec![2; depth], vec![3; depth + 1]].concat())
+}
+
 fn weight(rng: &mut Rng, weights: Weights) -> u32 {
     match weights {
         Weights::One => 1,
@@ -298,6 +309,24 @@ pub fn tree(rng: &mut Rng, tasks: usize) -> Vec<u8> {
         Weights::Mixed,
     ]);
     tree_with(rng, shape, tasks, finish, weights)
+}
+
+/// An accepted tree of so many spawned tasks or a few less, many of them finish
+/// children: of any shape, with one around all others, or one in the other.
+pub fn finish_tree(rng: &mut Rng, tasks: usize) -> Vec<u8> {
+    let finish = rng.pick(&[20, 50, 80, 100]);
+    let any = rng.pick(&SHAPES);
+    match rng.below(10) {
+        0 => nested_finishes(tasks.min(MAX_OPEN - 1)),
+        1..=4 if tasks > 0 => {
+            // Not too deep for the task around it.
+            let flat = rng.pick(&[Shape::Balanced, Shape::Flat]);
+            let shape = if tasks < MAX_OPEN { any } else { flat };
+            let finish = rng.pick(&[0, finish]);
+            pile(&tree_with(rng, shape, tasks - 1, finish, Weights::One))
+        }
+        _ => tree_with(rng, any, tasks, finish, Weights::One),
+    }
 }
 
 /// A tree file with one to three damages. It may still be accepted.
@@ -566,6 +595,29 @@ pub fn all_stolen(policy: Policy, children: usize) -> Vec<[u8; 2]> {
     }
     events.push([last, last]);
     events
+}
+
+/// Runs all that can run while these steps do not, by rounds in which every
+/// idle worker steals if it can. Hands back the events.
+pub fn run_all_but(run: &mut Run, kept: &[usize]) -> Vec<[u8; 2]> {
+    let mut events = Vec::new();
+    loop {
+        let before = events.len();
+        for worker in 0..run.workers.len() {
+            let other = match run.workers[worker].held {
+                Some(step) if kept.contains(&step) => continue,
+                Some(_) => worker,
+                None => run.workers.iter().position(|w| !w.deque.is_empty()).unwrap_or(worker),
+            };
+            let event = [worker as u8, other as u8];
+            if run.event(event[0], event[1]).is_ok() {
+                events.push(event);
+            }
+        }
+        if events.len() == before {
+            return events;
+        }
+    }
 }
 
 /// A whole event list for this tree: mostly acceptable events, some bad.

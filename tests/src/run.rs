@@ -142,6 +142,28 @@ impl Run {
         }
     }
 
+    /// The highest step of the task and its descendants that has not run.
+    fn highest_unrun(&self, task: usize) -> Option<usize> {
+        let task = &self.tree.tasks()[task];
+        let own = task.steps.iter().copied().filter(|&step| !self.ran[step]).max();
+        let inside = task.children.iter().filter_map(|&child| self.highest_unrun(child)).max();
+        own.max(inside)
+    }
+
+    /// What a holder of this step waits for, whether there is one or not: the
+    /// highest step that has not run of the finish child before it and of that
+    /// child's descendants.
+    // Reading: a step that follows no finish child waits for nothing.
+    pub fn awaited_before(&self, step: usize) -> Option<usize> {
+        self.highest_unrun(self.tree.finish_child_before(step)?)
+    }
+
+    /// The step that the worker waits for; none if it may run what it holds or
+    /// is idle.
+    pub fn awaited(&self, worker: usize) -> Option<usize> {
+        self.awaited_before(self.workers[worker].held?)
+    }
+
     /// The number with which this event would be refused now; 0 if none.
     pub fn judge(&self, first: u8, second: u8) -> u32 {
         let (a, b) = (usize::from(first), usize::from(second));

@@ -150,7 +150,11 @@ fn statements(whole: &str) -> Vec<String> {
 
 /// The pages with several theorems: demand 3, the worker count and the classes; progress of a state with the invariant, and of one
 /// that events lead to. Every other has one.
-const SEVERAL: [(&str, usize); 2] = [("crates/agreement/specs/Theorem.antt", 3), ("crates/run_progress/specs/Theorem.antt", 2)];
+const SEVERAL: [(&str, usize); 3] = [
+    ("crates/agreement/specs/Theorem.antt", 3),
+    ("crates/run_progress/specs/Theorem.antt", 2),
+    ("crates/run_refinement/specs/Theorem.antt", 2),
+];
 
 /// Every page to be believed, with what names it: an entry, a theorem or another page.
 fn believed() -> BTreeMap<String, String> {

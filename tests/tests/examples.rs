@@ -1,6 +1,8 @@
 //! The examples of document 01, and worked cases of a run's own worker count,
-//! of the schedule maker and of the classes.
+//! of the schedule maker, of the classes and of the awaited step.
 
+#[path = "library/awaited.rs"]
+mod awaited;
 #[path = "library/classes.rs"]
 mod classes;
 #[path = "library/counts.rs"]
@@ -424,5 +426,25 @@ fn worked_cases_of_the_classes() {
         assert_eq!(refusal(answer.number, answer.position), want, "{tree:?}");
         let (answer, _) = replay_to_vecs(2, 16, &tree, &[]);
         assert_eq!(refusal(answer.number, answer.position), want, "{tree:?}");
+    }
+}
+
+#[test]
+fn worked_cases_of_the_awaited_step() {
+    for (policy, kinds, events, ran, awaited, waiting) in awaited::CASES {
+        let case = format!("policy {policy}, {kinds:?}, events {events:?}");
+        let mut run = Run::start(policy, 4, &tree_of_kinds(kinds)).unwrap();
+        for event in events {
+            run.event(event[0], event[1]).unwrap();
+        }
+        let steps = || 0..kinds.len();
+        assert_eq!(steps().filter(|&step| run.ran[step]).collect::<Vec<_>>(), ran, "{case}");
+        let found = steps().filter_map(|step| Some((step, run.awaited_before(step)?)));
+        assert_eq!(found.collect::<Vec<_>>(), awaited, "{case}");
+        for worker in 0..4 {
+            let waits = waiting.contains(&worker);
+            assert_eq!(run.judge(worker, worker) == 10, waits, "{case}, worker {worker}");
+            assert_eq!(run.awaited(worker.into()).is_some(), waits, "{case}, worker {worker}");
+        }
     }
 }

@@ -10,6 +10,8 @@ mod guarded;
 #[path = "library/lent.rs"]
 mod lent;
 mod library;
+#[path = "library/piles.rs"]
+mod piles;
 #[path = "library/stack.rs"]
 mod stack;
 #[path = "library/trees.rs"]
@@ -18,8 +20,8 @@ mod trees;
 use std::fmt;
 
 use frame_tests::random::{
-    accepted_bytes, all_stolen, any_count, any_event, damaged_tree, drive, events_to_record, flat_tree, nearest_count, tree,
-    tree_of_kinds, tree_with, without_classes, Plan, Rng, Weights, SHAPES,
+    accepted_bytes, all_stolen, any_count, any_event, damaged_tree, drive, events_to_record, finish_tree, flat_tree,
+    nearest_count, run_all_but, tree, tree_of_kinds, tree_with, without_classes, Plan, Rng, Weights, SHAPES,
 };
 use frame_tests::record::{record, MAX_EVENTS};
 use frame_tests::run::{Policy, Run};
@@ -27,6 +29,7 @@ use frame_tests::tree::Tree;
 use guarded::Guarded;
 use lent::{about_to_call, put, same_bytes};
 use library::{FrameRecord, RUN};
+use piles::{piles, Pile};
 use trees::{trees, S};
 
 /// What a record call is given.
@@ -146,6 +149,13 @@ impl Both {
 /// The simulator's reading of a policy that is one.
 fn policy_of(byte: u8) -> Policy {
     Policy::parse(byte).expect("the policy is one")
+}
+
+fn byte_of(policy: Policy) -> u8 {
+    match policy {
+        Policy::WorkFirst => 1,
+        Policy::HelpFirst => 2,
+    }
 }
 
 // ---- Random calls ----
@@ -528,6 +538,74 @@ fn as_single_events() {
     }
     assert!(refused[8..].iter().all(|&times| times > 500), "{refused:?}");
     assert!(finished > 1_000 && finished < 5_000, "{finished}");
+}
+
+// ---- Polls of those who wait ----
+
+/// The run's workers that wait for a step.
+fn waiting(run: &Run) -> Vec<u8> {
+    (0..run.workers.len()).filter(|&worker| run.awaited(worker).is_some()).map(|worker| worker as u8).collect()
+}
+
+impl Both {
+    /// The events that led to this run, then a poll of each worker that waits, and anything behind it: 10 at the poll. Gives the
+    /// count of those who wait.
+    fn polled(&mut self, rng: &mut Rng, tree: &[u8], run: &Run, events: &[u8], case: fmt::Arguments) -> usize {
+        let waiting = waiting(run);
+        for &worker in &waiting {
+            let more = 2 * rng.below(3);
+            let list = [events, &[worker, worker], &rng.bytes(more)].concat();
+            let call = Call::new(rng, tree, byte_of(run.policy), run.workers.len() as u8, &list, needed(tree));
+            self.numbered(&call, (10, events.len() / 2), format_args!("{case}, worker {worker}"));
+        }
+        waiting.len()
+    }
+}
+
+/// After some events of any run, and after all that can be had while some steps do not run.
+#[test]
+fn lists_with_a_poll() {
+    let mut both = Both::new();
+    let mut polls = 0;
+    for seed in 0..3_000 {
+        let mut rng = Rng::new(seed);
+        let tasks = if rng.percent(2) { rng.between(150, 2_047) } else { rng.below(60) };
+        let bytes = finish_tree(&mut rng, tasks);
+        let (policy, workers) = (rng.between(1, 2) as u8, rng.between(2, 16));
+        let mut run = Run::start(policy, workers as u8, &bytes).expect("the tree is accepted");
+        let plan = Plan { events: rng.below(4 * (tasks + 1)), steals: 95, ..Plan::any(&mut rng, workers) };
+        let mut events = accepted_bytes(&drive(&mut rng, &mut run, &plan));
+        polls += both.polled(&mut rng, &bytes, &run, &events, format_args!("seed {seed}"));
+        let kept: Vec<usize> = (0..rng.between(1, 5)).map(|_| rng.below(bytes.len() / 8)).collect();
+        events.extend(run_all_but(&mut run, &kept).concat());
+        polls += both.polled(&mut rng, &bytes, &run, &events, format_args!("seed {seed}, all but {kept:?}"));
+    }
+    assert!(polls > 5_000, "{polls}");
+}
+
+/// One end in a finish child is left for last: a poll before it is refused, and one behind it ends the run.
+#[test]
+fn a_poll_before_the_last_step_of_a_finish_child() {
+    let mut both = Both::new();
+    let large = [1_023, 4_093].map(|steps| Pile { steps, singles: 1 });
+    for (seed, pile) in piles().chain(large).enumerate() {
+        let mut rng = Rng::new(seed as u64);
+        let bytes = pile.tree();
+        let every = if pile.steps < 500 { 1 } else { 97 };
+        for left in pile.ends().into_iter().step_by(every) {
+            let (policy, workers) = (rng.between(1, 2) as u8, rng.between(3, 8) as u8);
+            let case = format!("seed {seed}, {pile:?}, policy {policy}, {workers} workers, step {left}");
+            let mut run = Run::start(policy, workers, &bytes).expect("the tree is accepted");
+            let mut events = run_all_but(&mut run, &[left]).concat();
+            assert_eq!(both.polled(&mut rng, &bytes, &run, &events, format_args!("{case}")), 1, "{case}");
+            events.extend(run_all_but(&mut run, &[pile.behind()]).concat());
+            assert!(waiting(&run).is_empty(), "{case}");
+            events.extend(run_all_but(&mut run, &[]).concat());
+            let call = Call::new(&mut rng, &bytes, policy, workers, &events, needed(&bytes));
+            let got = both.same(&call, format_args!("{case}"));
+            assert_eq!((got.number, got.finished), (0, 1), "{case}");
+        }
+    }
 }
 
 // ---- Document 01's cases ----

@@ -1,6 +1,8 @@
 //! Starts, single events (by value and in place) and idle answers over the C interface, event by event: against the simulator on
 //! the runs that a start leads to, and against the contract on any state and any bytes. A failure names its seed and its event.
 
+#[path = "library/awaited.rs"]
+mod awaited;
 #[path = "library/classes.rs"]
 mod classes;
 #[path = "library/counts.rs"]
@@ -10,19 +12,23 @@ mod guarded;
 #[path = "library/lent.rs"]
 mod lent;
 mod library;
+#[path = "library/piles.rs"]
+mod piles;
 
+use std::collections::BTreeSet;
 use std::fmt;
 use std::mem::transmute;
 
 use frame_tests::cover::WORKERS;
 use frame_tests::random::{
-    all_stolen, any_count, damaged_tree, drive, flat_tree, tree, tree_of_kinds, tree_with, without_classes, worker_at_the_edge,
-    Plan, Rng, Weights, SHAPES,
+    all_stolen, any_count, damaged_tree, drive, finish_tree, flat_tree, run_all_but, tree, tree_of_kinds, tree_with,
+    without_classes, worker_at_the_edge, Plan, Rng, Weights, SHAPES,
 };
 use frame_tests::run::{Policy, Run};
 use guarded::Guarded;
 use lent::{about_to_call, put, same_bytes};
 use library::{FrameEvent, FrameIdle, FrameOutcome, RunState, NOT_RUN, NO_STEP, RUN};
+use piles::{piles, Pile};
 
 /// The most steps of a tree.
 const MOST_STEPS: usize = 4_095;
@@ -453,6 +459,205 @@ fn as_many_steals_as_a_run_can_have() {
         assert_eq!(state.steals, 2_047, "{case}");
         assert_eq!(state.phase[1], 2_047, "{case}");
         assert_eq!(library::idle(state).set, all, "{case}");
+    }
+}
+
+// ---- Polls of those who wait ----
+
+/// How often the polls met each case.
+#[derive(Default, Debug)]
+struct Polls {
+    may_run: usize,
+    waiting: usize,
+    /// Of these: the finish child has ended, and a descendant has not.
+    ended: usize,
+    /// The steps of the finish child, and how far before the held step the awaited one stands.
+    met: BTreeSet<(usize, usize)>,
+}
+
+impl Polls {
+    fn count(&mut self, run: &Run, held: usize, awaited: usize) {
+        let child = run.tree.finish_child_before(held).expect("only behind a finish child is one awaited");
+        let first = run.tree.tasks()[child].steps[0];
+        self.waiting += 1;
+        self.ended += usize::from(awaited < held - 1);
+        self.met.insert((held - first, held - awaited));
+    }
+
+    /// In how many ways the polls met children that are longer.
+    fn longer_than(&self, steps: usize) -> usize {
+        self.met.iter().filter(|(child, _)| *child > steps).count()
+    }
+}
+
+impl Both<'_> {
+    /// Every worker tries to run its step, and those who wait try again, as a host's may. Whoever waits for a step is refused
+    /// with 10 and changes no byte; whoever holds another step may run, on a copy.
+    fn poll(&mut self, polls: &mut Polls) {
+        let at = self.at;
+        let given = state_bytes(&self.lent.state);
+        for w in 0..self.run.workers.len() as u8 {
+            let held = self.run.workers[usize::from(w)].held;
+            match (held, self.run.awaited(w.into())) {
+                (Some(held), Some(awaited)) => {
+                    for _ in 0..3 {
+                        let got = self.lent.event(self.tree, w, w, at);
+                        assert_eq!(numbers(&got.outcome), [10, 0, 0, 0, 0], "{at}: worker {w} at {held} waits for {awaited}");
+                    }
+                    polls.count(&self.run, held, awaited);
+                }
+                _ => {
+                    let got = both_ways(&mut self.lent.state.clone(), self.tree, w, w, at);
+                    assert_eq!(got.outcome.number, if held.is_some() { 0 } else { 9 }, "{at}: worker {w} at {held:?}");
+                    polls.may_run += usize::from(held.is_some());
+                }
+            }
+        }
+        same_bytes(&state_bytes(&self.lent.state), &given, "state after polls", format_args!("{at}"));
+    }
+
+    /// One event to both that both accept.
+    fn accept(&mut self, event: [u8; 2]) {
+        let [first, second] = event;
+        let got = library::event_in_place(&mut self.lent.state, self.tree, first, second);
+        assert_eq!((got.number, self.run.judge(first, second)), (0, 0), "{}: {first} {second}", self.at);
+        self.run.event(first, second).expect("the event is accepted");
+    }
+
+    /// All events that can be had while these steps do not run, then polls.
+    fn all_but(&mut self, kept: &[usize], polls: &mut Polls) {
+        for event in run_all_but(&mut self.run.clone(), kept) {
+            self.accept(event);
+        }
+        self.whole_view();
+        self.poll(polls);
+    }
+}
+
+/// A random run of the tree to its end, with a poll of every worker after every event.
+fn polled_run(rng: &mut Rng, bytes: &[u8], seed: u64, polls: &mut Polls) {
+    let (policy, workers) = (rng.between(1, 2) as u8, run_count(rng));
+    let mut both = Both::start(bytes, policy, workers, seed);
+    let plan = Plan { steals: rng.pick(&[30, 60, 95]), ..Plan::any(rng, workers.into()) };
+    for tried in drive(rng, &mut both.run.clone(), &plan) {
+        both.event(tried.event, &mut Seen::default());
+        both.poll(polls);
+    }
+    both.whole_view();
+    assert!(both.run.finished(), "seed {seed}");
+}
+
+#[test]
+fn polls_in_small_runs() {
+    let mut polls = Polls::default();
+    for seed in 0..1_500 {
+        let mut rng = Rng::new(seed);
+        let tasks = if rng.percent(10) { rng.below(150) } else { rng.below(25) };
+        let bytes = finish_tree(&mut rng, tasks);
+        polled_run(&mut rng, &bytes, seed, &mut polls);
+    }
+    assert!(polls.may_run > 80_000 && polls.waiting > 80_000 && polls.ended > 15_000, "{polls:?}");
+    assert!(polls.longer_than(64) > 250 && polls.longer_than(128) > 150, "{polls:?}");
+}
+
+#[test]
+fn polls_in_large_runs() {
+    let mut polls = Polls::default();
+    for seed in 0..20 {
+        let mut rng = Rng::new(seed);
+        let tasks = rng.between(150, 2_047);
+        let bytes = finish_tree(&mut rng, tasks);
+        polled_run(&mut rng, &bytes, seed, &mut polls);
+    }
+    assert!(polls.may_run > 100_000 && polls.waiting > 50_000 && polls.ended > 15_000, "{polls:?}");
+    assert!(polls.longer_than(256) > 400, "{polls:?}");
+}
+
+/// Some steps stay behind for as long as can be, and then run one after the other.
+#[test]
+fn polls_with_steps_left_for_last() {
+    let mut polls = Polls::default();
+    for seed in 0..1_000 {
+        let mut rng = Rng::new(seed);
+        let tasks = if rng.percent(2) { rng.between(150, 2_047) } else { rng.below(150) };
+        let bytes = finish_tree(&mut rng, tasks);
+        let policy = rng.between(1, 2) as u8;
+        let mut both = Both::start(&bytes, policy, run_count(&mut rng), seed);
+        let mut kept: Vec<usize> = (0..rng.between(1, 6)).map(|_| rng.below(bytes.len() / 8)).collect();
+        while !kept.is_empty() {
+            both.all_but(&kept, &mut polls);
+            kept.swap_remove(rng.below(kept.len()));
+        }
+        both.all_but(&[], &mut polls);
+        assert!(both.run.finished(), "seed {seed}");
+    }
+    assert!(polls.waiting > 5_000 && polls.ended > 1_000, "{polls:?}");
+    assert!(polls.longer_than(256) > 80, "{polls:?}");
+}
+
+/// These steps of the child run last. Until then whoever holds the step behind it waits for the highest of them.
+fn left_for_last(seed: u64, policy: u8, pile: Pile, left: &[usize], polls: &mut Polls) {
+    let bytes = pile.tree();
+    let behind = pile.behind();
+    // One waits, and one more than those that hold what is left can go on.
+    let workers = Rng::new(seed).between(left.len() + 2, 8) as u8;
+    let mut both = Both::start(&bytes, policy, workers, seed);
+    both.all_but(left, polls);
+    assert!((1..behind).all(|step| both.run.ran[step] != left.contains(&step)), "seed {seed}");
+    assert_eq!(both.run.awaited_before(behind), left.iter().copied().max(), "seed {seed}");
+    both.all_but(&[behind], polls);
+    assert_eq!(both.run.awaited_before(behind), None, "seed {seed}");
+    both.all_but(&[], polls);
+    assert!(both.run.finished(), "seed {seed}");
+}
+
+/// Every end in a finish child is left for last: so the awaited step is met at every distance from the held one.
+#[test]
+fn one_step_left_for_last() {
+    let mut polls = Polls::default();
+    let mut seed = 0;
+    for pile in piles() {
+        for (policy, left) in [1, 2].into_iter().flat_map(|policy| pile.ends().into_iter().map(move |left| (policy, left))) {
+            left_for_last(seed, policy, pile, &[left], &mut polls);
+            seed += 1;
+        }
+    }
+    // A child's first step is no end, unless it is all there is.
+    let mut distances = piles::lengths().flat_map(|steps| (1..steps.max(2)).map(move |distance| (steps, distance)));
+    assert!(distances.all(|met| polls.met.contains(&met)), "{polls:?}");
+}
+
+/// In large children, an end near a multiple of 64 steps from either end of the child, and some lower ones.
+#[test]
+fn steps_left_for_last_in_large_children() {
+    let mut polls = Polls::default();
+    for seed in 0..90 {
+        let mut rng = Rng::new(seed);
+        let steps = [511, 513, 1_023, 1_025, 2_047, 4_093][seed as usize % 6];
+        let pile = Pile { steps, singles: rng.below(2) };
+        let ends = pile.ends();
+        let near = |&step: &usize| [0, 1, 63].iter().any(|&rest| step % 64 == rest || (pile.behind() - step) % 64 == rest);
+        let near: Vec<usize> = ends.iter().copied().filter(near).collect();
+        let highest = rng.pick(&near);
+        let lower = (0..rng.below(4)).map(|_| rng.pick(&ends)).filter(|&step| step < highest);
+        let left: Vec<usize> = lower.chain([highest]).collect();
+        left_for_last(seed, rng.between(1, 2) as u8, pile, &left, &mut polls);
+    }
+    assert!(polls.longer_than(256) > 80, "{polls:?}");
+}
+
+/// The worked cases of the awaited step.
+#[test]
+fn worked_cases_of_the_awaited_step() {
+    for (k, (policy, kinds, events, _, _, waiting)) in awaited::CASES.into_iter().enumerate() {
+        let bytes = tree_of_kinds(kinds);
+        let mut both = Both::start(&bytes, policy, 4, k as u64);
+        both.events(events, 1, &mut Seen::default());
+        both.poll(&mut Polls::default());
+        for w in 0..4 {
+            let number = library::event(both.lent.state, &bytes, w, w).outcome.number;
+            assert_eq!(number == 10, waiting.contains(&w), "case {k}, worker {w}: {number}");
+        }
     }
 }
 
@@ -1177,6 +1382,48 @@ fn any_state_with_bytes_of_any_length() {
     }
     assert!(seen.runs > 5_000 && seen.steals > 2_000, "{seen:?}");
     assert!([2, 8, 9, 10, 11, 12].iter().all(|&number| seen.refused[number] > 500), "{seen:?}");
+}
+
+/// Whoever holds the step behind a finish child waits exactly if one of the child's places is that of a step that has not run,
+/// wherever it stands and whatever the others are. No run leads to most of these states.
+#[test]
+fn one_place_of_a_finish_child() {
+    let mut room = Guarded::new(STATE_BYTES);
+    let (mut waits, mut runs) = (0, 0);
+    let large = [1_023, 4_093].map(|steps| Pile { steps, singles: 1 });
+    for (seed, pile) in piles().chain(large).enumerate() {
+        let mut rng = Rng::new(seed as u64);
+        // Children before it and behind it, so that it begins and ends anywhere.
+        let [before, behind] = [(); 2].map(|()| rng.below(40).min((MOST_STEPS - 2 - pile.steps) / 4));
+        let kinds = [[1, 3].repeat(before), vec![2], pile.kinds(), [1, 3].repeat(behind), vec![3]].concat();
+        let tree = tree_of_kinds(&kinds);
+        let first = 2 * before + 1;
+        let held = first + pile.steps;
+        assert_eq!(library::finish_before(&tree, held), first, "seed {seed}");
+        let worker = rng.below(WORKERS) as u8;
+        // Some differ in one bit.
+        let mixed = std::array::from_fn(|_| rng.pick(&[0, 1, 15, 16, 18, 19, 25, 49, 81, 145, 255]));
+        let alike = [RUN, 0, 15, 18, 255].map(|place| [place; MOST_STEPS]);
+        for others in alike.into_iter().chain([mixed]) {
+            let mut state = RunState { place: others, ..first_state(rng.between(1, 2) as u8, 16) };
+            state.held[usize::from(worker)] = held as u16;
+            for at in 0..kinds.len() {
+                state.place[at] = NOT_RUN;
+                let case = format!("seed {seed}, places {}, {at}", others[0]);
+                let inside = (first..held).contains(&at);
+                let want = Contract { tree: &tree, state }.event(worker, worker);
+                assert_eq!(want.outcome.number, if inside { 10 } else { 0 }, "{case}");
+                about_to_call(format_args!("{case}"));
+                let lent = lend_state(&mut room, &state, at % 2 == 0);
+                let got = both_ways(lent, &tree, worker, worker, &case);
+                assert!(got == want, "{case}: {:?}, not {:?}", got.outcome, want.outcome);
+                state.place[at] = others[at];
+                waits += usize::from(inside);
+                runs += usize::from(!inside);
+            }
+        }
+    }
+    assert!(waits > 40_000 && runs > 10_000, "{waits} {runs}");
 }
 
 /// Every damaged count on states that runs lead to, with every pair of workers up to one that no run has: with 0 each event is

@@ -19,8 +19,11 @@ mod trees;
 use std::fmt;
 
 use frame_tests::random::{
-    all_trees, any_count, any_seed, damaged_tree, tree, tree_of_kinds, tree_with, without_classes, Rng, Weights, SHAPES,
+    all_trees, any_count, any_seed, damaged_tree, finish_tree, flat_tree, nested_finishes, pile, tree, tree_of_kinds, tree_with,
+    without_classes, Rng, Shape, Weights, SHAPES,
 };
+use frame_tests::run::Run;
+use frame_tests::schedule::Maker;
 use frame_tests::{record, replay, schedule};
 use guarded::Guarded;
 use lent::{about_to_call, put, same_bytes};
@@ -193,6 +196,40 @@ fn large_schedules() {
         both.numbered(&call, (0, 0), format_args!("seed {seed}"));
     }
     assert!(both.seen.steals > 20_000, "{:?}", both.seen);
+}
+
+/// How many wait at the end of each round, added up.
+fn waited(call: &Call) -> usize {
+    let run = Run::start(call.policy, call.workers, &call.tree).expect("the tree is accepted");
+    let mut maker = Maker::new(run, call.seed);
+    let mut waited = 0;
+    while !maker.run.finished() {
+        maker.round();
+        waited += (0..maker.run.workers.len()).filter(|&worker| maker.run.waits(worker)).count();
+    }
+    waited
+}
+
+/// Where many wait, and long: one finish child around all other tasks, finish children in one another, and random ones.
+#[test]
+fn piles_and_nested_finishes() {
+    let mut both = Both::new();
+    let mut rng = Rng::new(0);
+    let balanced = tree_with(&mut rng, Shape::Balanced, 2_046, 0, Weights::One);
+    // Each but the innermost opens an async child first.
+    let beside = tree_of_kinds(&[[1, 3, 2].repeat(63), vec![3; 64]].concat());
+    let mut trees = vec![pile(&flat_tree(2_046)), pile(&flat_tree(31)), pile(&balanced), nested_finishes(63), beside];
+    trees.extend((1..=20).map(|k| finish_tree(&mut rng, 15 * k)));
+    let mut all = 0;
+    for (t, bytes) in trees.iter().enumerate() {
+        for (policy, workers) in [1, 2].into_iter().flat_map(|policy| [2, 3, 7, 15, 16].map(|workers| (policy, workers))) {
+            let start = any_seed(&mut rng);
+            let call = Call::new(&mut rng, bytes, policy, workers, start, needed(bytes));
+            both.numbered(&call, (0, 0), format_args!("tree {t}, policy {policy}, {workers} workers from {start}"));
+            all += waited(&call);
+        }
+    }
+    assert!(all > 100_000, "{all}");
 }
 
 #[test]

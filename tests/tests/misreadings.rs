@@ -1,7 +1,9 @@
 //! Each misreading named in document 01, and those that a run's own worker
-//! count, the schedule maker and the classes invite, each with a case it would
-//! fail.
+//! count, the schedule maker, the classes and the awaited step invite, each
+//! with a case it would fail.
 
+#[path = "library/awaited.rs"]
+mod awaited;
 #[path = "library/schedules.rs"]
 mod schedules;
 
@@ -10,7 +12,7 @@ use frame_tests::record::record_to_vecs;
 use frame_tests::replay::replay_to_vecs;
 use frame_tests::run::Run;
 use frame_tests::schedule::{schedule, schedule_to_vec};
-use frame_tests::tree::{Refusal, Tree};
+use frame_tests::tree::{Refusal, TaskKind, Tree};
 
 fn s() -> Vec<u8> {
     tree_of_kinds(&[1, 3, 2, 1, 3, 3, 3])
@@ -548,5 +550,60 @@ fn class_loads_are_weights_of_covered_steps() {
         let (answer, _, _) = record_to_vecs(1, 2, &tree, &events[..2 * count]);
         assert_eq!((answer.number, answer.finished), (0, count == 7), "{} events", count);
         assert_eq!(answer.class_loads, want, "{} events", count);
+    }
+}
+
+/// A reading of document 02's words about the awaited step.
+#[derive(Clone, Copy)]
+struct Waiting {
+    /// Whether a child of this kind is waited for.
+    child: fn(TaskKind) -> bool,
+    /// Whether a step counts that belongs to the child itself, or does not.
+    counts: fn(bool) -> bool,
+    /// What this step waits for if those before it, rising, have not run.
+    awaited: fn(usize, &[usize]) -> Option<usize>,
+}
+
+const HIGHEST: Waiting = Waiting {
+    child: |kind| kind == TaskKind::Finish,
+    counts: |_| true,
+    awaited: |_, unrun| unrun.last().copied(),
+};
+
+/// The steps of a worked case that wait, read so, each with the awaited one.
+fn awaited_by(reading: Waiting, (policy, kinds, events, ..): awaited::Case) -> Vec<(usize, usize)> {
+    let mut run = Run::start(policy, 4, &tree_of_kinds(kinds)).unwrap();
+    for event in events {
+        run.event(event[0], event[1]).unwrap();
+    }
+    let tree = &run.tree;
+    let awaited = |step| {
+        let child = tree.child_ended_before(step)?;
+        let mut unrun = tree.steps_with_descendants(child);
+        unrun.retain(|&inside| !run.ran[inside] && (reading.counts)(tree.task_of(inside) == child));
+        let waits = (reading.child)(tree.tasks()[child].kind);
+        (reading.awaited)(step, &unrun).filter(|_| waits).map(|awaited| (step, awaited))
+    };
+    (0..kinds.len()).filter_map(awaited).collect()
+}
+
+/// Each misreading of the awaited step, with a worked case for which it answers
+/// otherwise.
+#[test]
+fn misread_awaited_steps() {
+    for case in awaited::CASES {
+        assert_eq!(awaited_by(HIGHEST, case), case.4, "{:?}", case);
+    }
+    let end: fn(usize, &[usize]) -> Option<usize> = |step, unrun| unrun.first().map(|_| step - 1);
+    let misreadings = [
+        ("the lowest", 0, Waiting { awaited: |_, unrun| unrun.first().copied(), ..HIGHEST }),
+        ("the child's end until all have run", 5, Waiting { awaited: end, ..HIGHEST }),
+        ("the child's own steps alone", 5, Waiting { counts: |own| own, ..HIGHEST }),
+        ("the descendants' steps alone", 7, Waiting { counts: |own| !own, ..HIGHEST }),
+        ("an async child too", 0, Waiting { child: |_| true, ..HIGHEST }),
+    ];
+    for (misread, case, reading) in misreadings {
+        let case = awaited::CASES[case];
+        assert_ne!(awaited_by(reading, case), case.4, "{}", misread);
     }
 }

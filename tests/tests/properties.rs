@@ -123,6 +123,32 @@ fn sound_state(run: &Run) {
     assert_eq!(u32::from(run.idle_set()) >> run.workers.len(), 0);
 }
 
+/// What each step would wait for now is, of the finish child's steps and its
+/// descendants' that the log does not have, the highest.
+fn sound_waiting(run: &Run) {
+    let ran: HashSet<usize> = run.log.iter().map(|record| record.step).collect();
+    for step in 0..run.tree.count() {
+        let child = run.tree.finish_child_before(step);
+        let mut left = child.map_or(vec![], |child| run.tree.steps_with_descendants(child));
+        left.retain(|inside| !ran.contains(inside));
+        match run.awaited_before(step) {
+            None => assert!(left.is_empty()),
+            Some(awaited) => {
+                assert!(left.contains(&awaited));
+                assert!(left.iter().all(|&inside| inside <= awaited));
+                // A task's end runs behind all its other steps.
+                assert_eq!(run.tree.kind(awaited), Kind::End);
+            }
+        }
+    }
+    for (worker, me) in run.workers.iter().enumerate() {
+        let awaited = run.awaited(worker);
+        assert_eq!(awaited, me.held.and_then(|step| run.awaited_before(step)));
+        assert_eq!(awaited.is_some(), run.waits(worker));
+        assert_eq!(awaited.is_some(), run.judge(worker as u8, worker as u8) == 10);
+    }
+}
+
 fn random_schedule(seed: u64, most_tasks: usize) {
     let mut rng = Rng::new(seed);
     let tasks = rng.between(0, most_tasks);
@@ -392,6 +418,7 @@ fn all_schedules(policy: u8, tree: &[u8]) -> usize {
             continue;
         }
         sound_state(&run);
+        sound_waiting(&run);
         same_phases(policy, tree, &run, &events);
         for first in 0..3 {
             for second in 0..3 {
@@ -405,6 +432,75 @@ fn all_schedules(policy: u8, tree: &[u8]) -> usize {
         }
     }
     seen.len()
+}
+
+/// Event by event: the awaited step stays until it runs itself; then it is a
+/// lower one, or none.
+#[test]
+fn awaited_steps() {
+    let all = |run: &Run| -> Vec<Option<usize>> {
+        (0..run.tree.count()).map(|step| run.awaited_before(step)).collect()
+    };
+    // Workers that wait, those of them whose finish child has ended, and
+    // awaited steps that ran and left another one to wait for.
+    let (mut waiting, mut ended, mut lower) = (0, 0, 0);
+    for_seeds(160_000..160_500, |seed| {
+        let mut rng = Rng::new(seed);
+        let tasks = if rng.percent(5) { rng.between(20, 80) } else { rng.between(1, 20) };
+        let tree = random::finish_tree(&mut rng, tasks);
+        for policy in [1, 2] {
+            let workers = rng.between(1, 16);
+            let bad = rng.pick(&[0, 20]);
+            let plan = Plan { events: 1, bad, ..Plan::any(&mut rng, workers) };
+            let mut run = Run::start(policy, workers as u8, &tree).unwrap();
+            while !run.finished() {
+                let (before, logged) = (all(&run), run.log.len());
+                random::drive(&mut rng, &mut run, &plan);
+                sound_waiting(&run);
+                let ran = run.log[logged..].first().map(|record| record.step);
+                for (old, new) in before.into_iter().zip(all(&run)) {
+                    if old.is_some() && old == ran {
+                        assert!(new < old);
+                        lower += usize::from(new.is_some());
+                    } else {
+                        assert_eq!(new, old);
+                    }
+                }
+                for worker in (0..workers).filter(|&worker| run.waits(worker)) {
+                    let before_held = run.workers[worker].held.map(|step| step - 1);
+                    waiting += 1;
+                    ended += usize::from(run.awaited(worker) != before_held);
+                }
+            }
+        }
+    });
+    assert!(waiting > 10_000 && ended > 500 && lower > 500, "{waiting} {ended} {lower}");
+}
+
+/// Any steps that end a task can be left for last, and then the highest of
+/// them is awaited.
+#[test]
+fn ends_left_for_last() {
+    for_seeds(165_000..165_500, |seed| {
+        let mut rng = Rng::new(seed);
+        let tasks = rng.between(1, 62);
+        let shape = rng.pick(&SHAPES);
+        let tree = random::pile(&random::tree_with(&mut rng, shape, tasks, 0, Weights::One));
+        for policy in [1, 2] {
+            let mut run = Run::start(policy, 8, &tree).unwrap();
+            let held = run.tree.count() - 1;
+            let is_end = |&step: &usize| run.tree.kind(step) == Kind::End;
+            let ends: Vec<usize> = (1..held).filter(is_end).collect();
+            let mut kept: Vec<usize> = (0..rng.below(5)).map(|_| rng.pick(&ends)).collect();
+            let highest = kept.iter().copied().max();
+            kept.push(held);
+            random::run_all_but(&mut run, &kept);
+            assert!((0..=held).all(|step| run.ran[step] != kept.contains(&step)));
+            assert_eq!(run.awaited_before(held), highest);
+            random::run_all_but(&mut run, &[]);
+            assert!(run.finished());
+        }
+    });
 }
 
 /// All traces of up to three records between three workers.

@@ -1,8 +1,9 @@
 -- Bytes, records and walks, as document 01 uses them throughout: fields are little-endian and unsigned, positions count
 -- from 0, and a walk judges a list record by record from the first.
-use Prim.Native.Nat.{ℕ, zero, suc, _+_, _*_, _/_, _%_}
+use Prim.Native.Nat.{ℕ, zero, suc, _+_, _-_, _*_, _/_, _%_}
 use mathlib.Core.Bool.{Bool, true, false, cond, _&&_, _||_}
-use mathlib.Core.List.{List, [], _∷_}
+use mathlib.Core.List.{List, [], _∷_, reverse}
+use mathlib.Core.Option.{Option, none, some}
 use lib.ListN.{length, take, drop}
 use lib.Dec.{eqb, leb}
 
@@ -42,9 +43,18 @@ module _ {A : Type 0} where
   any p [] = false
   any p (x ∷ xs) = p x || any p xs
 
+  -- The first that passes a test.
+  unfoldable pub find : (A → Bool) → List A → Option A
+  find p [] = none
+  find p (x ∷ xs) = cond (p x) (some x) (find p xs)
+
   unfoldable pub sum : (A → ℕ) → List A → ℕ
   sum f [] = 0
   sum f (x ∷ xs) = f x + sum f xs
+
+-- The highest number from `low` to before `end` that passes a test: the first that a walk backwards finds.
+unfoldable pub highest : (ℕ → Bool) → ℕ → ℕ → Option ℕ
+highest p low end = find p (reverse (count low (end - low)))
 
 -- A refusal's number and position. Number 0 accepts.
 pub record Verdict : Type 0 where

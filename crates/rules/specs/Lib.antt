@@ -12,6 +12,7 @@
 --     Counts       cases of the run's own count of workers
 --     MadeLists    cases of the schedule maker
 --     Classes      cases of the classes
+--     Awaited      cases of what a step waits for
 --     Listing      the worked example of program `phases`, and refusals and numbers that it prints
 pub mod Bytes
 pub mod Tree
@@ -25,4 +26,5 @@ pub mod NearMisses
 pub mod Counts
 pub mod MadeLists
 pub mod Classes
+pub mod Awaited
 pub mod Listing

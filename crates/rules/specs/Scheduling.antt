@@ -6,7 +6,7 @@ use mathlib.Core.List.{List, [], _∷_, _++_, dropLast}
 use mathlib.Core.Option.{Option, none, some}
 use lib.ListN.{length, getD, set, replicate}
 use lib.Dec.{eqb, leb}
-use Rattle.rules.specs.Bytes.{count, all, any}
+use Rattle.rules.specs.Bytes.{count, all, any, highest}
 use Rattle.rules.specs.Tree.{kindAt, isAsync, isEnd, cont, finishBefore}
 
 abbrev pub workFirst : ℕ
@@ -124,6 +124,11 @@ hasRun log j = any (λ e. eqb (e .step) j) log
 -- Those are the steps from the child's first step to its end, which stands just before step i.
 unfoldable pub waits : List ℕ → List Entry → ℕ → Bool
 waits ks log i = elim (finishBefore ks i) [ none ↦ false | some first ↦ not (all (hasRun log) (count first (i - first))) ]
+
+-- Document 02, #104: what such a step waits for, "the highest unrun one of the child and its descendants", or none where all of
+-- them have run or no finish child ends before step i. "Walk the child backwards from its end and stop at the first unrun step."
+unfoldable pub awaited : List ℕ → List Entry → ℕ → Option ℕ
+awaited ks log i = elim (finishBefore ks i) [ none ↦ none | some first ↦ highest (λ j. not (hasRun log j)) first i ]
 
 -- ---- events
 

@@ -7,9 +7,9 @@ ghost use mathlib.Core.Path.{_≡_};
 ghost use Prim.Native.Nat.{_≤_, _<_};
 ghost use lib.ListN.{length, set};
 ghost use Rattle.rules.specs.Tree.{mostSteps};
-ghost use Rattle.run_spec.specs.Deques.{newestMark, oldestMark, pusherOf, popped, robbed};
+ghost use Rattle.run_spec.specs.Deques.{newestMark, oldestMark, foundOf, popped, robbed};
 ghost use Rattle.run_spec.specs.Terms.{Climbs};
-use run_spec::Pusher;
+use run_spec::Found;
 use tree::MOST_STEPS;
 use tree::Step;
 use tree_tables::wide;
@@ -20,48 +20,47 @@ pub const RUN: u8 = 16;
 // A step that has not run.
 pub const NOT_RUN: u8 = 17;
 
-// The highest step marked with the worker, or with NOT_RUN, among those from `low` to before `end`, by a scan. With NOT_RUN that is no
-// pusher, but the last step that has not run.
-pub fn scan(place: &[u8; MOST_STEPS], worker: u8, low: Step, end: Step) -> Pusher
+// The highest step with this mark, a worker's or NOT_RUN, among those from `low` to before `end`, by a walk backwards.
+pub fn scan(place: &[u8; MOST_STEPS], mark: u8, low: Step, end: Step) -> Found
     requires { ⌜ end .0 ≤ mostSteps ⌝ }
-    ensures { λ r. ⌜ r ≡ pusherOf (newestMark (now (place .entry)) worker (low .0) (end .0)) ⌝ }
+    ensures { λ r. ⌜ r ≡ foundOf (newestMark (now (place .entry)) mark (low .0) (end .0)) ⌝ }
 {
     let from = low.0;
     let mut j = end.0;
     while from < j {
         j -= 1;
-        if place[j] == worker {
-            return Pusher::At(Step(j));
+        if place[j] == mark {
+            return Found::At(Step(j));
         }
     }
-    Pusher::Nothing
+    Found::Nothing
 }
 
 // The highest step marked with the worker among those from `low` to before `end`, from opener to opener: no step between is
 // marked with a worker that holds step `end`.
-fn climb(openers: &[u16], place: &[u8; MOST_STEPS], worker: u8, low: Step, end: Step) -> Pusher
+fn climb(openers: &[u16], place: &[u8; MOST_STEPS], worker: u8, low: Step, end: Step) -> Found
     requires { ⌜ (end .0 < mostSteps) × (end .0 < length (now openers)) × Climbs (now openers) (now place) worker (low .0) (end .0) ⌝ }
-    ensures { λ r. ⌜ r ≡ pusherOf (newestMark (now (place .entry)) worker (low .0) (end .0)) ⌝ }
+    ensures { λ r. ⌜ r ≡ foundOf (newestMark (now (place .entry)) worker (low .0) (end .0)) ⌝ }
 {
     let from = low.0;
     let mut j = end.0;
     while from < j {
         j = wide(openers[j]);
         if j < from {
-            return Pusher::Nothing;
+            return Found::Nothing;
         }
         if place[j] == worker {
-            return Pusher::At(Step(j));
+            return Found::At(Step(j));
         }
     }
-    Pusher::Nothing
+    Found::Nothing
 }
 
 // The highest step marked with the worker among those from `low` to before `end`: by the openers where their table has step
 // `end`, else by a scan.
-pub fn newest(openers: &[u16], place: &[u8; MOST_STEPS], worker: u8, low: Step, end: Step) -> Pusher
+pub fn newest(openers: &[u16], place: &[u8; MOST_STEPS], worker: u8, low: Step, end: Step) -> Found
     requires { ⌜ (end .0 < mostSteps) × (end .0 < length (now openers) → Climbs (now openers) (now place) worker (low .0) (end .0)) ⌝ }
-    ensures { λ r. ⌜ r ≡ pusherOf (newestMark (now (place .entry)) worker (low .0) (end .0)) ⌝ }
+    ensures { λ r. ⌜ r ≡ foundOf (newestMark (now (place .entry)) worker (low .0) (end .0)) ⌝ }
 {
     let i = end.0;
     if i < openers.len() {
@@ -71,18 +70,18 @@ pub fn newest(openers: &[u16], place: &[u8; MOST_STEPS], worker: u8, low: Step, 
 }
 
 // The lowest step marked with the worker among those from `low` to before `end`, by a scan.
-pub fn oldest(place: &[u8; MOST_STEPS], worker: u8, low: Step, end: usize) -> Pusher
+pub fn oldest(place: &[u8; MOST_STEPS], worker: u8, low: Step, end: usize) -> Found
     requires { ⌜ end ≤ mostSteps ⌝ }
-    ensures { λ r. ⌜ r ≡ pusherOf (oldestMark (now (place .entry)) worker (low .0) end) ⌝ }
+    ensures { λ r. ⌜ r ≡ foundOf (oldestMark (now (place .entry)) worker (low .0) end) ⌝ }
 {
     let mut j = low.0;
     while j < end {
         if place[j] == worker {
-            return Pusher::At(Step(j));
+            return Found::At(Step(j));
         }
         j += 1;
     }
-    Pusher::Nothing
+    Found::Nothing
 }
 
 // A worker runs an opening step, and the step that it pushes is the newest of the worker's deque.
@@ -101,40 +100,40 @@ pub fn pop(
     worker: u8,
     low: Step,
     step: Step,
-) -> Pusher
+) -> Found
     requires { let i = step .0 in
         ⌜ (i < mostSteps) × (i < length (now openers) → Climbs (now openers) (now place) worker (low .0) i) ⌝ }
-    ensures gives { λ r. ⌜ r ≡ pusherOf (newestMark (now (place .entry)) worker (low .0) (step .0)) ⌝ }
+    ensures gives { λ r. ⌜ r ≡ foundOf (newestMark (now (place .entry)) worker (low .0) (step .0)) ⌝ }
     ensures marks { λ r. ⌜ now (place .exit) ≡ popped (now (place .entry)) worker (low .0) (step .0) ⌝ }
 {
     let i = step.0;
     match newest(openers, place, worker, low, step) {
-        Pusher::At(q) => {
+        Found::At(q) => {
             let p = q.0;
             place[i] = RUN;
             place[p] = RUN;
-            Pusher::At(q)
+            Found::At(q)
         }
-        Pusher::Nothing => {
+        Found::Nothing => {
             place[i] = RUN;
-            Pusher::Nothing
+            Found::Nothing
         }
     }
 }
 
 // A thief takes the oldest step of the victim's deque, among the steps pushed by those from `low` to before `end`. Gives that
 // step's pusher.
-pub fn take(place: &mut [u8; MOST_STEPS], victim: u8, low: Step, end: usize) -> Pusher
+pub fn take(place: &mut [u8; MOST_STEPS], victim: u8, low: Step, end: usize) -> Found
     requires { ⌜ end ≤ mostSteps ⌝ }
-    ensures gives { λ r. ⌜ r ≡ pusherOf (oldestMark (now (place .entry)) victim (low .0) end) ⌝ }
+    ensures gives { λ r. ⌜ r ≡ foundOf (oldestMark (now (place .entry)) victim (low .0) end) ⌝ }
     ensures marks { λ r. ⌜ now (place .exit) ≡ robbed (now (place .entry)) victim (low .0) end ⌝ }
 {
     match oldest(place, victim, low, end) {
-        Pusher::At(q) => {
+        Found::At(q) => {
             let p = q.0;
             place[p] = RUN;
-            Pusher::At(q)
+            Found::At(q)
         }
-        Pusher::Nothing => Pusher::Nothing,
+        Found::Nothing => Found::Nothing,
     }
 }

@@ -1,11 +1,12 @@
 // A run, a steal and an event on the fields of a run's state, lent as arrays (document 01, "Scheduling"): whether it is
 // refused, and else what it stores. Single events lend the arrays of a state by value, recording and the schedule maker their
-// own. Module `run` judges and makes a run, `steal` a steal, `ordinal` counts the ordinal of its step. Any fields and any bytes
-// are safe: a held step beyond the tree is none, a tree with more records than a tree may have is refused with 2, and a count
-// above 16 is 16.
+// own. Module `run` judges and makes a run, `waiting` finds what its step waits for, `steal` judges and makes a steal, `ordinal`
+// counts the ordinal of its step. Any fields and any bytes are safe: a held step beyond the tree is none, a tree with more records
+// than a tree may have is refused with 2, and a count above 16 is 16.
 pub mod ordinal;
 pub mod run;
 pub mod steal;
+pub mod waiting;
 
 ghost use mathlib.Core.Path.{_≡_};
 ghost use mathlib.Core.List.{List};

@@ -11,7 +11,7 @@ ghost use Rattle.run_spec.specs.Stealing.{stealNumber, takenOf};
 ghost use Rattle.run_spec.specs.Terms.{Small};
 ghost use Rattle.run_spec.specs.declared.Taken.the-variants.{Of};
 use policy::WORKERS;
-use run_spec::Pusher;
+use run_spec::Found;
 use run_spec::Stolen;
 use run_spec::Taken;
 use tree::MOST_STEPS;
@@ -60,7 +60,7 @@ pub fn take_step(
 {
     let n = tree::steps(tree);
     match run_deques::take(place, victim, low, n) {
-        Pusher::At(pusher) => {
+        Found::At(pusher) => {
             let step = policy::pushed_by(tree, ends, policy, pusher);
             let ordinal = super::ordinal::ordinal_from(tree, policy, base, low, pusher);
             Taken::Of(Stolen {
@@ -69,7 +69,7 @@ pub fn take_step(
                 ordinal,
             })
         }
-        Pusher::Nothing => Taken::Nothing,
+        Found::Nothing => Taken::Nothing,
     }
 }
 

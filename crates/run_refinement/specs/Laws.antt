@@ -10,6 +10,7 @@
 --     Answers   a run's and a steal's move beside the rules' verdict, case by case
 --     Events    each call on a state that shows a run: the start, an event, the idle workers
 --     Follows   a list of events: both go on alike, and the number of a steal is that of its trace record
+--     WaitingTest  the waiting test: by the places of a state and by the log of a run
 pub mod Scans
 pub mod Hops
 pub mod Hands
@@ -21,3 +22,4 @@ pub mod AnyState
 pub mod Answers
 pub mod Events
 pub mod Follows
+pub mod WaitingTest

@@ -2,14 +2,14 @@
 -- with worker w while the step that it pushed is in w's deque, and else as run. Here is what a scan of the places finds, and
 -- what a pop and a steal leave.
 use Prim.Native.Nat.{ℕ, _-_}
-use mathlib.Core.Bool.{Bool, cond}
-use mathlib.Core.List.{List, [], _∷_, reverse}
+use mathlib.Core.Bool.{Bool}
+use mathlib.Core.List.{List}
 use mathlib.Core.Option.{Option, none, some}
 use lib.ListN.{getD, set}
 use lib.Dec.{eqb}
-use Rattle.rules.specs.Bytes.{count}
-use Rattle.run_spec.specs.declared.Pusher.{Pusher}
-use Rattle.run_spec.specs.declared.Pusher.the-variants.{At, Nothing}
+use Rattle.rules.specs.Bytes.{count, find, highest}
+use Rattle.run_spec.specs.declared.Found.{Found}
+use Rattle.run_spec.specs.declared.Found.the-variants.{At, Nothing}
 
 -- ---- marks
 
@@ -22,27 +22,22 @@ unrunMark = 17
 
 -- ---- scans
 
--- The first of some steps that passes a test.
-unfoldable pub find : (ℕ → Bool) → List ℕ → Option ℕ
-find test [] = none
-find test (x ∷ xs) = cond (test x) (some x) (find test xs)
-
 -- Step j is marked with worker w.
 unfoldable pub marked : List ℕ → ℕ → ℕ → Bool
 marked place w j = eqb (getD place j 0) w
 
 -- The highest step marked with w among those from `low` to before `end`: the pusher of the newest step of w's deque.
-unfoldable pub newestMark : List ℕ → ℕ → ℕ → ℕ → Option ℕ
-newestMark place w low end = find (marked place w) (reverse (count low (end - low)))
+abbrev pub newestMark : List ℕ → ℕ → ℕ → ℕ → Option ℕ
+newestMark place w low end = highest (marked place w) low end
 
 -- The lowest step marked with w among them: the pusher of the oldest step.
 unfoldable pub oldestMark : List ℕ → ℕ → ℕ → ℕ → Option ℕ
 oldestMark place w low end = find (marked place w) (count low (end - low))
 
 -- What is found as the code has it.
-unfoldable pub pusherOf : Option ℕ → Pusher
-pusherOf none = Nothing
-pusherOf (some q) = At (record { 0 = q })
+unfoldable pub foundOf : Option ℕ → Found
+foundOf none = Nothing
+foundOf (some q) = At (record { 0 = q })
 
 -- ---- stores
 

@@ -2,7 +2,7 @@
 use Prim.Native.Nat.{ℕ, _-_}
 use mathlib.Core.Bool.{Bool, false, cond, not}
 use mathlib.Core.List.{List}
-use mathlib.Core.Option.{none, some}
+use mathlib.Core.Option.{Option, none, some}
 use lib.ListN.{length, getD, set}
 use lib.Dec.{eqb, leb, ltb}
 use Rattle.rules.specs.Bytes.{count, all}
@@ -20,6 +20,11 @@ allRun place first end = all (λ j. not (eqb (getD place j 0) unrunMark)) (count
 -- A step after a finish child waits until all steps of the child have run, those of its descendants too: they stand between.
 unfoldable pub waitsFor : List ℕ → List ℕ → ℕ → Bool
 waitsFor ks place i = elim (finishBefore ks i) [ none ↦ false | some first ↦ not (allRun place first i) ]
+
+-- Document 02, #104: the step that it waits for, the highest of them that has not run; none where all have, or where no finish child
+-- ends before it.
+unfoldable pub awaits : List ℕ → List ℕ → ℕ → Option ℕ
+awaits ks place i = elim (finishBefore ks i) [ none ↦ none | some first ↦ newestMark place unrunMark first i ]
 
 -- ---- refusals
 

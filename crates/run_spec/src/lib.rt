@@ -15,8 +15,8 @@ pub struct Event {
     pub second: u8,
 }
 
-// The pusher of a step of a deque, or none.
-pub enum Pusher {
+// The step that was looked for, or none: the pusher of a step of a deque, or a step that has not run.
+pub enum Found {
     At(Step),
     Nothing,
 }

@@ -2,20 +2,21 @@
 -- turn does to them.
 use Prim.Native.Nat.{ℕ, suc, pred, _*_, _≤_, _<_}
 use mathlib.Core.Path.{_≡_}
-use mathlib.Core.Bool.{Bool, false, cond, _&&_}
+use mathlib.Core.Bool.{Bool, true, false, cond, _&&_}
 use mathlib.Core.List.{List, flatten}
-use mathlib.Core.Option.{none, some}
+use mathlib.Core.Option.{some}
 use lib.ListN.{length, getD}
 use lib.Dec.{ltb}
-use Rattle.rules.specs.Tree.{mostSteps, kindAt, isEnd, finishBefore, kinds}
+use Rattle.rules.specs.Tree.{mostSteps, kindAt, isEnd, kinds}
 use Rattle.rules.specs.Scheduling.{mostWorkers, Run, workerAt, hasRun}
 use Rattle.rules.specs.Calls.{startVerdict, written}
 use Rattle.rules.specs.Schedules.{Making, turn, mostMade}
 use Rattle.policy.specs.declared.Setup.{Setup}
-use Rattle.run_spec.specs.Deques.{unrunMark, marked, newestMark}
+use Rattle.run_spec.specs.Deques.{unrunMark, marked}
 use Rattle.run_spec.specs.Running.{noStep}
 use Rattle.run_spec.specs.Moves.{Fields, fieldsOf}
 use Rattle.run_refinement.specs.Tie.{Shows}
+use Rattle.run_refinement.specs.WaitingTest.{OfChild}
 use Rattle.schedule_invariant.specs.Terms.{Going}
 use Rattle.schedule_turn.specs.declared.Turned.{Turned}
 
@@ -32,22 +33,19 @@ pub record Sized (s : Run) (sizes : List ℕ) : Type 0 where
 
 -- ---- the steps that workers wait for
 
--- The highest step before step `end` that has not run, or noStep where there is none.
-unfoldable pub lastUnrun : List ℕ → ℕ → ℕ
-lastUnrun place end = elim (newestMark place unrunMark 0 end) [ none ↦ noStep | some j ↦ j ]
-
 -- j is a step, and has not run.
 unfoldable pub unrunStill : List ℕ → ℕ → Bool
 unrunStill place j = ltb j mostSteps && marked place unrunMark j
+
+-- Step r is one that step i waits for, or noStep is given for it.
+abbrev pub Noted : List ℕ → List ℕ → ℕ → ℕ → Type 0
+Noted ks place i r = (r ≡ noStep → ⊥) → OfChild ks i r × (marked place unrunMark r ≡ true)
 
 -- Worker u holds a step that follows a finish child, and step j is a step of that child or of its descendants.
 pub record Awaits (ks : List ℕ) (s : Run) (u j : ℕ) : Type 0 where
   pub step : ℕ
   pub holds : workerAt s u .hand .held ≡ some step
-  pub first : ℕ
-  pub child : finishBefore ks step ≡ some first
-  pub from : first ≤ j
-  pub before : j < step
+  pub child : OfChild ks step j
 
 -- For each worker a step that it was seen to wait for, or none: while that step has not run, the worker waits.
 pub record Awaited (ks : List ℕ) (s : Run) (awaited : List ℕ) : Type 0 where

@@ -77,7 +77,15 @@ fn run_turn(
     let steals = before.steals;
     let runs = before.runs;
     let w = worker as usize;
-    if waiting::unrun_still(place, Step(wide(awaited[w]))) {
+    let seen = Step(wide(awaited[w]));
+    if waiting::unrun_still(place, seen) {
+        return Turned { seed, steals, runs };
+    }
+    // It has run: what the worker waits for now, if it does, stands below it.
+    let step = Step(wide(held[w]));
+    let below = waiting::awaited_before(tree, openers, place, step, seen);
+    awaited[w] = below;
+    if below != NO_STEP {
         return Turned { seed, steals, runs };
     }
     let outcome = run_event::run_on(tree, ends, openers, place, held, phase, low, setup, worker);
@@ -93,8 +101,9 @@ fn run_turn(
         }
         // A run never steals.
         Outcome::Stole(number) => Turned { seed, steals, runs },
+        // It waits: what for is looked for at its next turn, from the end of the finish child before its step.
         Outcome::Refused(number) => {
-            awaited[w] = waiting::last_unrun(place, Step(wide(held[w])));
+            awaited[w] = held[w] - 1;
             Turned { seed, steals, runs }
         }
     }

@@ -6,8 +6,8 @@ use std::fmt::Write;
 use frame_tests::cover::WORKERS;
 use frame_tests::phases::phases;
 use frame_tests::random::{
-    accepted_bytes, any_count, any_seed, damaged_tree, drive, nearest_count, set_classes, trace, tree, worker_at_the_edge, Classes,
-    Plan, Rng,
+    accepted_bytes, any_count, any_seed, damaged_tree, drive, finish_tree, nearest_count, run_all_but, set_classes, trace, tree,
+    worker_at_the_edge, Classes, Plan, Rng,
 };
 use frame_tests::tree::TREE_RECORD;
 use frame_tests::{record, replay, schedule, Policy, Run, Tree};
@@ -24,6 +24,9 @@ const PROGRAM: &str = "inputPolicy inputCount inputTree inputTrace digits decima
 /// The rules' names of the schedule maker.
 const MAKER: &str = "draw named begun write drawn robbable stealTurn turn round rounds made mostMade scheduleVerdict scheduleOf \
      scheduleRefused scheduleCall";
+
+/// The rules' names of what a step waits for, and the rows' own.
+const WAITING: &str = "awaited highest find awaitedBy";
 
 /// Bytes as the rules' tables write them: a hexadecimal numeral.
 fn bytes(list: &[u8]) -> String {
@@ -164,6 +167,14 @@ fn print_row(out: &mut String, seed: u64) {
     write!(out, "record {{ got = printed {}; says = {} }} ∷ ", bytes(&input), bytes(&phases(&input))).expect("a string takes all");
 }
 
+/// A run of so many workers after some accepted events, fewer than `most`, and these.
+fn run_for_a_while(rng: &mut Rng, policy: u8, workers: usize, tree: &[u8], most: usize) -> (Run, Vec<u8>) {
+    let mut run = Run::start(policy, workers as u8, tree).expect("the tree is accepted");
+    let plan = Plan { workers: rng.between(1, workers), events: rng.below(most), bad: 0, steals: rng.pick(&[20, 60, 90]) };
+    let events = accepted_bytes(&drive(rng, &mut run, &plan));
+    (run, events)
+}
+
 /// The idle workers after some accepted events, against the simulator's.
 fn idle_row(out: &mut String, seed: u64) {
     let mut rng = Rng::new(seed);
@@ -171,9 +182,7 @@ fn idle_row(out: &mut String, seed: u64) {
     let tasks = rng.below(7);
     let tree = tree(&mut rng, tasks);
     let workers = rng.between(1, WORKERS);
-    let mut run = Run::start(policy, workers as u8, &tree).expect("the tree is accepted");
-    let plan = Plan { workers: rng.between(1, workers), events: rng.below(24), bad: 0, steals: rng.pick(&[20, 60, 90]) };
-    let events = accepted_bytes(&drive(&mut rng, &mut run, &plan));
+    let (run, events) = run_for_a_while(&mut rng, policy, workers, &tree, 24);
     write!(
         out,
         "record {{ got = answerWith {workers} (idling {policy} {} {}); says = idle {} {} {} {} }} ∷ ",
@@ -185,6 +194,25 @@ fn idle_row(out: &mut String, seed: u64) {
         run.lowest_idle()
     )
     .expect("a string takes all");
+}
+
+/// What each step would wait for after some accepted events, or after all that can be had while two steps do not run. The count
+/// of steps stands for nothing.
+fn awaited_row(out: &mut String, seed: u64) {
+    let mut rng = Rng::new(seed);
+    let policy = rng.pick(&[1, 2]);
+    let tasks = rng.between(1, 6);
+    let tree = finish_tree(&mut rng, tasks);
+    let workers = rng.between(1, WORKERS);
+    let (mut run, mut events) = run_for_a_while(&mut rng, policy, workers, &tree, 10);
+    let steps = run.tree.count();
+    if rng.percent(60) {
+        let kept = [rng.below(steps), rng.below(steps)];
+        events.extend(run_all_but(&mut run, &kept).concat());
+    }
+    let awaited: Vec<u64> = (0..steps).map(|step| run.awaited_before(step).unwrap_or(steps) as u64).collect();
+    let call = format!("awaitedBy {workers} {policy} {} {}", bytes(&tree), bytes(&events));
+    write!(out, "record {{ got = {call}; says = {} }} ∷ ", numbers(&awaited)).expect("a string takes all");
 }
 
 /// What the schedule maker answers and writes, from any seed.
@@ -215,7 +243,8 @@ fn tables(out: &mut String, name: &str, row: &str, from: u64, theorems: u64, wri
         }
         writeln!(out, "unfoldable {name}-{t} : List {row}\n{name}-{t} = {rows}[]\n").expect("a string takes all");
         writeln!(out, "{name}-{t}-holds : map (λ r. r .got) {name}-{t} ≡ map (λ r. r .says) {name}-{t}").expect("a string takes all");
-        writeln!(out, "unfolding answerWith bytes {PROGRAM} {MAKER} {name}-{t}\n{name}-{t}-holds = refl\n").expect("a string takes all");
+        let names = format!("answerWith bytes {PROGRAM} {MAKER} {WAITING} {name}-{t}");
+        writeln!(out, "unfolding {names}\n{name}-{t}-holds = refl\n").expect("a string takes all");
     }
 }
 
@@ -229,7 +258,12 @@ fn main() {
          use mathlib.Core.Path.{_≡_, refl}\n\
          use mathlib.Core.Bool.{true, false}\n\
          use mathlib.Core.List.{List, [], _∷_, map}\n\
-         use Rattle.rules.specs.Calls.{Recorded, recordCall, Replayed, replayCall}\n\
+         use mathlib.Core.Option.{none, some}\n\
+         use lib.ListN.{length}\n\
+         use Rattle.rules.specs.Bytes.{records, count, find, highest}\n\
+         use Rattle.rules.specs.Tree.{kinds}\n\
+         use Rattle.rules.specs.Scheduling.{awaited}\n\
+         use Rattle.rules.specs.Calls.{recordWalk, Recorded, recordCall, Replayed, replayCall}\n\
          use Rattle.rules.specs.Program.{PROGRAM}\n\
          use Rattle.rules.specs.Schedules.{Scheduled, MAKER}\n\
          use Rattle.rules.specs.Cases.{idling, Answer, idle, answerWith, bytes}\n\n\
@@ -237,7 +271,12 @@ fn main() {
          record ReplayRow : Type 0 where\n  got : Replayed\n  says : Replayed\n\n\
          record ScheduleRow : Type 0 where\n  got : Scheduled\n  says : Scheduled\n\n\
          record IdleRow : Type 0 where\n  got : Answer\n  says : Answer\n\n\
-         record TextRow : Type 0 where\n  got : List ℕ\n  says : List ℕ\n\n",
+         record NumbersRow : Type 0 where\n  got : List ℕ\n  says : List ℕ\n\n\
+         unfoldable awaitedBy : ℕ → ℕ → List ℕ → List ℕ → List ℕ\n\
+         awaitedBy w p tree events =\n    \
+         let ks = kinds tree in\n    \
+         let log = recordWalk w p ks (records 2 events) .state .log in\n    \
+         map (λ i. elim (awaited ks log i) [ none ↦ length ks | some j ↦ j ]) (count 0 (length ks))\n\n",
     )
     .replace("PROGRAM", &program)
     .replace("MAKER", &maker);
@@ -245,6 +284,7 @@ fn main() {
     tables(&mut out, "replayed", "ReplayRow", from, theorems, replay_row);
     tables(&mut out, "scheduled", "ScheduleRow", from, theorems, schedule_row);
     tables(&mut out, "idled", "IdleRow", from, theorems, idle_row);
-    tables(&mut out, "listed", "TextRow", from, theorems, print_row);
+    tables(&mut out, "awaiting", "NumbersRow", from, theorems, awaited_row);
+    tables(&mut out, "listed", "NumbersRow", from, theorems, print_row);
     print!("{out}");
 }

@@ -17,7 +17,9 @@ pub fn put<'a>(room: &'a mut Guarded, bytes: &[u8], end: bool) -> &'a mut [u8] {
 }
 
 pub fn same_bytes(got: &[u8], want: &[u8], what: &str, case: fmt::Arguments) {
-    if let Some(k) = (0..want.len()).find(|&k| got[k] != want[k]) {
+    // As a whole first, which is quicker.
+    if got[..want.len()] != *want {
+        let k = (0..want.len()).find(|&k| got[k] != want[k]).expect("a byte differs");
         panic!("{case}: byte {k} of the {what} is {}, not {}", got[k], want[k]);
     }
 }

@@ -4,8 +4,9 @@ use Prim.Native.Nat.{ℕ}
 use mathlib.Core.Path.{_≡_, sym, _∙_}
 use mathlib.Core.Option.{Option, some}
 use native.Mathlib.Omega.{arith}
-use Rattle.run_spec.specs.Deques.{newestMark}
-use Rattle.run_spec.specs.Laws.Marks.{pusher-at, pusher-nothing, newest-before, popped-at, popped-nothing}
+use Rattle.tree.specs.Laws.Highest.{highest-is}
+use Rattle.run_spec.specs.Deques.{newestMark, marked}
+use Rattle.run_spec.specs.Laws.Marks.{found-at, found-nothing, popped-at, popped-nothing}
 use borrow.Author.Needs.{needs}
 use Rattle.run_deques.proofs.pop.Statement.{statement}
 use Rattle.run_deques.proofs.pop.Tie as tie
@@ -30,7 +31,7 @@ abbrev looked : tie.After-q → tie.After-newest
 looked c = c .before .before
 
 found : (c : tie.After-q) → mark (looked c) ≡ some (c .q .given .0 .0 .0)
-found c = pusher-at (mark (looked c)) (c .q .given .0 .0) (sym (looked c .newest .ensures) ∙ c .q .given .1)
+found c = found-at (mark (looked c)) (looked c .newest .result) (looked c .newest .ensures) (c .q .given .0 .0) (c .q .given .1)
 
 -- ---- the needs
 
@@ -41,7 +42,7 @@ element-write-place-2 : tie.Need-element-write-place-2
 element-write-place-2 c =
     let at = c .before in
     let a = start (looked at) .args in
-    omega (arith, newest-before (a .place .now) (a .worker) (a .step .0) (a .low .0) (at .q .given .0 .0 .0) (found at))
+    omega (arith, highest-is (marked (a .place .now) (a .worker)) (a .low .0) (a .step .0) (at .q .given .0 .0 .0) (found at) .before)
 
 enum-told : tie.Need-enum-told
 enum-told c = search needs
@@ -61,7 +62,7 @@ returns-2 : tie.Need-returns-2
 returns-2 c =
     let at = c .before .before in
     let a = start at .args in
-    let none-found = pusher-nothing (mark at) (sym (at .newest .ensures) ∙ c .enum-told .given .1) in
+    let none-found = found-nothing (mark at) (at .newest .result) (at .newest .ensures) (c .enum-told .given .1) in
     (sym (c .enum-told .given .1) ∙ at .newest .ensures, popped-nothing (a .place .now) (a .worker) (a .low .0) (a .step .0) none-found)
 
 pub pop-spec : {M : Type 1} → statement M

@@ -5,7 +5,7 @@ use mathlib.Core.Path.{_≡_, sym, _∙_}
 use mathlib.Core.Option.{Option, some}
 use native.Mathlib.Omega.{arith}
 use Rattle.run_spec.specs.Deques.{oldestMark}
-use Rattle.run_spec.specs.Laws.Marks.{pusher-at, pusher-nothing, oldest-before, robbed-at, robbed-nothing}
+use Rattle.run_spec.specs.Laws.Marks.{found-at, found-nothing, oldest-before, robbed-at, robbed-nothing}
 use borrow.Author.Needs.{needs}
 use Rattle.run_deques.proofs.take.Statement.{statement}
 use Rattle.run_deques.proofs.take.Tie as tie
@@ -30,7 +30,7 @@ abbrev looked : tie.After-q → tie.After-oldest
 looked c = c .before .before
 
 found : (c : tie.After-q) → mark (looked c) ≡ some (c .q .given .0 .0 .0)
-found c = pusher-at (mark (looked c)) (c .q .given .0 .0) (sym (looked c .oldest .ensures) ∙ c .q .given .1)
+found c = found-at (mark (looked c)) (looked c .oldest .result) (looked c .oldest .ensures) (c .q .given .0 .0) (c .q .given .1)
 
 -- ---- the needs
 
@@ -55,7 +55,7 @@ returns-2 : tie.Need-returns-2
 returns-2 c =
     let at = c .before .before in
     let a = start at .args in
-    let none-found = pusher-nothing (mark at) (sym (at .oldest .ensures) ∙ c .enum-told .given .1) in
+    let none-found = found-nothing (mark at) (at .oldest .result) (at .oldest .ensures) (c .enum-told .given .1) in
     (sym (c .enum-told .given .1) ∙ at .oldest .ensures, robbed-nothing (a .place .now) (a .victim) (a .low .0) (a .end) none-found)
 
 pub take-spec : {M : Type 1} → statement M

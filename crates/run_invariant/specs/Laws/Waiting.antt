@@ -2,7 +2,7 @@
 -- Until then its holder waits and is not idle."
 use Prim.Native.Nat.{ℕ, suc, _-_, _≤_, _<_}
 use mathlib.Core.Path.{_≡_, refl, sym, ap, _∙_}
-use mathlib.Core.Bool.{Bool, true, false, _||_, not}
+use mathlib.Core.Bool.{Bool, true, false, _||_, not, Bool·not-not}
 use mathlib.Core.List.{List, [], _∷_, _++_}
 use mathlib.Core.Option.{Option, none, some}
 use native.Mathlib.Omega.{arith}
@@ -11,7 +11,8 @@ use lib.Dec.{eqb}
 use borrow.Author.Tests.{eqb-true, ne-eqb, not-false}
 use Rattle.rules.specs.Bytes.{count, all}
 use Rattle.rules.specs.Tree.{kindAt, isFinish, isEnd, cont, finishBefore}
-use Rattle.rules.specs.Scheduling.{Entry, Run, workerAt, hasRun, waits, judgeRun, holdsStep}
+use Rattle.rules.specs.Scheduling.{Entry, Run, workerAt, hasRun, waits, awaited, judgeRun, holdsStep}
+use Rattle.tree.specs.Laws.Highest.{nothing, all-highest}
 use Rattle.tree_scan.specs.Laws.Shape.{Shape}
 use Rattle.tree_scan.specs.Laws.Frames.{endAt, sizeAt}
 use Rattle.tree_scan.specs.Laws.Places.{finish-child, finish-cont}
@@ -57,6 +58,17 @@ module _ (ks : List ℕ) (sh : Shape (length ks) (endAt ks) (sizeAt ks)) (log : 
   pub async-never-waits : (q : ℕ) → q < length ks → endAt ks q ≡ false → isFinish (kindAt ks q) ≡ false → waits ks log (cont ks q) ≡ false
   unfolding waits
   async-never-waits q h o f = rw (finish-cont ks sh q h o, f, waits) refl
+
+-- A step waits exactly where there is a step that it waits for.
+pub waits-awaited : (ks : List ℕ) (log : List Entry) (i : ℕ) → waits ks log i ≡ not (nothing (awaited ks log i))
+unfolding waits awaited nothing
+waits-awaited ks log i = by (finishBefore ks i) refl
+  where
+    by : (o : Option ℕ) → finishBefore ks i ≡ o → waits ks log i ≡ not (nothing (awaited ks log i))
+    by none e = rw (waits, awaited, e) refl
+    by (some first) e =
+        rw (waits, awaited, e)
+        (ap not (all-highest (λ j. not (hasRun log j)) (hasRun log) (λ j. sym (Bool·not-not (hasRun log j))) first i))
 
 -- The holder of a step that waits is not idle, and may not run it.
 pub waiting-refused : (ks : List ℕ) (s : Run) (w i : ℕ) → workerAt s w .hand .held ≡ some i → waits ks (s .log) i ≡ true

@@ -11,19 +11,20 @@ use lib.ListN.{length, getD, set, length-set}
 use lib.Seq.{lt-length-set, getD-set-same, getD-set-other}
 use lib.Dec.{eqb}
 use borrow.Author.Tests.{eq-eqb, ne-eqb, eqb-true}
-use Rattle.rules.specs.Bytes.{any}
+use Rattle.rules.specs.Bytes.{any, find}
 use Rattle.rules.specs.Tree.{kindAt, isEnd, ordinal, taskEnd, cont}
 use Rattle.rules.specs.Scheduling.{workFirst, holds, pushes, pop, afterRun, Worker, oldest}
+use Rattle.tree.specs.Laws.Highest.{highest-is, highest-at, fails-highest}
 use Rattle.tree_scan.specs.Laws.Shape.{Shape}
 use Rattle.tree_scan.specs.Laws.Frames.{endAt, sizeAt}
 use Rattle.tree_scan.specs.Laws.Places.{ordinal-child, ordinal-cont, ordinal-most}
 use Rattle.run_invariant.specs.Laws.Counts.{has-head, any-one}
 use Rattle.run_invariant.specs.Laws.Phase.{first-holds, first-pushes, oldest-last, after-ended, after-kept}
 use Rattle.run_invariant.specs.Laws.Weights.{end-within, nested-end, holds-inside, pushes-inside}
-use Rattle.run_spec.specs.Deques.{find, marked, newestMark, oldestMark, popped, robbed}
+use Rattle.run_spec.specs.Deques.{marked, newestMark, oldestMark, popped, robbed}
 use Rattle.run_spec.specs.Ordinals.{childrenBetween, ordinalFrom}
 use Rattle.run_refinement.specs.Tie.{Line, Hops, Linked, HandShown}
-use Rattle.run_refinement.specs.Laws.Scans.{newest-found, newest-nothing, oldest-found, oldest-nothing}
+use Rattle.run_refinement.specs.Laws.Scans.{oldest-found, oldest-nothing}
 use Rattle.run_refinement.specs.Laws.Hops.{hops-more, hops-ordinal, hops-children}
 
 -- ---- the oldest of a list
@@ -180,7 +181,7 @@ find-passes test q (x ∷ xs) e = by (test x) refl e (find-passes test q xs)
 module _ (place : List ℕ) (w low : ℕ) where
   pop-mark : (i u j : ℕ) (b : Bool) → j < length place → (j ≡ i → eqb 16 u ≡ b) → (marked place w j ≡ true → eqb 16 u ≡ b)
       → ((j ≡ i → ⊥) → marked place u j ≡ b) → marked (popped place w low i) u j ≡ b
-  unfolding popped newestMark
+  unfolding popped
   pop-mark i u j b h run taken else = by (newestMark place w low i) refl
     where
       once : marked (set place i 16) u j ≡ b
@@ -190,7 +191,7 @@ module _ (place : List ℕ) (w low : ℕ) where
       by none f = rw (f, popped) once
       by (some q) f =
           rw (f, popped) (mark-set (set place i 16) q 16 u j b (lt-length-set place i 16 h)
-          (λ s. taken (rw s (find-passes (marked place w) q _ f))) (λ n. once))
+          (λ s. taken (rw s (highest-is (marked place w) low i q f .passes))) (λ n. once))
 
   rob-mark : (end u j : ℕ) (b : Bool) → j < length place → (marked place w j ≡ true → eqb 16 u ≡ b) → marked place u j ≡ b
       → marked (robbed place w low end) u j ≡ b
@@ -206,11 +207,16 @@ module _ (place : List ℕ) (w low : ℕ) where
 module _ (ks : List ℕ) (sh : Shape (length ks) (endAt ks) (sizeAt ks)) (place : List ℕ) (w low i : ℕ) where
   newest-is : (qs : List ℕ) → Marks ks place w qs → Line ks low i qs → newestMark place w low i ≡ head? qs
   unfolding any
-  newest-is [] marks l = newest-nothing place w low i (λ j x y. marks j (omega arith))
+  newest-is [] marks l = fails-highest (marked place w) low i (λ j x y. marks j (omega arith))
   newest-is (q ∷ qs) marks l =
       let h = line-step ks sh low (q ∷ qs) i l in
-      newest-found place w low i q (line-low ks low qs q (l .3)) (l .1) (marks q (omega arith) ∙ has-head q qs)
-      (λ j x y. marks j (omega arith) ∙ rw (ne-eqb j q (λ e. omega arith)) (line-past ks low qs q (l .3) j (omega arith)))
+      highest-at (marked place w) low i q
+      (record {
+        from = line-low ks low qs q (l .3);
+        before = l .1;
+        passes = marks q (omega arith) ∙ has-head q qs;
+        above = λ j x y. marks j (omega arith) ∙ rw (ne-eqb j q (λ e. omega arith)) (line-past ks low qs q (l .3) j (omega arith));
+      })
 
   oldest-is : (qs : List ℕ) → Marks ks place w qs → Line ks low i qs → oldestMark place w low (length ks) ≡ last qs
   unfolding any

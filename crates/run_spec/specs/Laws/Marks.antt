@@ -3,55 +3,25 @@
 use Prim.Native.Nat.{ℕ, zero, suc, _+_, _-_, _≤_, _<_}
 use mathlib.Core.Path.{_≡_, refl, sym, ap, _∙_}
 use mathlib.Core.Bool.{Bool, true, false, cond}
-use mathlib.Core.List.{List, [], _∷_, reverse, reverse-append}
-use mathlib.Core.Option.{Option, none, some}
+use mathlib.Core.List.{List}
+use mathlib.Core.Option.{Option, none, some, Option·none-ne-some}
 use native.Mathlib.Decide.{decLe, decLt}
-use native.Mathlib.Nat.{lt-of-not-le}
 use native.Mathlib.Omega.{arith}
 use native.Mathlib.Numerals.{add-one}
 use lib.ListN.{length, getD, set}
 use borrow.Author.Tests.{eq-eqb, ne-eqb}
-use Rattle.rules.specs.Bytes.{count}
-use Rattle.tree.specs.Laws.Counts.{count-snoc}
+use Rattle.rules.specs.Bytes.{find}
+use Rattle.tree.specs.Laws.Counts.{count-low, count-none}
+use Rattle.tree.specs.Laws.Highest.{highest-turn, highest-done, fails-highest, upper-none}
 use Rattle.tree.specs.declared.Step.{Step}
-use Rattle.run_spec.specs.declared.Pusher.{Pusher}
-use Rattle.run_spec.specs.declared.Pusher.the-variants.{At, Nothing}
-use Rattle.run_spec.specs.Deques.{find, marked, newestMark, oldestMark, pusherOf, popped, robbed}
+use Rattle.run_spec.specs.declared.Found.{Found}
+use Rattle.run_spec.specs.declared.Found.the-variants.{At, Nothing}
+use Rattle.run_spec.specs.Deques.{marked, newestMark, oldestMark, foundOf, popped, robbed}
 use Rattle.run_spec.specs.Terms.{Climbs}
-
--- ---- intervals
-
--- An interval that has a number has its lowest, and what is above; and its highest, and what is under.
-pub count-low : (low end : ℕ) → low < end → count low (end - low) ≡ low ∷ count (suc low) (end - suc low)
-unfolding count
-count-low low end h =
-    let e : end - low ≡ suc (end - suc low) = omega arith in
-    rw e refl
-
-count-high : (low j : ℕ) → low ≤ j → reverse (count low (suc j - low)) ≡ j ∷ reverse (count low (j - low))
-count-high low j h =
-    let e : suc j - low ≡ suc (j - low) = omega arith in
-    let f : low + (j - low) ≡ j = omega arith in
-    rw (e, count-snoc (j - low) low, reverse-append (count low (j - low)) ((low + (j - low)) ∷ []), f) refl
-
-pub count-none : (low end : ℕ) → end ≤ low → count low (end - low) ≡ []
-unfolding count
-count-none low end h =
-    let e : end - low ≡ 0 = omega arith in
-    rw e refl
 
 -- ---- turns
 
 module _ (place : List ℕ) (w : ℕ) where
-  pub newest-turn : (low j : ℕ) → low ≤ j
-      → newestMark place w low (suc j) ≡ cond (marked place w j) (some j) (newestMark place w low j)
-  unfolding newestMark find
-  newest-turn low j h = rw (count-high low j h) refl
-
-  pub newest-done : (low j : ℕ) → j ≤ low → newestMark place w low j ≡ none
-  unfolding newestMark find
-  newest-done low j h = rw (count-none low j h) refl
-
   pub oldest-turn : (j end : ℕ) → j < end
       → oldestMark place w j end ≡ cond (marked place w j) (some j) (oldestMark place w (suc j) end)
   unfolding oldestMark find
@@ -64,11 +34,11 @@ module _ (place : List ℕ) (w : ℕ) where
 -- As the loops have it: a scan stands at j, and what is found from there on is what is found in all.
 module _ (place : List ℕ) (w low end j : ℕ) where
   pub newest-hit : low < j → newestMark place w low j ≡ newestMark place w low end → getD place (j - 1) 0 ≡ w
-      → At (record { 0 = j - 1 }) ≡ pusherOf (newestMark place w low end)
-  unfolding marked pusherOf
+      → At (record { 0 = j - 1 }) ≡ foundOf (newestMark place w low end)
+  unfolding marked foundOf
   newest-hit h same e =
       let back : suc (j - 1) ≡ j = omega arith in
-      let turn = rw back at (newest-turn place w low (j - 1) (omega arith)) in
+      let turn = rw back at (highest-turn (marked place w) low (j - 1) (omega arith)) in
       rw (← same, turn, eq-eqb (getD place (j - 1) 0) w e) refl
 
   pub newest-miss : low < j → newestMark place w low j ≡ newestMark place w low end → (getD place (j - 1) 0 ≡ w → ⊥)
@@ -76,17 +46,17 @@ module _ (place : List ℕ) (w low end j : ℕ) where
   unfolding marked
   newest-miss h same n =
       let back : suc (j - 1) ≡ j = omega arith in
-      let turn = rw back at (newest-turn place w low (j - 1) (omega arith)) in
+      let turn = rw back at (highest-turn (marked place w) low (j - 1) (omega arith)) in
       sym (turn ∙ rw (ne-eqb (getD place (j - 1) 0) w n) refl) ∙ same
 
   pub newest-end : j ≤ low → newestMark place w low j ≡ newestMark place w low end
-      → Nothing ≡ pusherOf (newestMark place w low end)
-  unfolding pusherOf
-  newest-end h same = rw (← same, newest-done place w low j h) refl
+      → Nothing ≡ foundOf (newestMark place w low end)
+  unfolding foundOf
+  newest-end h same = rw (← same, highest-done (marked place w) low j h) refl
 
   pub oldest-hit : j < end → oldestMark place w j end ≡ oldestMark place w low end → getD place j 0 ≡ w
-      → At (record { 0 = j }) ≡ pusherOf (oldestMark place w low end)
-  unfolding marked pusherOf
+      → At (record { 0 = j }) ≡ foundOf (oldestMark place w low end)
+  unfolding marked foundOf
   oldest-hit h same e = rw (← same, oldest-turn place w j end h, eq-eqb (getD place j 0) w e) refl
 
   pub oldest-miss : j < end → oldestMark place w j end ≡ oldestMark place w low end → (getD place j 0 ≡ w → ⊥)
@@ -95,26 +65,22 @@ module _ (place : List ℕ) (w low end j : ℕ) where
   oldest-miss h same n = rw add-one (sym (oldest-turn place w j end h ∙ rw (ne-eqb (getD place j 0) w n) refl) ∙ same)
 
   pub oldest-end : end ≤ j → oldestMark place w j end ≡ oldestMark place w low end
-      → Nothing ≡ pusherOf (oldestMark place w low end)
-  unfolding pusherOf
+      → Nothing ≡ foundOf (oldestMark place w low end)
+  unfolding foundOf
   oldest-end h same = rw (← same, oldest-done place w j end h) refl
 
 -- ---- from opener to opener
 
 module _ (place : List ℕ) (w low q : ℕ) where
   -- Where no step between q and j is marked, what is found before j is found up to q.
-  newest-skip : (m : ℕ) → ((k : ℕ) → low ≤ k → q < k → k < suc q + m → marked place w k ≡ false)
-      → newestMark place w low (suc q + m) ≡ newestMark place w low (suc q)
-  newest-skip zero clear =
-      let e : suc q + 0 ≡ suc q = omega arith in
-      rw e refl
-  newest-skip (suc m) clear =
-      let e : suc q + suc m ≡ suc (suc q + m) = omega arith in
-      let rest = newest-skip m (λ k l h b. clear k l h (omega arith)) in
-      elim (decLe low (suc q + m)) [
-        | yes l ↦ rw e (newest-turn place w low (suc q + m) l ∙ (rw (clear (suc q + m) l (omega arith) (omega arith)) rest))
-        | no n ↦ rw e
-            (newest-done place w low (suc (suc q + m)) (lt-of-not-le n) ∙ sym (newest-done place w low (suc q) (omega arith)))
+  newest-skip : (j : ℕ) → q < j → ((k : ℕ) → low ≤ k → q < k → k < j → marked place w k ≡ false)
+      → newestMark place w low (suc q) ≡ newestMark place w low j
+  newest-skip j h clear =
+      elim (decLe low (suc q)) [
+        | yes l ↦ upper-none (marked place w) low (suc q) l j h
+            (fails-highest (marked place w) (suc q) j (λ k x y. clear k (omega arith) x y))
+        | no n ↦ highest-done (marked place w) low (suc q) (omega arith)
+            ∙ sym (fails-highest (marked place w) low j (λ k x y. clear k x (omega arith) y))
       ]
 
 module _ (openers place : List ℕ) (w low end : ℕ) (climbs : Climbs openers place w low end) (j : ℕ) (h : low < j) (b : j ≤ end)
@@ -135,10 +101,7 @@ module _ (openers place : List ℕ) (w low end : ℕ) (climbs : Climbs openers p
 
   climb-turn : newestMark place w low j ≡ newestMark place w low end
       → newestMark place w low (suc (getD openers j 0)) ≡ newestMark place w low end
-  climb-turn same =
-      let q = getD openers j 0 in
-      let e : suc q + (j - suc q) ≡ j = omega (arith, climb-before) in
-      sym (rw e at (newest-skip place w low q (j - suc q) (λ k l m n. clear k l m (omega (arith, climb-before))))) ∙ same
+  climb-turn same = newest-skip place w low (getD openers j 0) j climb-before clear ∙ same
 
   -- In the terms of the loop: the step that it goes on to is below `low`, is marked, or is not.
   module _ (same : newestMark place w low j ≡ newestMark place w low end) (q : ℕ) (e : q ≡ getD openers j 0) where
@@ -148,10 +111,10 @@ module _ (openers place : List ℕ) (w low end : ℕ) (climbs : Climbs openers p
     pub climb-less : q < j
     climb-less = rw e climb-before
 
-    pub climb-below : q < low → Nothing ≡ pusherOf (newestMark place w low end)
+    pub climb-below : q < low → Nothing ≡ foundOf (newestMark place w low end)
     climb-below l = newest-end place w low end (suc q) l turned-to
 
-    pub climb-hit : low ≤ q → getD place q 0 ≡ w → At (record { 0 = q }) ≡ pusherOf (newestMark place w low end)
+    pub climb-hit : low ≤ q → getD place q 0 ≡ w → At (record { 0 = q }) ≡ foundOf (newestMark place w low end)
     climb-hit l m =
         let back : suc q - 1 ≡ q = omega arith in
         rw back at (newest-hit place w low end (suc q) (omega arith) turned-to (rw back m))
@@ -164,68 +127,41 @@ module _ (openers place : List ℕ) (w low end : ℕ) (climbs : Climbs openers p
 -- ---- what is found
 
 -- A pusher that is found, and one that is not.
-found-by : (o : Option ℕ) → Pusher → Option ℕ
+found-by : (o : Option ℕ) → Found → Option ℕ
 found-by o (At q) = some (q .0)
 found-by o Nothing = none
 
-found-same : (o : Option ℕ) → found-by o (pusherOf o) ≡ o
-unfolding pusherOf found-by
+found-same : (o : Option ℕ) → found-by o (foundOf o) ≡ o
+unfolding foundOf found-by
 found-same none = refl
 found-same (some q) = refl
 
-pub pusher-at : (o : Option ℕ) (q : Step) → pusherOf o ≡ At q → o ≡ some (q .0)
-unfolding found-by
-pusher-at o q e = sym (found-same o) ∙ ap (found-by o) e
-
-pub pusher-nothing : (o : Option ℕ) → pusherOf o ≡ Nothing → o ≡ none
-unfolding found-by
-pusher-nothing o e = sym (found-same o) ∙ ap (found-by o) e
-
 -- What a scan found, by its result.
-module _ (o : Option ℕ) (r : Pusher) (e : r ≡ pusherOf o) where
+module _ (o : Option ℕ) (r : Found) (e : r ≡ foundOf o) where
   pub found-at : (q : Step) → r ≡ At q → o ≡ some (q .0)
-  found-at q f = pusher-at o q (sym e ∙ f)
+  unfolding found-by
+  found-at q f = sym (found-same o) ∙ ap (found-by o) (sym e ∙ f)
 
   pub found-nothing : r ≡ Nothing → o ≡ none
-  found-nothing f = pusher-nothing o (sym e ∙ f)
+  unfolding found-by
+  found-nothing f = sym (found-same o) ∙ ap (found-by o) (sym e ∙ f)
 
 -- It stands before the scan's end.
-value : ℕ → Option ℕ → ℕ
-value d none = d
-value d (some x) = x
-
-some-value : (x y : ℕ) → some x ≡ some y → x ≡ y
-unfolding value
-some-value x y e = ap (value x) e
-
-none-some : (x : ℕ) → none ≡ some x → ⊥
-unfolding value
-none-some x e =
-    let z : suc x ≡ x = ap (value (suc x)) e in
-    absurd (omega arith)
-
 -- One turn: what is found here, or later.
 turned : (b : Bool) (j end q : ℕ) (o : Option ℕ) → cond b (some j) o ≡ some q → j < end → (o ≡ some q → q < end) → q < end
-turned true j end q o e h rest = omega (arith, some-value j q e)
+turned true j end q o e h rest =
+    let is : j ≡ q = cc in
+    omega arith
 turned false j end q o e h rest = rest e
 
 module _ (place : List ℕ) (w : ℕ) where
-  pub newest-before : (end low q : ℕ) → newestMark place w low end ≡ some q → q < end
-  newest-before zero low q e = absurd (none-some q (sym (newest-done place w low zero (omega arith)) ∙ e))
-  newest-before (suc j) low q e =
-      elim (decLe low j) [
-        | yes h ↦ turned (marked place w j) j (suc j) q (newestMark place w low j) (sym (newest-turn place w low j h) ∙ e) (omega arith)
-            (λ f. omega (arith, newest-before j low q f))
-        | no h ↦ absurd (none-some q (sym (newest-done place w low (suc j) (lt-of-not-le h)) ∙ e))
-      ]
-
   oldest-by : (m low end q : ℕ) → end ≤ low + m → oldestMark place w low end ≡ some q → q < end
-  oldest-by zero low end q h e = absurd (none-some q (sym (oldest-done place w low end (omega arith)) ∙ e))
+  oldest-by zero low end q h e = absurd (Option·none-ne-some q (sym (oldest-done place w low end (omega arith)) ∙ e))
   oldest-by (suc m) low end q h e =
       elim (decLt low end) [
         | yes l ↦ turned (marked place w low) low end q (oldestMark place w (suc low) end) (sym (oldest-turn place w low end l) ∙ e) l
             (λ f. oldest-by m (suc low) end q (omega arith) f)
-        | no l ↦ absurd (none-some q (sym (oldest-done place w low end (omega arith)) ∙ e))
+        | no l ↦ absurd (Option·none-ne-some q (sym (oldest-done place w low end (omega arith)) ∙ e))
       ]
 
   pub oldest-before : (low end q : ℕ) → oldestMark place w low end ≡ some q → q < end

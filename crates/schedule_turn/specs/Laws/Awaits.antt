@@ -1,25 +1,22 @@
 -- The steps that workers were last seen to wait for: while such a step has not run its worker waits; and so it stays after every run
 -- and every steal.
-use Prim.Native.Nat.{ℕ, _-_, _≤_, _<_}
+use Prim.Native.Nat.{ℕ, _-_, _<_}
 use mathlib.Core.Path.{_≡_, refl, sym, ap, _∙_}
-use mathlib.Core.Bool.{true, false, not, true≢false}
+use mathlib.Core.Bool.{true, false, true≢false}
 use mathlib.Core.List.{List}
 use mathlib.Core.Option.{Option, none, some}
 use native.Mathlib.Decide.{ℕ-discrete}
 use native.Mathlib.Omega.{arith}
 use lib.ListN.{length, getD, set, replicate, length-set, length-replicate, getD-replicate}
 use lib.Seq.{getD-set-same, getD-set-other}
-use borrow.Author.Tests.{not-true}
-use Rattle.rules.specs.Bytes.{count, all}
-use Rattle.rules.specs.Tree.{finishBefore}
-use Rattle.rules.specs.Scheduling.{mostWorkers, Worker, Run, start, workerAt, hasRun, waits, holdsStep, steal}
-use Rattle.run_invariant.specs.Laws.Counts.{all-count, some-fails, not-so}
+use Rattle.rules.specs.Scheduling.{mostWorkers, Worker, Run, start, workerAt, hasRun, waits, awaited, holdsStep, steal}
+use Rattle.run_invariant.specs.Laws.Counts.{not-so}
 use Rattle.run_invariant.specs.Laws.Moves.{some-holds, ran, ran-other, lightened, steal-other, steal-victim}
 use Rattle.run_invariant.specs.Laws.Waiting.{run-stays}
-use Rattle.run_spec.specs.Deques.{unrunMark, marked, newestMark}
 use Rattle.run_spec.specs.Running.{noStep}
-use Rattle.run_refinement.specs.Laws.Scans.{newest-above}
-use Rattle.schedule_turn.specs.Terms.{lastUnrun, Awaits, Awaited}
+use Rattle.run_refinement.specs.WaitingTest.{OfChild, answered}
+use Rattle.run_refinement.specs.Laws.WaitingTest.{waiting}
+use Rattle.schedule_turn.specs.Terms.{Awaits, Awaited}
 
 -- What a worker holds.
 abbrev heldOf : Run → ℕ → Option ℕ
@@ -33,31 +30,18 @@ awaited-start ks w =
       each = λ u few low. absurd (omega (arith, getD-replicate 16 u noStep 0 few));
     }
 
-module _ (ks : List ℕ) (s : Run) where
-  -- A step that follows a finish child waits while a step of the child has not run.
-  pub unrun-waits : (u j : ℕ) (f : Awaits ks s u j) → hasRun (s .log) j ≡ false → waits ks (s .log) (f .step) ≡ true
-  unfolding waits
-  unrun-waits u j f unrun =
-      let some-unrun =
-      not-so (all (hasRun (s .log)) (count (f .first) (f .step - f .first)))
-      (λ ran.
-      true≢false (sym (all-count (hasRun (s .log)) (f .step - f .first) (f .first) ran j (f .from) (omega (arith, f .before))) ∙ unrun))
-      in
-      rw (f .child, waits) (ap not some-unrun)
+-- A step that follows a finish child waits while a step of the child has not run.
+pub unrun-waits : (ks : List ℕ) (s : Run) (u j : ℕ) (f : Awaits ks s u j) → hasRun (s .log) j ≡ false
+    → waits ks (s .log) (f .step) ≡ true
+unfolding answered
+unrun-waits ks s u j f unrun = waiting .waitsLog ks (s .log) i ∙ by (awaited ks (s .log) i) refl
+  where
+    i : ℕ
+    i = f .step
 
-  -- One that waits does so for a step of a finish child.
-  waits-after : (i : ℕ) → waits ks (s .log) i ≡ true
-      → (first : ℕ) × (finishBefore ks i ≡ some first) × (j : ℕ) × (first ≤ j) × (j < i) × (hasRun (s .log) j ≡ false)
-  unfolding waits
-  waits-after i w = by (finishBefore ks i) refl
-    where
-      by : (o : Option ℕ) → finishBefore ks i ≡ o
-          → (first : ℕ) × (finishBefore ks i ≡ some first) × (j : ℕ) × (first ≤ j) × (j < i) × (hasRun (s .log) j ≡ false)
-      by none e = absurd (true≢false (sym (rw (e, waits) at w)))
-      by (some first) e =
-          let test = not-true (all (hasRun (s .log)) (count first (i - first))) (rw (e, waits) at w) in
-          let found = some-fails (hasRun (s .log)) (i - first) first test in
-          (first, e, found .0, found .1, omega (arith, found .1, found .2), found .3)
+    by : (o : Option ℕ) → awaited ks (s .log) i ≡ o → answered (awaited ks (s .log) i) ≡ true
+    by none e = absurd (true≢false (sym (waiting .byLog ks (s .log) i .noneThen e j (f .child)) ∙ unrun))
+    by (some k) e = rw e refl
 
 -- ---- what events keep
 
@@ -78,10 +62,7 @@ module _ (ks : List ℕ) (s t : Run) (awaited : List ℕ) (so : Awaited ks s awa
                   record {
                     step = f .step;
                     holds = same u j f old ∙ f .holds;
-                    first = f .first;
                     child = f .child;
-                    from = f .from;
-                    before = f .before;
                   },
             );
       }
@@ -116,41 +97,28 @@ module _ (p : ℕ) (ks : List ℕ) (s : Run) (awaited : List ℕ) (so : Awaited 
 
 -- ---- a worker is seen to wait
 
--- Worker w holds step i, which waits: the highest step below i that has not run is one that it waits for.
-module _ (ks place : List ℕ) (s : Run) (awaited : List ℕ) (so : Awaited ks s awaited) (w i : ℕ) (few : w < mostWorkers)
-    (holds : heldOf s w ≡ some i) (within : i < length ks) (waiting : waits ks (s .log) i ≡ true)
-    (marks : (j : ℕ) → j < length ks → marked place unrunMark j ≡ not (hasRun (s .log) j)) where
-  last-unrun : (q : ℕ) × (newestMark place unrunMark 0 i ≡ some q) × (q < i) × Awaits ks s w q
-  last-unrun =
-      let x = waits-after ks s i waiting in
-      let j = x .2 in
-      let found = newest-above place unrunMark 0 i j (omega arith) (x .4) (marks j (omega (arith, x .4)) ∙ ap not (x .5)) in (
-        found .0,
-        found .1,
-        found .3,
-        record {
-          step = i;
-          holds = holds;
-          first = x .0;
-          child = x .1;
-          from = omega (arith, x .3, found .2);
-          before = found .3;
-        },
-      )
+-- Worker w holds step i: what is noted for it is a step of the finish child before i or of its descendants, or none.
+pub awaited-noted : (ks : List ℕ) (s : Run) (awaited : List ℕ) → Awaited ks s awaited → (w i : ℕ) → heldOf s w ≡ some i
+    → i < length ks → (r : ℕ) → ((r ≡ noStep → ⊥) → OfChild ks i r) → Awaited ks s (set awaited w r)
+awaited-noted ks s awaited so w i holds within r noted =
+    record {
+      sixteen = length-set awaited w r ∙ so .sixteen;
+      each = λ u few low. elim (ℕ-discrete u w) [
+        | yes same ↦
+            let here = getD-set-same awaited w r 0 (omega (arith, so .sixteen)) in
+            let of = noted (λ none. omega (arith, rw same at low)) in
+            rw (same, here) (omega (arith, of .before), λ unrun. record { step = i; holds = holds; child = of })
+        | no n ↦ rw (getD-set-other awaited w u r 0 n) (so .each u few (omega (arith, getD-set-other awaited w u r 0 n)))
+      ];
+    }
 
-  -- So it is noted.
-  pub awaited-seen : (found : ℕ) → found ≡ lastUnrun place i → Awaited ks s (set awaited w found)
-  unfolding lastUnrun
-  awaited-seen found e =
-      let seen = last-unrun in
-      let q = seen .0 in
-      let is : found ≡ q = e ∙ rw (lastUnrun, seen .1) refl in
-      let here = getD-set-same awaited w found 0 (omega (arith, so .sixteen)) in
-      record {
-        sixteen = length-set awaited w found ∙ so .sixteen;
-        each = λ u few′ low. elim (ℕ-discrete u w) [
-          | yes same ↦ rw (same, here, is) (omega (arith, seen .2), λ unrun. seen .3)
-          | no n ↦ rw (getD-set-other awaited w u found 0 n)
-              (so .each u few′ (omega (arith, getD-set-other awaited w u found 0 n)))
-        ];
-      }
+-- A step that waits follows a finish child, whose end stands just before it.
+pub waits-end : (ks : List ℕ) (s : Run) (i : ℕ) → waits ks (s .log) i ≡ true → OfChild ks i (i - 1)
+unfolding answered
+waits-end ks s i late = by (awaited ks (s .log) i) refl
+  where
+    by : (o : Option ℕ) → awaited ks (s .log) i ≡ o → OfChild ks i (i - 1)
+    by none e = absurd (true≢false (sym late ∙ waiting .waitsLog ks (s .log) i ∙ rw e refl))
+    by (some q) e =
+        let of = waiting .byLog ks (s .log) i .ofChild q e in
+        record { first = of .first; child = of .child; from = omega (arith, of .from, of .before); before = omega (arith, of .before) }

@@ -30,6 +30,7 @@ use Rattle.run_invariant.specs.Laws.Moves.{ran, run-is}
 use Rattle.run_invariant.specs.Laws.Consequences.{deque-most}
 use Rattle.run_invariant.specs.Laws.Events.{event-next}
 use Rattle.run_refinement.specs.Tie.{Shows, heldStep, told}
+use Rattle.run_refinement.specs.WaitingTest.{OfChild}
 use Rattle.run_refinement.specs.Laws.AnyState.{keeps-run}
 use Rattle.run_refinement.specs.Laws.Events.{event-tells, event-shows}
 use Rattle.run_refinement.specs.Laws.Moves.{held-none, held-some}
@@ -37,9 +38,9 @@ use Rattle.schedule_invariant.specs.Laws.Turns.{turn-runs, turn-waits, held-jud
 use Rattle.schedule_invariant.specs.Laws.Turns.{going-turn}
 use Rattle.tree_scan.specs.Laws.Frames.{Frame}
 use Rattle.schedule_invariant.specs.Terms.{Going}
-use Rattle.schedule_turn.specs.Terms.{sizeAfter, lastUnrun, unrunStill, Arrays, Stands}
+use Rattle.schedule_turn.specs.Terms.{sizeAfter, Awaits, unrunStill, Arrays, Stands}
 use Rattle.schedule_turn.specs.Laws.Sizes.{sized-run, sized-steal}
-use Rattle.schedule_turn.specs.Laws.Awaits.{unrun-waits, awaited-run, awaited-seen, awaited-steal}
+use Rattle.schedule_turn.specs.Laws.Awaits.{unrun-waits, awaited-run, awaited-noted, awaited-steal, waits-end}
 use Rattle.schedule_turn.specs.Laws.Listing.{frame, known, fits, put}
 
 module _ {setup : Setup} {tree lent : List ℕ} {m : Making} {a : Arrays} (s : Stands setup tree lent m a) (u : ℕ)
@@ -75,6 +76,9 @@ module _ {setup : Setup} {tree lent : List ℕ} {m : Making} {a : Arrays} (s : S
     held-is : (getD (a .fields .held) u 0 ≡ held .0) × (held .0 < length ks)
     held-is = held-some (known s) u (held .0) (rw (s .shows .workers) at has) (held .1)
 
+    pub held-most : getD (a .fields .held) u 0 ≤ mostSteps
+    held-most = omega (arith, held-is, tree-frame .most)
+
     -- The event of its turn, and the rules' word on it.
     abbrev own : List ℕ
     own = u ∷ u ∷ []
@@ -107,6 +111,43 @@ module _ {setup : Setup} {tree lent : List ℕ} {m : Making} {a : Arrays} (s : S
         let unrun : hasRun (m .run .log) j ≡ false = not-true (hasRun (m .run .log) j) (sym (s .shows .unrun j (seen .0)) ∙ both .1) in
         let follows = seen .1 unrun in
         rw (turn-waits p ks m u (follows .step) (follows .holds) (unrun-waits ks (m .run) u j follows unrun)) s
+
+    -- What is noted for it: a step of the finish child before its own, or none.
+    module _ (r : ℕ) (noted : (r ≡ noStep → ⊥) → OfChild ks (getD (a .fields .held) u 0) r) where
+      abbrev seen : Arrays
+      seen =
+          record {
+            fields = a .fields;
+            sizes = a .sizes;
+            awaited = set (a .awaited) u r;
+            events = a .events;
+            seed = a .seed;
+            runs = a .runs;
+          }
+
+      pub noted-stands : Stands setup tree lent m seen
+      noted-stands =
+          record {
+            accepts = s .accepts;
+            room = s .room;
+            going = s .going;
+            shows = s .shows;
+            sized = s .sized;
+            awaits =
+                awaited-noted ks (m .run) (a .awaited) (s .awaits) u (held .0) (held .1) (held-is .1) r (rw (held-is .0) at noted);
+            seeded = s .seeded;
+            ran = s .ran;
+            listed = s .listed;
+          }
+
+      -- A step that has not run: the worker waits, and passes.
+      pub passed-stands : (r ≡ noStep → ⊥) → marked (a .fields .place) unrunMark r ≡ true → Stands setup tree lent (turn p ks m u) seen
+      unfolding marked
+      passed-stands some-step unrun =
+          let of = rw (held-is .0) at noted some-step in
+          let not-yet = not-true (hasRun (m .run .log) r) (sym (s .shows .unrun r (omega (arith, of .before, held-is .1))) ∙ unrun) in
+          let here : Awaits ks (m .run) u r = record { step = held .0; holds = held .1; child = of } in
+          rw (turn-waits p ks m u (held .0) (held .1) (unrun-waits ks (m .run) u r here not-yet)) noted-stands
 
     -- The call on the arrays has this outcome, and leaves these fields.
     module _ (o : Outcome) (g : Fields) (moved : moveOf o g ≡ runMove (a .fields) tree u) where
@@ -222,28 +263,16 @@ module _ {setup : Setup} {tree lent : List ℕ} {m : Making} {a : Arrays} (s : S
         same : g ≡ a .fields
         same = sym after ∙ keeps-run (a .fields) tree u .same n (ap (λ (x : Move). x .outcome) (sym moved) ∙ e)
 
-        pub held-step : getD (g .held) u 0 ≤ mostSteps
-        held-step = omega (arith, ap (λ (f : Fields). getD (f .held) u 0) same, held-is, tree-frame .most)
+        -- It holds a step behind the child's end, which is noted.
+        pub late-held : 0 < getD (g .held) u 0
+        late-held = omega (arith, ap (λ (f : Fields). getD (f .held) u 0) same, held-is .0, waits-end ks (m .run) (held .0) late .before)
 
-        pub seen-stands : (awaited : List ℕ) → awaited ≡ set (a .awaited) u (lastUnrun (g .place) (getD (g .held) u 0))
+        pub late-stands : (awaited : List ℕ) → awaited ≡ set (a .awaited) u (getD (g .held) u 0 - 1)
             → Stands setup tree lent (turn p ks m u)
             (record { fields = g; sizes = a .sizes; awaited = awaited; events = a .events; seed = a .seed; runs = a .runs })
-        unfolding marked
-        seen-stands awaited seen =
+        late-stands awaited seen =
             rw (turn-waits p ks m u (held .0) (held .1) late, seen, same)
-            (record {
-              accepts = s .accepts;
-              room = s .room;
-              going = s .going;
-              shows = s .shows;
-              sized = s .sized;
-              awaits =
-                  awaited-seen ks (a .fields .place) (m .run) (a .awaited) (s .awaits) u (held .0) few (held .1) (held-is .1) late
-                  (s .shows .unrun) _ (rw (held-is .0) refl);
-              seeded = s .seeded;
-              ran = s .ran;
-              listed = s .listed;
-            })
+            (noted-stands (getD (a .fields .held) u 0 - 1) (λ n. rw (held-is .0) (waits-end ks (m .run) (held .0) late)))
 
   -- ---- an idle worker
 

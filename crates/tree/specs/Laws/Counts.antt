@@ -1,7 +1,8 @@
--- The numbers of an interval: how many, one more at its end, two intervals one behind the other, and what a function makes of them.
-use Prim.Native.Nat.{ℕ, zero, suc, _+_, _<_}
+-- The numbers of an interval: how many, the lowest and the highest of them, two intervals one behind the other, and what a function
+-- makes of them.
+use Prim.Native.Nat.{ℕ, zero, suc, _+_, _-_, _≤_, _<_}
 use mathlib.Core.Path.{_≡_, refl, sym, ap, _∙_}
-use mathlib.Core.List.{List, [], _∷_, _++_, map, map-id}
+use mathlib.Core.List.{List, [], _∷_, _++_, map, map-id, reverse, reverse-append}
 use native.Mathlib.Nat.{zero-add, add-zero}
 use native.Mathlib.Omega.{arith}
 use lib.ListN.{length, getD, length-map}
@@ -29,6 +30,25 @@ count-split (suc j) k low =
     let e : suc j + k ≡ suc (j + k) = omega arith in
     let f : low + suc j ≡ suc low + j = omega arith in
     rw (e, f) (ap (λ (x : List ℕ). low ∷ x) (count-split j k (suc low)))
+
+-- An interval that has a number has its lowest, and what is above; and its highest, and what is under.
+pub count-low : (low end : ℕ) → low < end → count low (end - low) ≡ low ∷ count (suc low) (end - suc low)
+unfolding count
+count-low low end h =
+    let e : end - low ≡ suc (end - suc low) = omega arith in
+    rw e refl
+
+pub count-high : (low j : ℕ) → low ≤ j → reverse (count low (suc j - low)) ≡ j ∷ reverse (count low (j - low))
+count-high low j h =
+    let e : suc j - low ≡ suc (j - low) = omega arith in
+    let f : low + (j - low) ≡ j = omega arith in
+    rw (e, count-snoc (j - low) low, reverse-append (count low (j - low)) ((low + (j - low)) ∷ []), f) refl
+
+pub count-none : (low end : ℕ) → end ≤ low → count low (end - low) ≡ []
+unfolding count
+count-none low end h =
+    let e : end - low ≡ 0 = omega arith in
+    rw e refl
 
 -- What stands at place i.
 pub map-at : (f : ℕ → ℕ) (n low i : ℕ) → i < n → getD (map f (count low n)) i 0 ≡ f (low + i)

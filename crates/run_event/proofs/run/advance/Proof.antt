@@ -7,8 +7,9 @@ use mathlib.Core.Option.{Option, some}
 use native.Mathlib.Omega.{arith}
 use lib.ListN.{length}
 use Rattle.rules.specs.Tree.{kinds, kindAt}
-use Rattle.run_spec.specs.Deques.{newestMark}
-use Rattle.run_spec.specs.Laws.Marks.{found-at, found-nothing, newest-before}
+use Rattle.tree.specs.Laws.Highest.{highest-is}
+use Rattle.run_spec.specs.Deques.{marked, newestMark}
+use Rattle.run_spec.specs.Laws.Marks.{found-at, found-nothing}
 use Rattle.policy.specs.Laws.Parts.{holds-most, pushes-most}
 use Rattle.run_spec.specs.Laws.Running.{next-opens, place-opens, next-pops, next-ends, place-ends}
 use borrow.Author.Needs.{needs}
@@ -43,7 +44,8 @@ found c =
 before : (c : tie.After-q) → c .q .given .0 .0 .0 < length (kinds (asked c .args .tree .now))
 before c =
     let a = asked c .args in
-    omega (arith, asked c .pre .0, newest-before (a .place .now) (a .worker) (a .step .0) (a .low .0) (c .q .given .0 .0 .0) (found c))
+    let is = highest-is (marked (a .place .now) (a .worker)) (a .low .0) (a .step .0) (c .q .given .0 .0 .0) (found c) in
+    omega (arith, asked c .pre .0, is .before)
 
 -- ---- the needs
 

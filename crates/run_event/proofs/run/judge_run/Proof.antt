@@ -4,12 +4,14 @@
 use Prim.Native.Nat.{ℕ, _≤_, _<_}
 use mathlib.Core.Path.{_≡_, sym, subst, _∙_}
 use mathlib.Core.Bool.{false}
+use mathlib.Core.Option.{Option}
 use lib.ListN.{length}
 use Rattle.rules.specs.Tree.{kinds}
 use Rattle.policy.specs.Contract.{workerLimit}
 use Rattle.policy.specs.Laws.Workers.{limit-below}
-use Rattle.run_spec.specs.Running.{waitsFor, runNumber}
-use Rattle.run_spec.specs.Laws.Waiting.{waits-at-low}
+use Rattle.run_spec.specs.Running.{waitsFor, awaits, runNumber}
+use Rattle.run_spec.specs.Laws.Marks.{found-at, found-nothing}
+use Rattle.run_spec.specs.Laws.Waiting.{waits-at-low, waits-for-some, waits-for-none}
 use Rattle.run_spec.specs.Laws.Running.{judged-worker, judged-long, judged-idle, judged-waits, judged-runs}
 use borrow.Author.Needs.{needs}
 use borrow.Author.Tests.{leb-true, leb-false, not-true}
@@ -114,19 +116,44 @@ returns-4 c =
     (at .pre .1 (most-few (short e .before .before))) (e .before .wide .result) (e .before .wide .ensures)
     (low .wide2 .result) (low .wide2 .ensures) (sym (c .before .may-wait .ensures) ∙ not-true _ (c .if4 .taken)))
 
-waits-requires : tie.Need-waits-requires
-waits-requires c κs = search needs
+awaits-requires : tie.Need-awaits-requires
+awaits-requires c κs = search needs
+
+enum-known-unrun : tie.Need-enum-known-unrun
+enum-known-unrun c = search needs
+
+enum-told : tie.Need-enum-told
+enum-told c = search needs
+
+-- The step that the worker holds, and what it waits for.
+abbrev held : tie.After-awaits → tie.Else3
+held c = c .before .before .before .before .before
+
+abbrev waited : tie.After-awaits → Option ℕ
+waited c =
+    let a = start (short (held c)) .args in
+    awaits (kinds (a .tree .now)) (a .place .now) (held c .before .wide .result)
 
 returns-5 : tie.Need-returns-5
 returns-5 c =
-    let e = c .before .before .before .before .before .before in
+    let asked = c .before .before .before in
+    let e = held asked in
     let a = start (short e) .args in
     let i = e .before .wide in
+    let unrun = c .before .unrun .given in
     judged-waits (a .workers) (kinds (a .tree .now)) (a .place .now) (a .held .now) (a .worker) (few (short e .before .before))
-    (most (short e)) (i .result) (i .ensures) (within e) (sym (c .before .waits .ensures) ∙ c .if5 .taken)
+    (most (short e)) (i .result) (i .ensures) (within e)
+    (waits-for-some (kinds (a .tree .now)) (a .place .now) (i .result) (unrun .0 .0 .0)
+    (found-at (waited asked) (asked .awaits .result) (asked .awaits .ensures) (unrun .0 .0) (unrun .1)))
 
 returns-6 : tie.Need-returns-6
-returns-6 c = runs (c .before .before .before .before .before .before) (sym (c .before .waits .ensures) ∙ c .if5 .left)
+returns-6 c =
+    let asked = c .before .before in
+    let e = held asked in
+    let a = start (short e) .args in
+    runs e
+    (waits-for-none (kinds (a .tree .now)) (a .place .now) (e .before .wide .result)
+    (found-nothing (waited asked) (asked .awaits .result) (asked .awaits .ensures) (c .enum-told .given .1)))
 
 pub judge-run-spec : {M : Type 1} → statement M
 judge-run-spec =
@@ -145,6 +172,8 @@ judge-run-spec =
     wide-requires-2
     may-wait-requires
     returns-4
-    waits-requires
+    awaits-requires
+    enum-known-unrun
+    enum-told
     returns-5
     returns-6)

@@ -2,13 +2,13 @@
 -- that it finds is the lowest that is marked with the victim, which pushed the oldest step of the deque; and since that pusher
 -- stands in the tree, all that is taken fits the tables. Assumes nothing.
 use Prim.Native.Nat.{ℕ, _<_}
-use mathlib.Core.Path.{_≡_, sym, _∙_}
+use mathlib.Core.Path.{_≡_}
 use mathlib.Core.Option.{Option, some}
 use native.Mathlib.Omega.{arith}
 use lib.ListN.{length}
 use Rattle.rules.specs.Tree.{kinds}
-use Rattle.run_spec.specs.Deques.{oldestMark, pusherOf, robbed}
-use Rattle.run_spec.specs.Laws.Marks.{pusher-at, pusher-nothing, oldest-before}
+use Rattle.run_spec.specs.Deques.{oldestMark, foundOf, robbed}
+use Rattle.run_spec.specs.Laws.Marks.{found-at, found-nothing, oldest-before}
 use Rattle.policy.specs.Laws.Parts.{pushes-most}
 use Rattle.run_spec.specs.Laws.Stealing.{takes-nothing, takes-step}
 use borrow.Author.Needs.{needs}
@@ -34,8 +34,8 @@ oldest c =
     let a = start c .args in
     oldestMark (a .place .now) (a .victim) (a .low .0) (length (kinds (a .tree .now)))
 
-gives : (c : tie.After-take) → pusherOf (oldest c) ≡ c .take .result
-gives c = rw (← (c .before .before .steps .ensures)) (sym (c .take .ensures .0))
+gives : (c : tie.After-take) → c .take .result ≡ foundOf (oldest c)
+gives c = rw (← (c .before .before .steps .ensures)) (c .take .ensures .0)
 
 leaves : (c : tie.After-take) → let a = start c .args in
     c .take .last .0 ≡ robbed (a .place .now) (a .victim) (a .low .0) (length (kinds (a .tree .now)))
@@ -47,7 +47,7 @@ abbrev took : tie.After-pusher → tie.After-take
 took c = c .before .before
 
 found : (c : tie.After-pusher) → oldest (took c) ≡ some (c .pusher .given .0 .0 .0)
-found c = pusher-at (oldest (took c)) (c .pusher .given .0 .0) (gives (took c) ∙ c .pusher .given .1)
+found c = found-at (oldest (took c)) (took c .take .result) (gives (took c)) (c .pusher .given .0 .0) (c .pusher .given .1)
 
 within : (c : tie.After-pusher) → c .pusher .given .0 .0 .0 < length (kinds (start (took c) .args .tree .now))
 within c =
@@ -93,7 +93,7 @@ returns-2 : tie.Need-returns-2
 returns-2 c =
     let at = c .before .before in
     let a = start at .args in
-    let none-found = pusher-nothing (oldest at) (gives at ∙ c .enum-told .given .1) in
+    let none-found = found-nothing (oldest at) (at .take .result) (gives at) (c .enum-told .given .1) in
     (takes-nothing (a .policy) (kinds (a .tree .now)) (a .base .0) (a .low .0) (oldest at) none-found, (leaves at, omega arith))
 
 pub take-step-spec : {M : Type 1} → statement M

@@ -1,10 +1,10 @@
--- `run_event::run::all_run` meets its contract: it counts the steps that have not run, and all have run where the count is 0.
--- There are fewer steps than the count has room for. Assumes nothing.
+-- `run_event::waiting::all_run` meets its contract: it counts the steps that have not run, and all have run where the count is
+-- 0. A block has no more steps than the count has room for. Assumes nothing.
 use Prim.Native.Nat.{_-_}
 use native.Mathlib.Omega.{arith}
 use Rattle.run_spec.specs.Laws.Waiting.{Counted, counted-start, counted-unrun, counted-run, counted-done}
-use Rattle.run_event.proofs.run.all_run.Statement.{statement}
-use Rattle.run_event.proofs.run.all_run.Tie as tie
+use Rattle.run_event.proofs.waiting.all_run.Statement.{statement}
+use Rattle.run_event.proofs.waiting.all_run.Tie as tie
 
 abbrev Inv-loop : tie.InvT-loop
 Inv-loop place end first unrun₀ j unrun = Counted place first end j unrun
@@ -22,7 +22,9 @@ element-copy-out-if1 : tie.Need-element-copy-out-if1 Inv-loop μ-loop
 element-copy-out-if1 c = omega arith
 
 add-unrun : tie.Need-add-unrun Inv-loop μ-loop
-add-unrun c = omega (arith, c .before .before .before .loop .inv .few)
+add-unrun c =
+    let at = c .before .before .before in
+    omega (arith, at .loop .inv .few, at .before .pre .1)
 
 loop-less : tie.Need-loop-less Inv-loop μ-loop
 loop-less c = omega arith

@@ -1,9 +1,9 @@
--- `run_event::run::may_wait` meets its contract: beyond the table every step may wait, and within it only the one at `low`.
+-- `run_event::waiting::may_wait` meets its contract: beyond the table every step may wait, and within it only the one at `low`.
 -- Assumes nothing.
 use mathlib.Core.Path.{refl}
 use borrow.Author.Tests.{le-leb, lt-leb}
-use Rattle.run_event.proofs.run.may_wait.Statement.{statement}
-use Rattle.run_event.proofs.run.may_wait.Tie as tie
+use Rattle.run_event.proofs.waiting.may_wait.Statement.{statement}
+use Rattle.run_event.proofs.waiting.may_wait.Tie as tie
 
 returns : tie.Need-returns
 returns c = rw (le-leb _ _ (c .if1 .taken)) refl
