@@ -14,6 +14,9 @@ pub const COUNTS: [usize; 4] = [63, 255, 1_023, 4_095];
 pub const LARGEST: usize = COUNTS[COUNTS.len() - 1];
 pub const SHAPES: [Shape; 4] = [("balanced", balanced), ("flat", flat), ("deep", deep), RANDOM];
 const RANDOM: Shape = ("random", random);
+/// Of the largest count only: trees with large finish children, where thieves have to wait.
+pub const WAITING_SHAPES: [Shape; 2] = [PILE, ("nested", nested)];
+pub const PILE: Shape = ("pile", pile);
 pub const WAYS: [Way; 2] = [("by step", by_step), ("by task", by_task)];
 
 /// A case has so many inputs, which take turns: a processor foresees the branches of a single one that is repeated.
@@ -27,7 +30,7 @@ const STEALS: usize = 30;
 /// A name, and what makes the kinds.
 pub type Shape = (&'static str, fn(&mut Kinds, &mut Rng));
 
-const ASYNC: u8 = 1;
+pub const ASYNC: u8 = 1;
 const FINISH: u8 = 2;
 const END: u8 = 3;
 
@@ -39,15 +42,27 @@ pub struct Kinds {
 }
 
 impl Kinds {
-    /// Every third spawned task in serial order is a finish child, the others are async children.
-    fn open(&mut self) {
+    fn open_as(&mut self, kind: u8) {
         self.spawned += 1;
         self.left -= 1;
-        self.kinds.push(if self.spawned % 3 == 0 { FINISH } else { ASYNC });
+        self.kinds.push(kind);
+    }
+
+    /// Every third spawned task in serial order is a finish child, the others are async children.
+    fn open(&mut self) {
+        self.open_as(if self.spawned % 3 == 2 { FINISH } else { ASYNC });
     }
 
     fn end(&mut self) {
         self.kinds.push(END);
+    }
+
+    /// So many async children, single ends.
+    fn leaves(&mut self, count: usize) {
+        for _ in 0..count {
+            self.open_as(ASYNC);
+            self.end();
+        }
     }
 }
 
@@ -95,6 +110,27 @@ fn random(out: &mut Kinds, rng: &mut Rng) {
         }
     }
     (1..open).for_each(|_| out.end());
+}
+
+/// The root opens a finish child, and that all other tasks, async leaves.
+fn pile(out: &mut Kinds, _: &mut Rng) {
+    out.open_as(FINISH);
+    out.leaves(out.left);
+    out.end();
+}
+
+/// Finish children one in another, down to the most open tasks, so that there is no room in the innermost. Each of the others
+/// opens the same count of async leaves. They stand behind the finish child: under help-first a deque would have those before
+/// it below its continuation, which would be stolen later.
+fn nested(out: &mut Kinds, _: &mut Rng) {
+    let outer = MAX_OPEN - 2;
+    let leaves = (out.left - outer - 1) / outer;
+    (0..=outer).for_each(|_| out.open_as(FINISH));
+    out.end();
+    for _ in 0..outer {
+        out.leaves(leaves);
+        out.end();
+    }
 }
 
 /// A tree of exactly n records, all weights 1 and all classes 0. Only random trees differ by the seed.

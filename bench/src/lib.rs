@@ -4,5 +4,6 @@
 pub mod library;
 
 pub mod cases;
+pub mod live;
 pub mod times;
 pub mod tuned;

@@ -1,18 +1,21 @@
 //! Prints the tables of the benchmarks. `bench/run` builds all that they need and runs this; its words go here:
 //!
-//! - `record`, `replay`, `event`, `schedule`: only these tables
-//! - `--instructions`: instructions of whole calls on the largest trees in place of times
-//! - `--call WHAT CONTESTANT SHAPE POLICY WORKERS`: makes one such call
+//! - `record`, `replay`, `event`, `schedule`, `waiting`: only these tables
+//! - `--instructions`, alone or before such words: instructions of calls on the largest trees in place of times
+//! - `--call WHAT CONTESTANT SHAPE POLICY WORKERS`, `--call poll CONTESTANT SITUATION POLICY`: makes one such call
+
+mod waiting;
 
 use std::hint::black_box;
 use std::process::Command;
 
 use frame_bench::cases::{
-    maker_seed, schedule, tree, tree_with_classes, Shape, Way, COUNTS, LARGEST, POLICIES, RUN_WORKERS, SEEDS, SHAPES, WAYS,
-    WORKERS,
+    maker_seed, schedule, tree, tree_with_classes, Shape, Way, COUNTS, LARGEST, POLICIES, RUN_WORKERS, SEEDS, SHAPES,
+    WAITING_SHAPES, WAYS, WORKERS,
 };
 use frame_bench::library::{self, FrameRecord, FrameReplay, FrameSchedule, RunState};
-use frame_bench::times::{divided, geometric_mean, least, medians, most, turn};
+use frame_bench::live::Live;
+use frame_bench::times::{divided, geometric_mean, least, medians, most, turn, Contestant};
 use frame_bench::tuned;
 use frame_tests::random::robbed_in_turn;
 use frame_tests::record::{record, record_to_vecs, EVENT_BYTES};
@@ -119,22 +122,32 @@ impl<const N: usize> Table<N> {
 /// The columns where the library has one.
 const CONTESTANTS: [&str; 3] = ["tuned", "library", "simulator"];
 
+/// The times of calls on inputs that have so many units in all.
+fn times_of<I, A, const N: usize>(inputs: &mut [I], units: usize, calls: [fn(&mut I) -> A; N]) -> [f64; N] {
+    let turns = calls.map(|call| move |inputs: &mut [I]| turn(inputs, units, |_| (), |input, ()| _ = black_box(call(input))));
+    medians(inputs, turns.each_ref().map(|turn| turn as Contestant<I>))
+}
+
 // ---- Recording ----
 
 struct RecordCase {
     tree: Vec<u8>,
     policy: u8,
-    /// All accepted; they finish the run.
     events: Vec<u8>,
     log: Vec<u8>,
     trace: Vec<u8>,
 }
 
 impl RecordCase {
+    /// The events are accepted and finish the run.
     fn new(tree: Vec<u8>, policy: u8, workers: usize, seed: u64) -> RecordCase {
         let start = Run::start(policy, RUN_WORKERS, &tree).expect("the tree is accepted");
-        let n = start.tree.count();
-        RecordCase { events: schedule(&start, workers, seed), tree, policy, log: vec![0; 4 * n], trace: vec![0; 2 * (n - 1)] }
+        RecordCase::of_events(tree, policy, schedule(&start, workers, seed))
+    }
+
+    fn of_events(tree: Vec<u8>, policy: u8, events: Vec<u8>) -> RecordCase {
+        let n = tree.len() / TREE_RECORD;
+        RecordCase { tree, policy, events, log: vec![0; 4 * n], trace: vec![0; 2 * (n - 1)] }
     }
 
     fn events(&self) -> usize {
@@ -169,14 +182,7 @@ impl RecordCase {
     /// The sums of events and of steals, and the times.
     fn times(inputs: &mut [RecordCase]) -> (usize, usize, [f64; 3]) {
         let (units, steals) = inputs.iter_mut().fold((0, 0), |sum, case| (sum.0 + case.events(), sum.1 + case.check()));
-        let times = medians(
-            inputs,
-            [RecordCase::tuned, RecordCase::library, RecordCase::simulator]
-                .map(|call| move |inputs: &mut [_]| turn(inputs, units, |_| (), |case, ()| _ = black_box(call(case))))
-                .each_ref()
-                .map(|turn| turn as &dyn Fn(&mut [_]) -> f64),
-        );
-        (units, steals, times)
+        (units, steals, times_of(inputs, units, [RecordCase::tuned, RecordCase::library, RecordCase::simulator]))
     }
 }
 
@@ -261,14 +267,7 @@ impl ReplayCase {
     fn times(inputs: &mut [ReplayCase]) -> (usize, usize, [f64; 3]) {
         inputs.iter_mut().for_each(ReplayCase::check);
         let (units, steals) = inputs.iter().fold((0, 0), |sum, case| (sum.0 + case.steps(), sum.1 + case.steals()));
-        let times = medians(
-            inputs,
-            [ReplayCase::tuned, ReplayCase::library, ReplayCase::simulator]
-                .map(|call| move |inputs: &mut [_]| turn(inputs, units, |_| (), |case, ()| _ = black_box(call(case))))
-                .each_ref()
-                .map(|turn| turn as &dyn Fn(&mut [_]) -> f64),
-        );
-        (units, steals, times)
+        (units, steals, times_of(inputs, units, [ReplayCase::tuned, ReplayCase::library, ReplayCase::simulator]))
     }
 }
 
@@ -356,26 +355,9 @@ impl EventCase {
 
     /// All give each event the same answer, no refusal, and in the end all steps have run. Gives the count of steals.
     fn check(&self) -> usize {
-        let mut state = self.state;
-        let mut tuned = self.tuned_start();
-        let mut run = self.run.clone();
-        for &[first, second] in &self.events {
-            run.event(first, second).expect("the event is accepted");
-            let want = if first == second {
-                let ran = run.log.last().expect("a step ran");
-                [0, 1, ran.phase, ran.step, 0]
-            } else {
-                [0, 2, 0, 0, run.trace.last().expect("a step was stolen").number]
-            };
-            let by_value = library::event(state, &self.tree, first, second);
-            let in_place = library::event_in_place(&mut state, &self.tree, first, second);
-            assert!(state == by_value.state);
-            for got in [by_value.outcome, in_place, tuned.event(first, second)] {
-                assert_eq!([got.number, got.what, got.phase, got.step, got.trace], want);
-            }
-        }
-        assert!(run.finished());
-        run.trace.len()
+        let live = Live::after(&self.tree, self.policy, RUN_WORKERS, &self.events);
+        assert!(live.run.finished());
+        live.run.trace.len()
     }
 }
 
@@ -440,6 +422,13 @@ impl ScheduleCase {
         assert_eq!(want.0.number, 0);
         (want.0.events, want.0.events - self.tree.len() / TREE_RECORD)
     }
+
+    /// The sums of events and of steals, and the times.
+    fn times(inputs: &mut [ScheduleCase]) -> (usize, usize, [f64; 3]) {
+        let counts = inputs.iter_mut().map(ScheduleCase::check);
+        let (units, steals) = counts.fold((0, 0), |sum, counts| (sum.0 + counts.0, sum.1 + counts.1));
+        (units, steals, times_of(inputs, units, [ScheduleCase::tuned, ScheduleCase::library, ScheduleCase::simulator]))
+    }
 }
 
 /// The sizes between which the growth in flat trees is taken: there most draws meet an empty deque, which must not be scanned.
@@ -450,16 +439,7 @@ fn schedule_table() {
     let mut flat = GROWTH.map(|_| [const { Vec::new() }; CONTESTANTS.len()]);
     for_each_case(|shape, n, (policy, byte), workers| {
         let case = |seed| ScheduleCase::new(tree(shape, n, seed), byte, workers, seed);
-        let inputs: &mut Vec<_> = &mut SEEDS.map(case).collect();
-        let counts = inputs.iter_mut().map(ScheduleCase::check);
-        let (units, steals) = counts.fold((0, 0), |sum, counts| (sum.0 + counts.0, sum.1 + counts.1));
-        let times = medians(
-            inputs,
-            [ScheduleCase::tuned, ScheduleCase::library, ScheduleCase::simulator]
-                .map(|call| move |inputs: &mut [_]| turn(inputs, units, |_| (), |case, ()| _ = black_box(call(case))))
-                .each_ref()
-                .map(|turn| turn as &dyn Fn(&mut [_]) -> f64),
-        );
+        let (units, steals, times) = ScheduleCase::times(&mut SEEDS.map(case).collect::<Vec<_>>());
         table.line(&Row::new(shape.0, n, policy, workers, units, steals), times);
         if let (("flat", _), Some(size)) = (shape, GROWTH.iter().position(|&size| size == n)) {
             flat[size].iter_mut().zip(times).for_each(|(times, time)| times.push(time));
@@ -510,11 +490,15 @@ fn measured_call(call: &mut dyn FnMut()) {
     call();
 }
 
+fn policy_byte(policy: &str) -> u8 {
+    POLICIES.into_iter().find(|(name, _)| *name == policy).expect("a policy").1
+}
+
 /// Makes one call on a tree of the largest count.
 fn make_call(words: &[&str]) {
     let [what, contestant, shape, policy, workers] = words else { panic!("five words, not {words:?}") };
-    let shape = SHAPES.into_iter().find(|(name, _)| name == shape).expect("a shape");
-    let (_, policy) = POLICIES.into_iter().find(|(name, _)| name == policy).expect("a policy");
+    let shape = SHAPES.into_iter().chain(WAITING_SHAPES).find(|(name, _)| name == shape).expect("a shape");
+    let policy = policy_byte(policy);
     let workers = workers.parse().expect("a count of workers");
     let contestant = CONTESTANTS.iter().position(|name| name == contestant).expect("a contestant");
     let seed = SEEDS.start;
@@ -540,7 +524,7 @@ fn make_call(words: &[&str]) {
 }
 
 /// The instructions of one call, counted by `valgrind`.
-fn instructions(words: [&str; 5]) -> f64 {
+fn instructions(words: &[&str]) -> f64 {
     let program = std::env::current_exe().expect("this program has a name");
     let output = Command::new("valgrind")
         .args(["--tool=callgrind", "--callgrind-out-file=/dev/null", "--toggle-collect=measured_call"])
@@ -556,47 +540,70 @@ fn instructions(words: [&str; 5]) -> f64 {
     count.unwrap_or_else(|| panic!("valgrind counts nothing for {words:?}: {text}"))
 }
 
+/// The row of a case, and the instructions of its calls by unit.
+fn counted(what: &str, shape: Shape, (policy, byte): (&'static str, u8), workers: usize) -> (Row, [f64; 3]) {
+    let seed = SEEDS.start;
+    let tree = tree(shape, LARGEST, seed);
+    let (events, steals) = if what == "schedule" {
+        ScheduleCase::new(tree, byte, workers, seed).check()
+    } else {
+        let mut case = RecordCase::new(tree, byte, workers, seed);
+        (case.events(), case.check())
+    };
+    let units = if what == "replay" { LARGEST } else { events };
+    let count = |contestant| instructions(&[what, contestant, shape.0, policy, &workers.to_string()]);
+    let counts = CONTESTANTS.map(|contestant| count(contestant) / units as f64);
+    (Row { shape: shape.0, n: LARGEST, policy, workers, units, steals }, counts)
+}
+
 fn instructions_table(what: &str) {
     let units = if what == "replay" { "steps" } else { "events" };
     let mut table = Table::new(&format!("{what}, instructions of a call"), units, CONTESTANTS);
     for shape in SHAPES {
-        for (policy, byte) in POLICIES {
+        for policy in POLICIES {
             for workers in WORKERS {
-                let seed = SEEDS.start;
-                let tree = tree(shape, LARGEST, seed);
-                let (events, steals) = if what == "schedule" {
-                    ScheduleCase::new(tree, byte, workers, seed).check()
-                } else {
-                    let mut case = RecordCase::new(tree, byte, workers, seed);
-                    (case.events(), case.check())
-                };
-                let units = if what == "replay" { LARGEST } else { events };
-                let count = |contestant| instructions([what, contestant, shape.0, policy, &workers.to_string()]);
-                let counts = CONTESTANTS.map(|contestant| count(contestant) / units as f64);
-                table.line(&Row { shape: shape.0, n: LARGEST, policy, workers, units, steals }, counts);
+                let (row, counts) = counted(what, shape, policy, workers);
+                table.line(&row, counts);
             }
         }
     }
     table.summary();
 }
 
+/// Prints the tables that are named, or all.
+fn print_tables(tables: &[(&str, fn())], words: &[&str]) {
+    for word in words {
+        assert!(tables.iter().any(|(name, _)| name == word), "there is no table {word}");
+    }
+    for (name, table) in tables {
+        if words.is_empty() || words.contains(name) {
+            table();
+        }
+    }
+}
+
+const TIMES: [(&str, fn()); 5] = [
+    ("record", record_table),
+    ("replay", replay_table),
+    ("event", event_table),
+    ("schedule", schedule_table),
+    ("waiting", waiting::tables),
+];
+
+const INSTRUCTIONS: [(&str, fn()); 4] = [
+    ("record", || instructions_table("record")),
+    ("replay", || instructions_table("replay")),
+    ("schedule", || instructions_table("schedule")),
+    ("waiting", waiting::instructions_tables),
+];
+
 fn main() {
     let words: Vec<String> = std::env::args().skip(1).collect();
     let words: Vec<&str> = words.iter().map(String::as_str).collect();
     match words[..] {
+        ["--call", "poll", ref words @ ..] => waiting::make_poll(words),
         ["--call", ref words @ ..] => make_call(words),
-        ["--instructions"] => ["record", "replay", "schedule"].into_iter().for_each(instructions_table),
-        _ => {
-            let tables: [(&str, fn()); 4] =
-                [("record", record_table), ("replay", replay_table), ("event", event_table), ("schedule", schedule_table)];
-            for word in &words {
-                assert!(tables.iter().any(|(name, _)| name == word), "there is no table {word}");
-            }
-            for (name, table) in tables {
-                if words.is_empty() || words.contains(&name) {
-                    table();
-                }
-            }
-        }
+        ["--instructions", ref words @ ..] => print_tables(&INSTRUCTIONS, words),
+        _ => print_tables(&TIMES, &words),
     }
 }

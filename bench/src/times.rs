@@ -31,10 +31,20 @@ fn thread_time() -> Duration {
 /// Nanoseconds per unit of calls on inputs that take turns and have so many units in all. For each batch of turns what the
 /// calls are given is made ready outside of the time.
 pub fn turn<I, T>(inputs: &mut [I], units: usize, ready: impl Fn(&I) -> T, call: impl Fn(&mut I, &mut T)) -> f64 {
+    turn_by(BATCH.div_ceil(units), inputs, units, ready, call)
+}
+
+/// The same where a batch is so many turns of all inputs: where units take long, the usual batch would.
+pub fn turn_by<I, T>(
+    batch: usize,
+    inputs: &mut [I],
+    units: usize,
+    ready: impl Fn(&I) -> T,
+    call: impl Fn(&mut I, &mut T),
+) -> f64 {
     let mut spent = Duration::ZERO;
     let mut passes = 0;
     while spent < TURN {
-        let batch = BATCH.div_ceil(units);
         let mut given: Vec<T> = (0..batch).flat_map(|_| inputs.iter().map(&ready)).collect();
         let began = thread_time();
         for given in given.chunks_mut(inputs.len()) {
@@ -46,18 +56,28 @@ pub fn turn<I, T>(inputs: &mut [I], units: usize, ready: impl Fn(&I) -> T, call:
     spent.as_nanos() as f64 / (passes * units) as f64
 }
 
-/// For each contestant, which takes a turn on the inputs, the median of its turns.
-pub fn medians<I, const N: usize>(inputs: &mut [I], contestants: [&dyn Fn(&mut [I]) -> f64; N]) -> [f64; N] {
+/// Takes a turn on the inputs.
+pub type Contestant<'a, I> = &'a dyn Fn(&mut [I]) -> f64;
+
+/// For each contestant all its turns.
+pub fn rounds<I, const N: usize>(inputs: &mut [I], contestants: [Contestant<I>; N]) -> [[f64; ROUNDS]; N] {
     let mut turns = [[0.0; ROUNDS]; N];
     for round in 0..ROUNDS {
         for (contestant, turns) in contestants.iter().zip(&mut turns) {
             turns[round] = contestant(inputs);
         }
     }
-    turns.map(|mut turns| {
-        turns.sort_by(f64::total_cmp);
-        turns[ROUNDS / 2]
-    })
+    turns
+}
+
+pub fn median(mut turns: [f64; ROUNDS]) -> f64 {
+    turns.sort_by(f64::total_cmp);
+    turns[ROUNDS / 2]
+}
+
+/// For each contestant the median of its turns.
+pub fn medians<I, const N: usize>(inputs: &mut [I], contestants: [Contestant<I>; N]) -> [f64; N] {
+    rounds(inputs, contestants).map(median)
 }
 
 pub fn geometric_mean(numbers: &[f64]) -> f64 {

@@ -1,6 +1,7 @@
 //! The tuned baseline against the simulator, so that what the benchmarks compare with does the same work.
 
 use frame_bench::library::{FrameRecord, FrameReplay, FrameSchedule};
+use frame_bench::live::expected;
 use frame_bench::tuned;
 use frame_tests::random::{
     self, any_count, any_event, any_seed, events_to_record, nearest_count, robbed_in_turn, trace_to_replay, Rng,
@@ -221,16 +222,7 @@ fn single_events() {
         for at in 0..3 * run.tree.count() {
             let [first, second] = any_event(rng, taking_part, count);
             let got = tuned.event(first, second);
-            let want = match run.event(first, second) {
-                Err(refusal) => [refusal.number as usize, 0, 0, 0, 0],
-                Ok(()) if first == second => {
-                    let ran = run.log.last().expect("a step ran");
-                    [0, 1, ran.phase, ran.step, 0]
-                }
-                Ok(()) => [0, 2, 0, 0, run.trace.last().expect("a step was stolen").number],
-            };
-            assert_eq!([got.number, got.what, got.phase, got.step, got.trace], want, "seed {seed}, event {at}");
-            assert_eq!(got.position, 0, "seed {seed}, event {at}");
+            assert_eq!(got, expected(&mut run, first, second), "seed {seed}, event {at}");
             refusals[got.number] += 1;
         }
     }
