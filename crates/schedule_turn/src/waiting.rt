@@ -1,5 +1,5 @@
-// What a worker that waits is noted to wait for: of the finish child and its descendants the highest step that has not run. While that
-// has not run the worker waits, and the child need not be looked through.
+// What a worker that waits is noted to wait for: a step of the finish child before its own or of the child's descendants. While that
+// has not run the worker waits, and the child need not be looked through; when it has, the next is looked for below it.
 ghost use mathlib.Core.Path.{_≡_};
 ghost use Prim.Native.Nat.{_≤_};
 ghost use lib.ListN.{length};
@@ -22,6 +22,7 @@ pub fn awaited_before(tree: &[u8], openers: &[u16], place: &[u8; MOST_STEPS], st
 {
     let i = step.0;
     let j = end.0;
+    // As in `unrun_still`, which was asked before: a worker that was not seen to wait costs one comparison for both.
     if MOST_STEPS <= j {
         return NO_STEP;
     }
