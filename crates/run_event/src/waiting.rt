@@ -41,12 +41,12 @@ fn all_run(place: &[u8; MOST_STEPS], first: Step, end: Step) -> bool
 
 // Where the block of steps before step `end` begins, which goes back no further than step `first`.
 fn block_before(first: Step, end: Step) -> Step
-    requires { ⌜ first .0 < end .0 ⌝ }
+    requires { ⌜ (first .0 < end .0) × (end .0 ≤ mostSteps) ⌝ }
     ensures { λ r. ⌜ (first .0 ≤ r .0) × (r .0 < end .0) × (end .0 ≤ r .0 + 255) ⌝ }
 {
     let from = first.0;
     let j = end.0;
-    if BLOCK < j - from {
+    if from + BLOCK < j {
         return Step(j - BLOCK);
     }
     first

@@ -22,7 +22,9 @@ loop-holds : tie.Need-loop-holds Inv-loop μ-loop
 loop-holds c = (omega arith, refl)
 
 block-before-requires : tie.Need-block-before-requires Inv-loop μ-loop
-block-before-requires c κs = c .loop-test .taken
+block-before-requires c κs =
+    let at = c .before in
+    (c .loop-test .taken, omega (arith, at .loop .inv .0, at .before .pre))
 
 all-run-requires : tie.Need-all-run-requires Inv-loop μ-loop
 all-run-requires c κs =
