@@ -22,11 +22,11 @@ unrunMark = 17
 
 -- ---- scans
 
--- Step j is marked with worker w.
+-- Step j is marked with w, a worker or one of these.
 unfoldable pub marked : List ℕ → ℕ → ℕ → Bool
 marked place w j = eqb (getD place j 0) w
 
--- The highest step marked with w among those from `low` to before `end`: the pusher of the newest step of w's deque.
+-- The highest step marked with w among those from `low` to before `end`: of a worker, the pusher of the newest step of its deque.
 abbrev pub newestMark : List ℕ → ℕ → ℕ → ℕ → Option ℕ
 newestMark place w low end = highest (marked place w) low end
 

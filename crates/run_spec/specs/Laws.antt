@@ -1,6 +1,6 @@
 -- What need not be believed: everything here is proved from the definitions.
 --     Marks      the scans over the array of places and the climb over openers, turn by turn; where what they find stands; the stores
---     Waiting    whether all steps of a finish child have run, turn by turn; waiting, case by case
+--     Waiting    whether all steps of a block have run, turn by turn; the walk over blocks; what a step waits for
 --     Running    refusals of a run, and what a run leaves, case by case
 --     Children   the count of the children that a stretch of steps opens directly, turn by turn
 --     Ordinals   the ordinal of a stolen step, case by case
