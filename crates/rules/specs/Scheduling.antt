@@ -126,7 +126,8 @@ unfoldable pub waits : List ℕ → List Entry → ℕ → Bool
 waits ks log i = elim (finishBefore ks i) [ none ↦ false | some first ↦ not (all (hasRun log) (count first (i - first))) ]
 
 -- Document 02, #104: what such a step waits for, "the highest unrun one of the child and its descendants", or none where all of
--- them have run or no finish child ends before step i. "Walk the child backwards from its end and stop at the first unrun step."
+-- them have run or no finish child ends before step i. "Walk the child backwards from its end and stop at the first unrun step
+-- found."
 unfoldable pub awaited : List ℕ → List Entry → ℕ → Option ℕ
 awaited ks log i = elim (finishBefore ks i) [ none ↦ none | some first ↦ highest (λ j. not (hasRun log j)) first i ]
 

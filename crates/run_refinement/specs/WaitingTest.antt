@@ -21,7 +21,7 @@ pub record OfChild (ks : List ℕ) (i j : ℕ) : Type 0 where
   pub before : j < i
 
 -- The test's answer for step i, where `ran` says which steps have run.
-pub record Answers (ks : List ℕ) (i : ℕ) (ran : ℕ → Bool) (answer : Option ℕ) : Type 0 where
+pub record TestAnswer (ks : List ℕ) (i : ℕ) (ran : ℕ → Bool) (answer : Option ℕ) : Type 0 where
   -- "The test answers that step, the highest unrun one of the child and its descendants,
   pub ofChild : (j : ℕ) → answer ≡ some j → OfChild ks i j
   pub unrun : (j : ℕ) → answer ≡ some j → ran j ≡ false
@@ -37,8 +37,8 @@ answered (some j) = true
 
 pub record WaitingTest : Type 0 where
   -- In any state, reached or not, and by the rules.
-  pub byPlaces : (ks place : List ℕ) (i : ℕ) → Answers ks i (λ j. not (marked place unrunMark j)) (awaits ks place i)
-  pub byLog : (ks : List ℕ) (log : List Entry) (i : ℕ) → Answers ks i (hasRun log) (awaited ks log i)
+  pub byPlaces : (ks place : List ℕ) (i : ℕ) → TestAnswer ks i (λ j. not (marked place unrunMark j)) (awaits ks place i)
+  pub byLog : (ks : List ℕ) (log : List Entry) (i : ℕ) → TestAnswer ks i (hasRun log) (awaited ks log i)
   -- A step waits exactly where one is answered: so it is in what an event answers in any state, and by document 01.
   pub waitsPlaces : (ks place : List ℕ) (i : ℕ) → waitsFor ks place i ≡ answered (awaits ks place i)
   pub waitsLog : (ks : List ℕ) (log : List Entry) (i : ℕ) → waits ks log i ≡ answered (awaited ks log i)

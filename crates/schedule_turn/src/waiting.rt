@@ -16,7 +16,13 @@ use tree_tables::lookup::finish_by;
 
 // A step that a held step waits for, the highest before step `end`, or NO_STEP: where there is none, where `end` is no step, as for a
 // worker that was not seen to wait, or where it is not one of those up to the held step.
-pub fn awaited_before(tree: &[u8], openers: &[u16], place: &[u8; MOST_STEPS], step: Step, end: Step) -> u16
+pub fn awaited_before(
+    tree: &[u8],
+    openers: &[u16],
+    place: &[u8; MOST_STEPS],
+    step: Step,
+    end: Step,
+) -> u16
     requires { ⌜ (step .0 ≤ mostSteps) × Openers (kinds (now tree)) (now openers) (length (now openers)) ⌝ }
     ensures { λ r. ⌜ Noted (kinds (now (tree .entry))) (now (place .entry)) (step .0) r ⌝ }
 {

@@ -275,7 +275,8 @@ module _ (w p : ℕ) (tree : List ℕ) where
     replay-adds =
         rw (replay-classes, replay-told w p tree trace list)
         (told-adds tree numbered phs (λ z.
-        (start-tree-accepts w p tree (replay-starts w p tree trace list z), trace-manned (replay-starts w p tree trace list z) (records 4 trace))))
+        let starts = replay-starts w p tree trace list z in
+        (start-tree-accepts w p tree starts, trace-manned starts (records 4 trace))))
 
     replay-old : formerVerdict tree .number ≡ 0
         → replayCall w p tree trace list .classLoads ≡ together (replayCall w p tree trace list .loads) ∷ replicate 15 0

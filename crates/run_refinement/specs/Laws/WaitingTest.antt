@@ -23,7 +23,7 @@ use Rattle.run_spec.specs.Deques.{unrunMark, marked}
 use Rattle.run_spec.specs.Running.{waitsFor, awaits}
 use Rattle.run_spec.specs.Laws.Waiting.{waits-awaits}
 use Rattle.run_refinement.specs.Follows.{ruled, reached}
-use Rattle.run_refinement.specs.WaitingTest.{OfChild, Answers, answered, WaitingTest}
+use Rattle.run_refinement.specs.WaitingTest.{OfChild, TestAnswer, answered, WaitingTest}
 use Rattle.run_refinement.specs.Laws.Scans.{awaits-shown}
 use Rattle.run_refinement.specs.Laws.Follows.{follows}
 
@@ -42,7 +42,7 @@ child-from ks i first j e of =
 
 module _ (ks : List ℕ) (i : ℕ) (unrun ran : ℕ → Bool) (opposite : (j : ℕ) → ran j ≡ not (unrun j)) where
   -- No finish child: no step is waited for.
-  none-answers : finishBefore ks i ≡ none → Answers ks i ran none
+  none-answers : finishBefore ks i ≡ none → TestAnswer ks i ran none
   none-answers e =
       let no-child : (k : ℕ) → OfChild ks i k → ⊥ = λ k of. Option·none-ne-some (of .first) (sym e ∙ of .child) in
       record {
@@ -53,7 +53,7 @@ module _ (ks : List ℕ) (i : ℕ) (unrun ran : ℕ → Bool) (opposite : (j : �
         noneOnly = λ f. refl;
       }
 
-  child-answers : (first : ℕ) → finishBefore ks i ≡ some first → Answers ks i ran (highest unrun first i)
+  child-answers : (first : ℕ) → finishBefore ks i ≡ some first → TestAnswer ks i ran (highest unrun first i)
   child-answers first e =
       record {
         ofChild = λ j f. let is = highest-is unrun first i j f in of-child ks i first j e (is .from) (is .before);
@@ -71,20 +71,20 @@ module _ (ks : List ℕ) (i : ℕ) (unrun ran : ℕ → Bool) (opposite : (j : �
 
 -- ---- the places of a state, and the log of a run
 
-by-places : (ks place : List ℕ) (i : ℕ) → Answers ks i (λ j. not (marked place unrunMark j)) (awaits ks place i)
+by-places : (ks place : List ℕ) (i : ℕ) → TestAnswer ks i (λ j. not (marked place unrunMark j)) (awaits ks place i)
 unfolding awaits
 by-places ks place i = by (finishBefore ks i) refl
   where
-    by : (o : Option ℕ) → finishBefore ks i ≡ o → Answers ks i (λ j. not (marked place unrunMark j)) (awaits ks place i)
+    by : (o : Option ℕ) → finishBefore ks i ≡ o → TestAnswer ks i (λ j. not (marked place unrunMark j)) (awaits ks place i)
     by none e = rw (awaits, e) (none-answers ks i (marked place unrunMark) (λ j. not (marked place unrunMark j)) (λ j. refl) e)
     by (some first) e =
         rw (awaits, e) (child-answers ks i (marked place unrunMark) (λ j. not (marked place unrunMark j)) (λ j. refl) first e)
 
-by-log : (ks : List ℕ) (log : List Entry) (i : ℕ) → Answers ks i (hasRun log) (awaited ks log i)
+by-log : (ks : List ℕ) (log : List Entry) (i : ℕ) → TestAnswer ks i (hasRun log) (awaited ks log i)
 unfolding awaited
 by-log ks log i = by (finishBefore ks i) refl
   where
-    by : (o : Option ℕ) → finishBefore ks i ≡ o → Answers ks i (hasRun log) (awaited ks log i)
+    by : (o : Option ℕ) → finishBefore ks i ≡ o → TestAnswer ks i (hasRun log) (awaited ks log i)
     by none e = rw (awaited, e) (none-answers ks i (λ j. not (hasRun log j)) (hasRun log) (λ j. sym (Bool·not-not (hasRun log j))) e)
     by (some first) e =
         rw (awaited, e) (child-answers ks i (λ j. not (hasRun log j)) (hasRun log) (λ j. sym (Bool·not-not (hasRun log j))) first e)

@@ -151,8 +151,14 @@ module _ (p q : ℕ → Bool) (opposite : (j : ℕ) → q j ≡ not (p j)) where
   by-all zero low = rw (highest-done p low (low + 0) (omega arith)) refl
   by-all (suc m) low =
       let next : low + suc m ≡ suc low + m = omega arith in
-      rw (opposite low, by-all m (suc low), next, by-parts p low (suc low) (omega arith) m, highest-turn p low low (omega arith),
-      highest-done p low low (omega arith))
+      rw (
+        opposite low,
+        by-all m (suc low),
+        next,
+        by-parts p low (suc low) (omega arith) m,
+        highest-turn p low low (omega arith),
+        highest-done p low low (omega arith),
+      )
       (by (p low) (highest p (suc low) (suc low + m)))
     where
       by : (b : Bool) (o : Option ℕ) → not b && nothing o ≡ nothing (or-else o (cond b (some low) none))
