@@ -10,7 +10,7 @@ use Rattle.rules.specs.Bytes.{count, sum, Verdict, refusedIf, firstRefused, Wal
 use Rattle.rules.specs.Tree.{treeRecords, kind, isEnd, classCount, class, kinds, classes, weights, mostOpen, hasKind, judgeTreeRecord}
 use Rattle.rules.specs.Tree.{nextOpen, wrongLength, treeVerdict}
 use Rattle.rules.specs.Calls.{Recorded, recordVerdict, recordCall, Replayed, replayVerdict, replayCall}
-use Rattle.rules.specs.Schedules.{scheduleCall}
+use Rattle.rules_schedule.specs.Schedules.{scheduleCall}
 use Rattle.run_state.specs.declared.RunState.{RunState}
 use Rattle.run_state.specs.Contract.{startAnswer, eventAnswer}
 

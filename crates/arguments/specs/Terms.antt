@@ -8,7 +8,7 @@ use lib.Dec.{eqb, ltb}
 use Rattle.rules.specs.Bytes.{wholeRecords, Verdict, refusedIf, firstRefused}
 use Rattle.rules.specs.Tree.{kinds}
 use Rattle.rules.specs.Calls.{mostEvents, mostTraceRecords, startVerdict}
-use Rattle.rules.specs.Schedules.{mostMade}
+use Rattle.rules_schedule.specs.Schedules.{mostMade}
 use Rattle.tree.specs.declared.Accepted.{Accepted}
 
 -- The refusal and position of a policy, a worker count and a tree, or the tree's count of steps; what is not answered is 0.

@@ -1,7 +1,7 @@
 // The schedule maker as C sees it. It stands apart from recording and from single events: a run and a steal are compiled into the loop that
 // calls them where they have one caller.
 ghost use mathlib.Core.Path.{_≡_};
-ghost use Rattle.rules.specs.Schedules.{scheduleCall};
+ghost use Rattle.rules_schedule.specs.Schedules.{scheduleCall};
 ghost use Rattle.schedule.specs.Contract.{answers as scheduleAnswers};
 ghost use Rattle.frame_answers.specs.Contract.{flatSchedule};
 use frame_answers::FrameSchedule;

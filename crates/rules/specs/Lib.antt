@@ -5,12 +5,10 @@
 --     Traces       "Trace, log, run list"
 --     Calls        "Refusals": what a whole call answers and writes
 --     Program      what program `phases` prints
---     Schedules    document 02, #102: the schedule maker
 -- Proved from these, so not to be believed:
 --     Cases        "Tree S and its schedules": P1 to P12, one theorem
 --     NearMisses   cases that tell the rules from near misses, a theorem for each table
 --     Counts       cases of the run's own count of workers
---     MadeLists    cases of the schedule maker
 --     Classes      cases of the classes
 --     Awaited      cases of what a step waits for
 --     Listing      the worked example of program `phases`, and refusals and numbers that it prints
@@ -20,11 +18,9 @@ pub mod Scheduling
 pub mod Traces
 pub mod Calls
 pub mod Program
-pub mod Schedules
 pub mod Cases
 pub mod NearMisses
 pub mod Counts
-pub mod MadeLists
 pub mod Classes
 pub mod Awaited
 pub mod Listing

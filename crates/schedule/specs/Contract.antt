@@ -1,5 +1,5 @@
 -- What the schedule maker answers, by the rules.
-use Rattle.rules.specs.Schedules.{Scheduled as Call}
+use Rattle.rules_schedule.specs.Schedules.{Scheduled as Call}
 use Rattle.schedule.specs.declared.Scheduled.{Scheduled}
 
 -- The answers of a schedule call, beside what it leaves in the lent list.

@@ -6,7 +6,7 @@ use lib.ListN.{length}
 use Rattle.rules.specs.Bytes.{count}
 use Rattle.rules.specs.Tree.{kinds}
 use Rattle.rules.specs.Calls.{written}
-use Rattle.rules.specs.Schedules.{Making, round, rounds, made}
+use Rattle.rules_schedule.specs.Schedules.{Making, round, rounds, made}
 use Rattle.policy.specs.declared.Setup.{Setup}
 use Rattle.schedule_turn.specs.Terms.{Arrays, Stands}
 

@@ -7,7 +7,7 @@ ghost use Prim.Native.Nat.{_*_, _≤_};
 ghost use lib.ListN.{length};
 ghost use Rattle.rules.specs.Tree.{kinds};
 ghost use Rattle.rules.specs.Calls.{startVerdict};
-ghost use Rattle.rules.specs.Schedules.{made, mostMade, scheduleCall};
+ghost use Rattle.rules_schedule.specs.Schedules.{made, mostMade, scheduleCall};
 ghost use Rattle.schedule.specs.Contract.{answers};
 ghost use Rattle.schedule.specs.Terms.{ListWritten};
 use policy::Setup;

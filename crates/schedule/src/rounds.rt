@@ -5,7 +5,7 @@ ghost use Prim.Native.Nat.{_*_, _≤_};
 ghost use lib.ListN.{length};
 ghost use Rattle.rules.specs.Tree.{kinds};
 ghost use Rattle.rules.specs.Calls.{startVerdict};
-ghost use Rattle.rules.specs.Schedules.{made, mostMade};
+ghost use Rattle.rules_schedule.specs.Schedules.{made, mostMade};
 ghost use Rattle.tree_tables.specs.Terms.{Ends, Openers};
 ghost use Rattle.schedule_turn.specs.Terms.{arraysOf, Standing};
 ghost use Rattle.schedule.specs.Terms.{ListWritten, FirstTurns};

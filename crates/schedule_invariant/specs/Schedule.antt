@@ -10,7 +10,7 @@ use lib.ListN.{length, take}
 use Rattle.rules.specs.Bytes.{records, count, refusedIf}
 use Rattle.rules.specs.Tree.{kinds}
 use Rattle.rules.specs.Calls.{shortOutputs, Recorded, finished, recordCall}
-use Rattle.rules.specs.Schedules.{Making, begun, round, scheduleCall}
+use Rattle.rules_schedule.specs.Schedules.{Making, begun, round, scheduleCall}
 
 -- k rounds, whatever has run: "go through the workers in rising order again and again".
 unfoldable pub again : ℕ → ℕ → List ℕ → ℕ → Making → Making

@@ -8,7 +8,7 @@ use lib.ListN.{length}
 use lib.Dec.{eqb}
 use Rattle.rules.specs.Bytes.{all, accepted}
 use Rattle.rules.specs.Calls.{recordWalk}
-use Rattle.rules.specs.Schedules.{Making}
+use Rattle.rules_schedule.specs.Schedules.{Making}
 use Rattle.run_invariant.specs.Invariant.{Invariant}
 
 pub record Going (w p : ℕ) (ks : List ℕ) (m : Making) : Type 0 where

@@ -2,7 +2,7 @@
 use Prim.Native.Nat.{ℕ}
 use mathlib.Core.Path.{_≡_}
 use mathlib.Core.List.{List}
-use Rattle.rules.specs.Schedules.{scheduleCall}
+use Rattle.rules_schedule.specs.Schedules.{scheduleCall}
 use Rattle.schedule_invariant.specs.Schedule.{Schedule}
 use Rattle.schedule_invariant.specs.Laws.Lists.{list-made}
 

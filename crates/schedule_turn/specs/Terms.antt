@@ -10,7 +10,7 @@ use lib.Dec.{ltb}
 use Rattle.rules.specs.Tree.{mostSteps, kindAt, isEnd, kinds}
 use Rattle.rules.specs.Scheduling.{mostWorkers, Run, workerAt, hasRun}
 use Rattle.rules.specs.Calls.{startVerdict, written}
-use Rattle.rules.specs.Schedules.{Making, turn, mostMade}
+use Rattle.rules_schedule.specs.Schedules.{Making, turn, mostMade}
 use Rattle.policy.specs.declared.Setup.{Setup}
 use Rattle.run_spec.specs.Deques.{unrunMark, marked}
 use Rattle.run_spec.specs.Running.{noStep}

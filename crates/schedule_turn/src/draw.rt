@@ -2,7 +2,7 @@
 ghost use mathlib.Core.Path.{_≡_};
 ghost use Prim.Native.Nat.{_<_};
 ghost use Rattle.rules.specs.Scheduling.{mostWorkers};
-ghost use Rattle.rules.specs.Schedules.{draw as drawOf, named as namedBy};
+ghost use Rattle.rules_schedule.specs.Schedules.{draw as drawOf, named as namedBy};
 
 // "Adds 2,654,435,769 to the seed modulo 2 to the power 32."
 pub fn next_seed(seed: u32) -> u32

@@ -17,7 +17,7 @@ use Rattle.rules.specs.Scheduling.{mostWorkers, Phase, Run, start}
 use Rattle.rules.specs.Traces.{traceBytes, replayWalk, loads, classLoads}
 use Rattle.rules.specs.Calls.{startVerdict, afterEvents, Recorded, recordWalk, recordVerdict, recordOf, recordRefused, recordCall}
 use Rattle.rules.specs.Calls.{Replayed, replayVerdict, replayOf, replayRefused, replayCall}
-use Rattle.rules.specs.Schedules.{scheduleVerdict, scheduleCall}
+use Rattle.rules_schedule.specs.Schedules.{scheduleVerdict, scheduleCall}
 use Rattle.tree.specs.Laws.Counts.{map-length}
 use Rattle.tree.specs.Laws.Records.{length-records, length-kinds, length-paired, class-past}
 use Rattle.tree.specs.Laws.Walks.{walk-each, walk-too}

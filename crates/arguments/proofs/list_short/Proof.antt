@@ -6,7 +6,7 @@ use native.Mathlib.Omega.{arith}
 use lib.Dec.{ltb}
 use borrow.Author.Needs.{needs}
 use borrow.Author.Tests.{le-ltb}
-use Rattle.rules.specs.Schedules.{mostMade}
+use Rattle.rules_schedule.specs.Schedules.{mostMade}
 use Rattle.arguments.specs.Terms.{listShort}
 use Rattle.arguments.proofs.list_short.Statement.{statement}
 use Rattle.arguments.proofs.list_short.Tie as tie

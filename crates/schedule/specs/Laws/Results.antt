@@ -8,7 +8,7 @@ use borrow.Author.Tests.{ne-eqb, ltb-false}
 use Rattle.rules.specs.Bytes.{Verdict, accepted, refusedIf, firstRefused}
 use Rattle.rules.specs.Tree.{kinds}
 use Rattle.rules.specs.Calls.{startVerdict}
-use Rattle.rules.specs.Schedules.{made, mostMade, scheduleVerdict, scheduleOf, scheduleRefused, scheduleCall, Scheduled as Call}
+use Rattle.rules_schedule.specs.Schedules.{made, mostMade, scheduleVerdict, scheduleOf, scheduleRefused, scheduleCall, Scheduled as Call}
 use Rattle.tree.specs.declared.Accepted.{Accepted}
 use Rattle.arguments.specs.Terms.{listShort, scheduleJudged}
 use Rattle.arguments.specs.Laws.Cases.{callVerdict, given-refused, given, given-last}

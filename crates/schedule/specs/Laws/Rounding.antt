@@ -11,7 +11,7 @@ use Rattle.rules.specs.Bytes.{count}
 use Rattle.rules.specs.Tree.{kinds}
 use Rattle.rules.specs.Scheduling.{mostWorkers, start}
 use Rattle.rules.specs.Calls.{startVerdict, written, finished}
-use Rattle.rules.specs.Schedules.{Making, begun, round, made, mostMade}
+use Rattle.rules_schedule.specs.Schedules.{Making, begun, round, made, mostMade}
 use Rattle.tree_scan.specs.Laws.Starts.{start-workers}
 use Rattle.tree_tables.specs.Laws.Fronts.{start-frame}
 use Rattle.policy.specs.declared.Setup.{Setup}

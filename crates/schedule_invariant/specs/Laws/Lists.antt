@@ -14,7 +14,8 @@ use Rattle.rules.specs.Tree.{kinds}
 use Rattle.rules.specs.Scheduling.{start}
 use Rattle.rules.specs.Calls.{mostEvents, startVerdict, written, shortOutputs, finished, recordWalk, recordVerdict}
 use Rattle.rules.specs.Calls.{recordOf, recordRefused, recordCall}
-use Rattle.rules.specs.Schedules.{Making, begun, made, mostMade, Scheduled, scheduleVerdict, scheduleOf, scheduleRefused, scheduleCall}
+use Rattle.rules_schedule.specs.Schedules.{Making, begun, made, mostMade, Scheduled, scheduleVerdict, scheduleOf, scheduleRefused}
+use Rattle.rules_schedule.specs.Schedules.{scheduleCall}
 use Rattle.tree.specs.Laws.Verdicts.{first-accepts}
 use Rattle.tree_scan.specs.Laws.Starts.{start-tree-accepts, start-workers}
 use Rattle.tree_scan.specs.Laws.Frames.{Frame, accepted-frame}

@@ -13,7 +13,7 @@ use borrow.Author.Tests.{eq-eqb}
 use Rattle.rules.specs.Bytes.{count}
 use Rattle.rules.specs.Scheduling.{workerAt, isRun, judgeRun, nextRun}
 use Rattle.rules.specs.Calls.{finished}
-use Rattle.rules.specs.Schedules.{draw, named, Making, write, drawn, robbable, turn, round, rounds}
+use Rattle.rules_schedule.specs.Schedules.{draw, named, Making, write, drawn, robbable, turn, round, rounds}
 use Rattle.tree.specs.Laws.Counts.{count-snoc, count-split}
 use Rattle.tree_scan.specs.Laws.Shape.{Shape}
 use Rattle.tree_scan.specs.Laws.Frames.{endAt, sizeAt}

@@ -13,7 +13,7 @@ use borrow.Author.Tests.{lt-ltb, le-ltb, le-leb, lt-leb, eq-eqb, ne-eqb, eqb-tru
 use Rattle.rules.specs.Bytes.{records, all, walk}
 use Rattle.rules.specs.Scheduling.{Run, start, workerAt, waits, isRun, judgeRun, holdsStep, judgeSteal, judgeEvent, nextRun}
 use Rattle.rules.specs.Calls.{eventCall, recordWalk}
-use Rattle.rules.specs.Schedules.{draw, named, Making, begun, write, drawn, robbable, stealTurn, turn, mostMade}
+use Rattle.rules_schedule.specs.Schedules.{draw, named, Making, begun, write, drawn, robbable, stealTurn, turn, mostMade}
 use Rattle.buffers.specs.Laws.Records.{wide-one, flatten-length, flatten-records}
 use Rattle.tree.specs.Laws.Walks.{walk-more}
 use Rattle.tree_scan.specs.Laws.Shape.{Shape}

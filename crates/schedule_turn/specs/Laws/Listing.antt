@@ -6,7 +6,7 @@ use native.Mathlib.Omega.{arith}
 use lib.ListN.{length, length-append}
 use Rattle.rules.specs.Tree.{mostSteps, kinds}
 use Rattle.rules.specs.Calls.{written}
-use Rattle.rules.specs.Schedules.{Making, mostMade}
+use Rattle.rules_schedule.specs.Schedules.{Making, mostMade}
 use Rattle.buffers.specs.Terms.{eventPut}
 use Rattle.buffers.specs.Laws.Records.{flatten-one}
 use Rattle.buffers.specs.Laws.Fronts.{length-written, event-written}

@@ -14,7 +14,7 @@ use Rattle.rules.specs.Tree.{kinds, mostSteps}
 use Rattle.rules.specs.Scheduling.{mostWorkers, workerAt, hasRun, waits, isRun, judgeEvent, nextRun, Worker, idleWorker, holdsStep}
 use Rattle.rules.specs.Scheduling.{steal}
 use Rattle.rules.specs.Calls.{eventCall}
-use Rattle.rules.specs.Schedules.{Making, write, turn, draw, named, drawn, robbable}
+use Rattle.rules_schedule.specs.Schedules.{Making, write, turn, draw, named, drawn, robbable}
 use Rattle.buffers.specs.Terms.{eventPut}
 use Rattle.policy.specs.declared.Setup.{Setup}
 use Rattle.tree.specs.declared.Phase.{Phase}

@@ -1,6 +1,6 @@
 -- `schedule_turn::draw::named` meets its contract: a number below 2 to the power 32 has a quotient below 16. Assumes nothing.
 use borrow.Author.Needs.{needs}
-use Rattle.rules.specs.Schedules.{named}
+use Rattle.rules_schedule.specs.Schedules.{named}
 use Rattle.schedule_turn.proofs.draw.named.Statement.{statement}
 use Rattle.schedule_turn.proofs.draw.named.Tie as tie
 

@@ -1,6 +1,6 @@
 -- `schedule_turn::draw::next_seed` meets its contract: a wrapping sum is the sum modulo 2 to the power 32. Assumes nothing.
 use borrow.Author.Needs.{needs}
-use Rattle.rules.specs.Schedules.{draw}
+use Rattle.rules_schedule.specs.Schedules.{draw}
 use Rattle.schedule_turn.proofs.draw.next_seed.Statement.{statement}
 use Rattle.schedule_turn.proofs.draw.next_seed.Tie as tie
 

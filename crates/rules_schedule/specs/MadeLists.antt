@@ -6,14 +6,14 @@ use mathlib.Core.Path.{_≡_, refl}
 use mathlib.Core.Bool.{true}
 use mathlib.Core.List.{List, [], _∷_, _++_, map, flatten}
 use lib.ListN.{length, replicate, take}
 use Rattle.rules.specs.Bytes.{records, count, accepted}
 use Rattle.rules.specs.Tree.{kinds}
 use Rattle.rules.specs.Scheduling.{workFirst, helpFirst}
 use Rattle.rules.specs.Calls.{recordWalk}
-use Rattle.rules.specs.Schedules.{draw, named, Making, begun, write, drawn, robbable, stealTurn, turn, round, rounds, made}
-use Rattle.rules.specs.Schedules.{mostMade, Scheduled, scheduleVerdict, scheduleOf, scheduleRefused, scheduleCall}
+use Rattle.rules_schedule.specs.Schedules.{draw, named, Making, begun, write, drawn, robbable, stealTurn, turn, round, rounds, made}
+use Rattle.rules_schedule.specs.Schedules.{mostMade, Scheduled, scheduleVerdict, scheduleOf, scheduleRefused, scheduleCall}
 use Rattle.rules.specs.Cases.{recording, ran, answerWith, bytes, ofKinds, S, oneEnd}
 use Rattle.rules.specs.NearMisses.{deepAsyncs, inside, flat, bad}
 
 -- ---- the seed
 
