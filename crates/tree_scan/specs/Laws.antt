@@ -6,6 +6,7 @@
 --     Balance   lists of kinds that end their open tasks exactly at their end
 --     Frames    an accepted tree: its length, shape, count of spawned tasks and open tasks
 --     Places    the task, the ordinal and the finish child before a step, from the opening step that it is a part of
+--     Openings  opening steps by sizes, induction from the root on, a step in its task
 pub mod Scans
 pub mod Steps
 pub mod Shape
@@ -13,3 +14,4 @@ pub mod Starts
 pub mod Balance
 pub mod Frames
 pub mod Places
+pub mod Openings

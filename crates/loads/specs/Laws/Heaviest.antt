@@ -2,26 +2,15 @@
 use Prim.Native.Nat.{ℕ, zero, suc, _+_, _≤_, _<_}
 use mathlib.Core.Path.{_≡_}
 use mathlib.Core.List.{List, [], _∷_}
-use native.Mathlib.Nat.{le-max-left, le-max-right, max-le}
 use native.Mathlib.Omega.{arith}
 use borrow.Author.Count.{below-more}
 use borrow.Author.Tests.{eq-eqb, ne-eqb}
 use lib.ListN.{length, getD}
 use Rattle.rules.specs.Scheduling.{mostWorkers}
 use Rattle.rules.specs.Traces.{largest, firstAt, heaviest}
+use Rattle.tree.specs.Laws.Largest.{largest-most, largest-least}
 
--- ---- the largest load, and where it stands first
-
-largest-most : (xs : List ℕ) (k : ℕ) → getD xs k 0 ≤ largest xs
-unfolding largest
-largest-most [] k = omega arith
-largest-most (x ∷ xs) zero = le-max-left x (largest xs)
-largest-most (x ∷ xs) (suc k) = omega (arith, le-max-right x (largest xs), largest-most xs k)
-
-largest-least : (xs : List ℕ) (m : ℕ) → ((k : ℕ) → k < length xs → getD xs k 0 ≤ m) → largest xs ≤ m
-unfolding largest
-largest-least [] m h = omega arith
-largest-least (x ∷ xs) m h = max-le (h 0 (omega arith)) (largest-least xs m (λ k l. h (suc k) (omega arith)))
+-- ---- where a load stands first
 
 first-stands : (x : ℕ) (xs : List ℕ) (i b : ℕ) → b < length xs → getD xs b 0 ≡ x → ((k : ℕ) → k < b → getD xs k 0 < x)
     → firstAt x i xs ≡ i + b

@@ -75,7 +75,7 @@ length-classes : (tree : List ℕ) → length (classes tree) ≡ length tree / 8
 unfolding classes
 length-classes tree = length-fields class tree
 
-length-weights : (tree : List ℕ) → length (weights tree) ≡ length tree / 8
+pub length-weights : (tree : List ℕ) → length (weights tree) ≡ length tree / 8
 unfolding weights
 length-weights tree = length-fields weight tree
 
