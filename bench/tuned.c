@@ -1,13 +1,14 @@
-// The baseline of the benchmarks: recording, replay, single events and the schedule maker, tuned by hand and proved by nothing.
-// It reads the same bytes as the library, refuses the same calls with the same numbers and positions, and writes the same
-// bytes. It is for little-endian machines only.
+// The baseline of the benchmarks: recording, replay, single events, the schedule maker, and work and span, tuned by hand and
+// proved by nothing. It reads the same bytes as the library, refuses the same calls with the same numbers and positions, and
+// writes the same bytes. It is for little-endian machines only.
 //
 // What makes it fast: one pass checks the tree and finds the continuations; neither that nor running a step branches on a
 // record's kind, which a processor cannot foresee. A step that was popped never waits, because steals take the oldest step
 // first: whatever stood above a finish continuation in its deque has run. A stolen one waits while some worker holds a step
 // of the finish child, because every phase with steps left in the child holds one of them. Such a phase does not leave the
 // child before it ends: so the maker looks again only then. Phases cover every step, so the class loads are the tree's own
-// weights by class, whatever the run was.
+// weights by class, whatever the run was. Work and span take one pass, which judges the tree too; it does branch on the kind,
+// since what it has to do for a step is shorter than any arithmetic in place of the branch.
 
 #include <stddef.h>
 #include <stdint.h>
@@ -63,6 +64,12 @@ struct outcome {
 
 struct scheduled {
     size_t number, position, events;
+};
+
+struct spanned {
+    size_t number, position;
+    uint64_t work, span;
+    size_t length;
 };
 
 // ---- The tree ----
@@ -782,4 +789,97 @@ struct replayed tuned_replay(const uint8_t *tree, size_t tree_length, uint8_t po
     answer.heaviest = heaviest(answer.loads);
     add_classes(tree, n, answer.loads, answer.class_loads);
     return answer;
+}
+
+// ---- Work and span ----
+
+// The end of a step: the time in the upper bits, and in the lower 16 the count of steps from this one on, which names the step.
+// So of equal times the earlier step's is the greater end. Step 0 starts with 0.
+enum { TIME = 16 };
+static const uint64_t STEP = (1 << TIME) - 1;
+
+// Refusals 2 to 5 of a tree that has one of them.
+__attribute__((noinline, cold)) static struct spanned refused_tree(const uint8_t *tree, size_t length)
+{
+    moves moves;
+    struct refusal refusal = read_records(tree, length, WORK_FIRST, moves, NULL);
+    return (struct spanned){.number = refusal.number, .position = refusal.position};
+}
+
+// Writes the chain that leads to this end, and gives its length. It is found from its last step on, so it has to be moved.
+static inline size_t put_chain(const uint8_t *tree, size_t n, const uint16_t *before, uint64_t last, uint8_t *chain)
+{
+    uint16_t steps[MOST_STEPS], *first = steps + MOST_STEPS;
+    size_t step = last & STEP;
+    // It ends with the last step that has a weight.
+    while (step != n && weight_of(record_at(tree, n - step)) == 0)
+        step = before[step];
+    for (; step != n; step = before[step])
+        *--first = n - step;
+    *--first = 0;
+    size_t length = steps + MOST_STEPS - first;
+    memcpy(chain, first, 2 * length);
+    return length;
+}
+
+// A step starts with one end: that of the step before it in its task, of the spawning step or, behind a finish child, the
+// greatest end of a task of that child and its async descendants. Of those that are equally late the chain to the earliest is the
+// one asked for: where two chains part, it goes into a child, and the other one passes by all steps of the child. So the chain
+// is known, backwards, from the end that each step starts with.
+struct spanned tuned_span(const uint8_t *tree, size_t tree_length, uint8_t *chain, size_t chain_length)
+{
+    size_t n = tree_length / TREE_RECORD;
+    if (tree_length == 0 || tree_length % TREE_RECORD != 0 || n > MOST_STEPS)
+        return refused_tree(tree, tree_length);
+    // For each step, by the steps from it on, the one whose end it starts with.
+    uint16_t before[MOST_STEPS + 1];
+    // For each open task, from the root on, what its end brings back: for an async child the end that its parent goes on with, for
+    // a finish child, which is the root too, the greatest end outside.
+    uint64_t kept[MOST_OPEN];
+    uint8_t kinds[MOST_OPEN];
+    size_t open = 1;
+    kept[0] = 0;
+    kinds[0] = FINISH;
+    // The end that the next step starts with, and the greatest of a task that the innermost finish child waits for.
+    uint64_t now = 0, greatest = 0, work = 0;
+    uint32_t bytes = 0;
+    for (size_t left = n; left > 0; left--) {
+        uint64_t record = record_at(tree, n - left), weight = weight_of(record);
+        uint32_t kind = record & 255;
+        bytes |= record;
+        work += weight;
+        before[left] = now;
+        uint64_t end = (now & ~STEP) + (weight << TIME | left);
+        if (kind == END) {
+            if (open == 0)
+                return refused_tree(tree, tree_length);
+            if (greatest < end)
+                greatest = end;
+            now = kept[--open];
+            if (kinds[open] == FINISH) {
+                uint64_t outside = now;
+                now = greatest;
+                greatest = outside;
+            }
+        } else {
+            // The first opening behind the root's end is refused as one too many.
+            if (kind - ASYNC > FINISH - ASYNC || open - 1 >= MOST_OPEN - 1)
+                return refused_tree(tree, tree_length);
+            now = end;
+            kinds[open] = kind;
+            if (kind == FINISH) {
+                kept[open] = greatest;
+                greatest = 0;
+            } else {
+                kept[open] = end;
+            }
+            open++;
+        }
+    }
+    // Bytes 1 to 3 of all records at once.
+    if (open != 0 || bytes >= 16 << 8)
+        return refused_tree(tree, tree_length);
+    if (chain_length < 2 * n)
+        return (struct spanned){.number = 7};
+    return (struct spanned){0, 0, work, now >> TIME, put_chain(tree, n, before, now, chain)};
 }

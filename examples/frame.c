@@ -151,5 +151,15 @@ int main(void)
     if (refused("recording", recorded.number, recorded.position))
         return 1;
     printf("\na schedule of %zu events, %s\n", schedule.events, recorded.finished ? "finished" : "not finished");
+
+    /* What more workers could gain: the frame lasts no less than its heaviest chain of steps. */
+    uint8_t chain[FRAME_CHAIN_BYTES(STEPS)];
+    FrameSpan spanned = frame_span(tree, sizeof tree, chain, sizeof chain);
+    if (refused("work and span", spanned.number, spanned.position))
+        return 1;
+    printf("\nwork %" PRIu64 ", span %" PRIu64 ", chain", spanned.work, spanned.span);
+    for (size_t i = 0; i < spanned.length; i++)
+        printf(" %zu", two_bytes(chain + 2 * i));
+    printf("\n");
     return 0;
 }

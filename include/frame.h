@@ -1,6 +1,7 @@
 /* The C interface of the library, for C11 and C++11 or later on x86-64 Linux: a run event by event, recording and replay, the
- * schedule maker, and at the end the questions about a tree. Link libframe.a, which bin/library makes; it needs memcpy and memset
- * alone. docs/FORMAT.md has the formats of tree, events, trace, log and run list, and the rules; examples/frame.c is an example.
+ * schedule maker, work and span, and at the end the questions about a tree. Link libframe.a, which bin/library makes; it needs
+ * memcpy and memset alone. docs/FORMAT.md has the formats of tree, events, trace, log, run list and chain, and the rules;
+ * examples/frame.c is an example.
  *
  * What holds of every call:
  * - Any bytes and any numbers are safe. A call answers or refuses, and always ends.
@@ -25,7 +26,7 @@ extern "C" {
 
 /* Rises with each change of this header that a caller can see; docs/FORMAT.md lists them. 1 was the header without a version and
  * without a worker count. */
-#define FRAME_VERSION 4
+#define FRAME_VERSION 5
 
 /* Limits. */
 #define FRAME_MOST_STEPS 4095   /* of a tree, which has a record for each */
@@ -38,12 +39,13 @@ extern "C" {
 
 /* The bytes of a tree of n steps and of buffers to lend for it, as lengths of arrays: uint8_t trace[FRAME_TRACE_BYTES(n)]. Record
  * asks for 2 (n - 1) bytes of trace, which is none for one step. C has no array of none, so FRAME_TRACE_BYTES is one more: only a
- * short buffer is refused. A schedule has at most n + (n - 1) / 2 events of 2 bytes each. */
+ * short buffer is refused. A schedule has at most n + (n - 1) / 2 events of 2 bytes each, a chain at most n steps of 2. */
 #define FRAME_TREE_BYTES(n) (8u * (n))
 #define FRAME_LOG_BYTES(n) (4u * (n))
 #define FRAME_TRACE_BYTES(n) (2u * ((n) - 1u) + 1u)
 #define FRAME_LIST_BYTES(n) (4u * (n))
 #define FRAME_EVENTS_BYTES(n) (3u * (n) - 1u)
+#define FRAME_CHAIN_BYTES(n) (2u * (n))
 
 /* The kind of a tree's record. */
 enum {
@@ -68,7 +70,7 @@ typedef enum FrameRefusal {
     FRAME_REFUSED_OPEN_TASKS = 4,    /* a tree record opens a task while 64 are open */
     FRAME_REFUSED_ROOT = 5,          /* a record follows the root's end; or the root is still open at the end */
     FRAME_REFUSED_INPUT_LENGTH = 6,  /* the events or the trace are not whole records or too many */
-    FRAME_REFUSED_OUTPUT_LENGTH = 7, /* a lent output is short: 4 n bytes for log or run list, 2 (n - 1) for a trace, 3 n - 1 for events */
+    FRAME_REFUSED_OUTPUT_LENGTH = 7, /* a lent output is short: log or run list 4 n bytes, trace 2 (n - 1), events 3 n - 1, chain 2 n */
     FRAME_REFUSED_WORKER = 8,        /* a record names a worker at or above the run's count */
     FRAME_REFUSED_IDLE = 9,          /* a run event names an idle worker */
     FRAME_REFUSED_WAITS = 10,        /* a run event names a worker that waits */
@@ -161,6 +163,14 @@ typedef struct FrameSchedule {
     size_t events; /* count of events, of 2 bytes each */
 } FrameSchedule;
 
+typedef struct FrameSpan {
+    size_t number;
+    size_t position;
+    uint64_t work; /* what all steps weigh */
+    uint64_t span; /* what the heaviest chain weighs: with workers enough, the frame lasts no less */
+    size_t length; /* count of the chain's steps */
+} FrameSpan;
+
 /* Begins a run of so many workers, 1 to FRAME_WORKERS: worker 0 holds step 0, the others are idle. The state keeps the count for
  * its events. Refuses with 1, 16 and 2 to 5; the state is all 0 then. */
 FrameStart frame_start(const uint8_t *tree, size_t tree_len, uint8_t policy, uint8_t workers);
@@ -197,6 +207,12 @@ FrameReplay frame_replay(const uint8_t *tree, size_t tree_len, uint8_t policy, u
  * events of them, by the rule of docs/FORMAT.md. Another seed may give another list. Refuses with 1, 16, 2 to 5 and 7. */
 FrameSchedule frame_schedule(const uint8_t *tree, size_t tree_len, uint8_t policy, uint8_t workers, uint32_t seed,
                              uint8_t *events, size_t events_len);
+
+/* Work and span of a tree, whatever the policy and the workers, and one chain of steps that weighs the span, each of which must
+ * precede the next; no chain weighs more. Of those that weigh as much it is the first in the order of docs/FORMAT.md. Its steps
+ * stand at the front of the buffer, 2 bytes each, lowest first; the bytes beyond keep what they held. chain_len must be at least
+ * FRAME_CHAIN_BYTES(n), however short the chain. Refuses with 2 to 5 and 7. */
+FrameSpan frame_span(const uint8_t *tree, size_t tree_len, uint8_t *chain, size_t chain_len);
 
 /* Questions about a tree. frame_tree says whether it is one. The others refuse nothing and read the tree again at each call; where
  * frame_tree refuses it, or it has no such step, their answers mean nothing beyond what is said below. */

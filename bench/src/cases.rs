@@ -1,6 +1,6 @@
 //! The trees and the schedules that are measured.
 
-use frame_tests::random::{accepted_bytes, drive, set_classes, tree_of_kinds, Classes, Plan, Rng};
+use frame_tests::random::{accepted_bytes, drive, set_classes, set_weights, tree_of_kinds, Classes, Plan, Rng, Weights};
 use frame_tests::record::MAX_EVENTS;
 use frame_tests::tree::{CLASSES, MAX_OPEN, TREE_RECORD};
 use frame_tests::{Run, Tree};
@@ -18,6 +18,8 @@ const RANDOM: Shape = ("random", random);
 pub const WAITING_SHAPES: [Shape; 2] = [PILE, ("nested", nested)];
 pub const PILE: Shape = ("pile", pile);
 pub const WAYS: [Way; 2] = [("by step", by_step), ("by task", by_task)];
+/// What the steps weigh where that counts.
+pub const WEIGHTS: [Way; 2] = [("any", any_weights), ("sparse", sparse_weights)];
 
 /// A case has so many inputs, which take turns: a processor foresees the branches of a single one that is repeated.
 pub const SEEDS: std::ops::Range<u64> = 1..9;
@@ -31,7 +33,7 @@ const STEALS: usize = 30;
 pub type Shape = (&'static str, fn(&mut Kinds, &mut Rng));
 
 pub const ASYNC: u8 = 1;
-const FINISH: u8 = 2;
+pub const FINISH: u8 = 2;
 const END: u8 = 3;
 
 /// The kinds of a tree's records so far, and how many tasks are to be spawned yet.
@@ -143,9 +145,16 @@ pub fn tree((_, build): Shape, n: usize, seed: u64) -> Vec<u8> {
     bytes
 }
 
-// ---- Classes ----
+/// The same where all children are of this kind.
+pub fn tree_of_one_kind(shape: Shape, n: usize, seed: u64, kind: u8) -> Vec<u8> {
+    let mut bytes = tree(shape, n, seed);
+    bytes.chunks_exact_mut(TREE_RECORD).filter(|record| record[0] != END).for_each(|record| record[0] = kind);
+    bytes
+}
 
-/// A name, and what gives the steps of a tree their classes.
+// ---- Classes and weights ----
+
+/// A name, and what gives the steps of a tree their classes or their weights.
 pub type Way = (&'static str, fn(&mut [u8], &mut Rng));
 
 /// Each step has any class.
@@ -171,6 +180,24 @@ pub fn tree_with_classes((_, give): Way, seed: u64) -> Vec<u8> {
     let mut bytes = tree(RANDOM, LARGEST, seed);
     give(&mut bytes, &mut Rng::new(!seed));
     bytes
+}
+
+/// Each step has any weight.
+fn any_weights(tree: &mut [u8], rng: &mut Rng) {
+    for record in tree.chunks_exact_mut(TREE_RECORD) {
+        record[4..].copy_from_slice(&(rng.next() as u32).to_le_bytes());
+    }
+}
+
+/// Nine of ten steps have no weight and the others 1 or 2, so that many chains weigh the same.
+fn sparse_weights(tree: &mut [u8], rng: &mut Rng) {
+    set_weights(rng, tree, Weights::Sparse);
+}
+
+/// The tree with weights.
+pub fn weighed((_, give): Way, mut tree: Vec<u8>, seed: u64) -> Vec<u8> {
+    give(&mut tree, &mut Rng::new(!seed));
+    tree
 }
 
 // ---- Schedules ----

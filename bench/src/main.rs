@@ -1,9 +1,11 @@
 //! Prints the tables of the benchmarks. `bench/run` builds all that they need and runs this; its words go here:
 //!
-//! - `record`, `replay`, `event`, `schedule`, `waiting`: only these tables
+//! - `record`, `replay`, `event`, `schedule`, `waiting`, `span`: only these tables
 //! - `--instructions`, alone or before such words: instructions of calls on the largest trees in place of times
-//! - `--call WHAT CONTESTANT SHAPE POLICY WORKERS`, `--call poll CONTESTANT SITUATION POLICY`: makes one such call
+//! - `--call WHAT CONTESTANT SHAPE POLICY WORKERS`, `--call poll CONTESTANT SITUATION POLICY`,
+//!   `--call span CONTESTANT SHAPE WEIGHTS`: makes one such call
 
+mod span;
 mod waiting;
 
 use std::hint::black_box;
@@ -43,6 +45,11 @@ impl Row {
         let inputs = SEEDS.count();
         Row { shape, n, policy, workers, units: units / inputs, steals: steals / inputs }
     }
+
+    fn label(&self) -> String {
+        let Row { shape, n, policy, workers, units, steals } = self;
+        format!("{shape:9}{n:>5}  {policy:10}{workers:>8}{units:>8}{steals:>8}")
+    }
 }
 
 /// The columns after the first, the tuned baseline, which all ratios of the library are taken to. The last is the simulator.
@@ -55,8 +62,14 @@ struct Table<const N: usize> {
 impl<const N: usize> Table<N> {
     /// Prints the heading. `units` is what a number is divided by.
     fn new(what: &str, units: &str, columns: [&'static str; N]) -> Table<N> {
-        println!("{what}, by {units}");
-        print!("{:9}{:>5}  {:10}{:>8}{units:>8}{:>8}", "shape", "n", "policy", "workers", "steals");
+        let label = format!("{:9}{:>5}  {:10}{:>8}{units:>8}{:>8}", "shape", "n", "policy", "workers", "steals");
+        Table::labelled(&format!("{what}, by {units}"), &label, columns)
+    }
+
+    /// The same where other things tell the cases apart. A label has 50 letters.
+    fn labelled(what: &str, label: &str, columns: [&'static str; N]) -> Table<N> {
+        println!("{what}");
+        print!("{label}");
         Table::<N>::headings(&columns);
         Table { columns, sizes: Vec::new() }
     }
@@ -75,9 +88,13 @@ impl<const N: usize> Table<N> {
 
     /// Prints a case's line.
     fn line(&mut self, row: &Row, times: [f64; N]) {
-        self.print(row, times);
-        if self.sizes.last().is_none_or(|(n, _)| *n != row.n) {
-            self.sizes.push((row.n, [const { Vec::new() }; N]));
+        self.labelled_line(row.n, &row.label(), times);
+    }
+
+    fn labelled_line(&mut self, n: usize, label: &str, times: [f64; N]) {
+        self.print_labelled(label, times);
+        if self.sizes.last().is_none_or(|(size, _)| *size != n) {
+            self.sizes.push((n, [const { Vec::new() }; N]));
         }
         let (_, size) = self.sizes.last_mut().expect("a size was pushed");
         size.iter_mut().zip(times).for_each(|(times, time)| times.push(time));
@@ -85,8 +102,11 @@ impl<const N: usize> Table<N> {
 
     /// The line alone: the case does not count in the means.
     fn print(&self, row: &Row, times: [f64; N]) {
-        let Row { shape, n, policy, workers, units, steals } = row;
-        print!("{shape:9}{n:>5}  {policy:10}{workers:>8}{units:>8}{steals:>8}");
+        self.print_labelled(&row.label(), times);
+    }
+
+    fn print_labelled(&self, label: &str, times: [f64; N]) {
+        print!("{label}");
         times.iter().for_each(|time| print!("{time:>11.2}"));
         let ratios = Table::ratios(&times.map(|time| vec![time]));
         ratios.iter().for_each(|ratio| print!("{:>20.2}", ratio[0]));
@@ -102,8 +122,8 @@ impl<const N: usize> Table<N> {
             print!("{n:>50}");
             times.iter().for_each(|times| print!("{:>11.2}", geometric_mean(times)));
             for ratio in Table::ratios(times) {
-                let range = format!("({:.1}..{:.1})", least(&ratio), most(&ratio));
-                print!("{:>20}", format!("{:.2} {range}", geometric_mean(&ratio)));
+                let range = format!("({}..{})", rounded(least(&ratio), 1), rounded(most(&ratio), 1));
+                print!("{:>20}", format!("{} {range}", rounded(geometric_mean(&ratio), 2)));
             }
             println!();
         }
@@ -119,8 +139,46 @@ impl<const N: usize> Table<N> {
     }
 }
 
+/// With so many places, or none where the number is long.
+fn rounded(number: f64, places: usize) -> String {
+    let places = if number < 1_000.0 { places } else { 0 };
+    format!("{number:.places$}")
+}
+
 /// The columns where the library has one.
 const CONTESTANTS: [&str; 3] = ["tuned", "library", "simulator"];
+
+/// The sizes between which growth is taken.
+const GROWTH: [usize; 2] = [COUNTS[1], LARGEST];
+
+/// The times of cases of both sizes, by contestant.
+struct Growth {
+    sizes: [[Vec<f64>; CONTESTANTS.len()]; GROWTH.len()],
+}
+
+impl Growth {
+    fn new() -> Growth {
+        Growth { sizes: GROWTH.map(|_| [const { Vec::new() }; CONTESTANTS.len()]) }
+    }
+
+    /// A case of another size does not count.
+    fn add(&mut self, n: usize, times: [f64; CONTESTANTS.len()]) {
+        if let Some(size) = GROWTH.iter().position(|&size| size == n) {
+            self.sizes[size].iter_mut().zip(times).for_each(|(times, time)| times.push(time));
+        }
+    }
+
+    /// Prints the means, and the most of a case.
+    fn print(&self, what: &str) {
+        let [first, last] = &self.sizes;
+        let growth: Vec<_> = last.iter().zip(first).map(|(last, first)| divided(last, first)).collect();
+        print!("{:>50}", format!("growth from {} to {} {what}", GROWTH[0], GROWTH[1]));
+        growth.iter().for_each(|growth| print!("{:>11.2}", geometric_mean(growth)));
+        print!("\n{:>50}", "the most of a case");
+        growth.iter().for_each(|growth| print!("{:>11.2}", most(growth)));
+        println!();
+    }
+}
 
 /// The times of calls on inputs that have so many units in all.
 fn times_of<I, A, const N: usize>(inputs: &mut [I], units: usize, calls: [fn(&mut I) -> A; N]) -> [f64; N] {
@@ -431,28 +489,21 @@ impl ScheduleCase {
     }
 }
 
-/// The sizes between which the growth in flat trees is taken: there most draws meet an empty deque, which must not be scanned.
-const GROWTH: [usize; 2] = [COUNTS[1], LARGEST];
-
 fn schedule_table() {
     let mut table = Table::new("schedule, ns", "events", CONTESTANTS);
-    let mut flat = GROWTH.map(|_| [const { Vec::new() }; CONTESTANTS.len()]);
+    // There most draws meet an empty deque, which must not be scanned.
+    let mut flat = Growth::new();
     for_each_case(|shape, n, (policy, byte), workers| {
         let case = |seed| ScheduleCase::new(tree(shape, n, seed), byte, workers, seed);
         let (units, steals, times) = ScheduleCase::times(&mut SEEDS.map(case).collect::<Vec<_>>());
         table.line(&Row::new(shape.0, n, policy, workers, units, steals), times);
-        if let (("flat", _), Some(size)) = (shape, GROWTH.iter().position(|&size| size == n)) {
-            flat[size].iter_mut().zip(times).for_each(|(times, time)| times.push(time));
+        if shape.0 == "flat" {
+            flat.add(n, times);
         }
     });
     table.summary();
-    let [first, last] = &flat;
-    let growth: Vec<_> = last.iter().zip(first).map(|(last, first)| divided(last, first)).collect();
-    print!("{:>50}", format!("growth from {} to {} in flat trees", GROWTH[0], GROWTH[1]));
-    growth.iter().for_each(|growth| print!("{:>11.2}", geometric_mean(growth)));
-    print!("\n{:>50}", "the most of a case");
-    growth.iter().for_each(|growth| print!("{:>11.2}", most(growth)));
-    println!("\n");
+    flat.print("in flat trees");
+    println!();
 }
 
 // ---- All cases ----
@@ -582,19 +633,21 @@ fn print_tables(tables: &[(&str, fn())], words: &[&str]) {
     }
 }
 
-const TIMES: [(&str, fn()); 5] = [
+const TIMES: [(&str, fn()); 6] = [
     ("record", record_table),
     ("replay", replay_table),
     ("event", event_table),
     ("schedule", schedule_table),
     ("waiting", waiting::tables),
+    ("span", span::table),
 ];
 
-const INSTRUCTIONS: [(&str, fn()); 4] = [
+const INSTRUCTIONS: [(&str, fn()); 5] = [
     ("record", || instructions_table("record")),
     ("replay", || instructions_table("replay")),
     ("schedule", || instructions_table("schedule")),
     ("waiting", waiting::instructions_tables),
+    ("span", span::instructions_table),
 ];
 
 fn main() {
@@ -602,6 +655,7 @@ fn main() {
     let words: Vec<&str> = words.iter().map(String::as_str).collect();
     match words[..] {
         ["--call", "poll", ref words @ ..] => waiting::make_poll(words),
+        ["--call", "span", ref words @ ..] => span::make_call(words),
         ["--call", ref words @ ..] => make_call(words),
         ["--instructions", ref words @ ..] => print_tables(&INSTRUCTIONS, words),
         _ => print_tables(&TIMES, &words),

@@ -1,6 +1,6 @@
 //! The baseline of `tuned.c`: all declarations, and safe calls.
 
-use crate::library::{FrameOutcome, FrameRecord, FrameReplay, FrameSchedule};
+use crate::library::{FrameOutcome, FrameRecord, FrameReplay, FrameSchedule, FrameSpan};
 
 #[repr(C)]
 #[derive(Clone, Copy, Debug, PartialEq, Eq)]
@@ -10,7 +10,7 @@ pub struct Refusal {
 }
 
 mod c {
-    use super::{FrameOutcome, FrameRecord, FrameReplay, FrameSchedule, Refusal};
+    use super::{FrameOutcome, FrameRecord, FrameReplay, FrameSchedule, FrameSpan, Refusal};
 
     extern "C" {
         pub fn tuned_record(
@@ -44,6 +44,7 @@ mod c {
             events: *mut u8,
             events_len: usize,
         ) -> FrameSchedule;
+        pub fn tuned_span(tree: *const u8, tree_len: usize, chain: *mut u8, chain_len: usize) -> FrameSpan;
         pub fn tuned_state_bytes() -> usize;
         pub fn tuned_start(state: *mut u64, tree: *const u8, tree_len: usize, policy: u8, workers: u8) -> Refusal;
         pub fn tuned_restart(state: *mut u64);
@@ -85,6 +86,10 @@ pub fn replay(tree: &[u8], policy: u8, workers: u8, trace: &[u8], list: &mut [u8
 
 pub fn schedule(tree: &[u8], policy: u8, workers: u8, seed: u32, events: &mut [u8]) -> FrameSchedule {
     unsafe { c::tuned_schedule(tree.as_ptr(), tree.len(), policy, workers, seed, events.as_mut_ptr(), events.len()) }
+}
+
+pub fn span(tree: &[u8], chain: &mut [u8]) -> FrameSpan {
+    unsafe { c::tuned_span(tree.as_ptr(), tree.len(), chain.as_mut_ptr(), chain.len()) }
 }
 
 /// A run by single events, with the tree that it began with.

@@ -1,14 +1,17 @@
-//! The tuned baseline against the simulator, so that what the benchmarks compare with does the same work.
+//! The tuned baseline against the simulator, so that what the benchmarks compare with does the same work. Where the simulator takes
+//! long, the baseline is held against the library.
 
-use frame_bench::library::{FrameRecord, FrameReplay, FrameSchedule};
+use frame_bench::library::{self, FrameRecord, FrameReplay, FrameSchedule, FrameSpan};
 use frame_bench::live::expected;
 use frame_bench::tuned;
 use frame_tests::random::{
-    self, any_count, any_event, any_seed, events_to_record, nearest_count, robbed_in_turn, trace_to_replay, Rng,
+    self, any_count, any_event, any_seed, events_to_record, nearest_count, robbed_in_turn, trace_to_replay, Rng, Weights,
 };
 use frame_tests::record::{record, EVENT_BYTES};
 use frame_tests::replay::{replay, MAX_TRACE};
 use frame_tests::schedule::{most_events, schedule};
+use frame_tests::span::{span, CHAIN_BYTES};
+use frame_tests::tree::TREE_RECORD;
 use frame_tests::{Policy, Run, Tree};
 
 /// How many random calls a test makes; `BENCH_CHECKS` asks for another count.
@@ -130,10 +133,12 @@ fn every_byte_of_a_record() {
                 let recorded = tuned::record(&tree, policy, 16, &[], &mut [0; 28], &mut [0; 12]);
                 let replayed = tuned::replay(&tree, policy, 16, &[], &mut [0; 28]);
                 let made = tuned::schedule(&tree, policy, 16, 0, &mut [0; 20]);
+                let spanned = tuned::span(&tree, &mut [0; 14]);
                 let started = tuned::Run::start(&tree, policy, 16).map_or_else(|no| (no.number, no.position), |_| (0, 0));
                 assert_eq!((recorded.number, recorded.position), want, "byte {at} is {value}");
                 assert_eq!((replayed.number, replayed.position), want, "byte {at} is {value}");
                 assert_eq!((made.number, made.position), want, "byte {at} is {value}");
+                assert_eq!((spanned.number, spanned.position), want, "byte {at} is {value}");
                 assert_eq!(started, want, "byte {at} is {value}");
                 refusals[want.0] += 1;
             }
@@ -197,6 +202,73 @@ fn making_schedules() {
         refusals[answer.number] += 1;
     }
     assert!([0, 1, 2, 3, 4, 5, 7, 16].iter().all(|&number| refusals[number] > 0), "numbers seen: {refusals:?}");
+}
+
+/// A tree with weights, often such that many chains weigh the same, sometimes a damaged tree.
+fn weighed_tree(rng: &mut Rng) -> Vec<u8> {
+    let most = rng.pick(&[3, 20, 20, 100, 100, 2_047]);
+    let tasks = rng.between(0, most);
+    match rng.below(10) {
+        0 => {
+            let mut tree = random::damaged_tree(rng, tasks);
+            random::set_weights(rng, &mut tree, Weights::Tied);
+            tree
+        }
+        1 | 2 => {
+            let mut tree = random::finish_tree(rng, tasks);
+            let weights = rng.pick(&random::WEIGHTS);
+            random::set_weights(rng, &mut tree, weights);
+            tree
+        }
+        _ => random::weighed_tree(rng, tasks),
+    }
+}
+
+/// How many steps a tree has at most for which the simulator is asked.
+const SIMULATED: usize = 401;
+
+#[test]
+fn work_and_span() {
+    let (mut refusals, mut with_zero, mut simulated) = ([0; 17], 0, 0);
+    for seed in 0..checks() {
+        let rng = &mut Rng::new(seed);
+        let tree = weighed_tree(rng);
+        let chain = buffer(rng, CHAIN_BYTES * (tree.len() / TREE_RECORD));
+        let (mut got, mut want) = (chain.clone(), chain.clone());
+        let answer = tuned::span(&tree, &mut got);
+        assert_eq!(answer, library::span(&tree, &mut want), "seed {seed}");
+        assert!(got == want, "seed {seed}: the chain");
+        if tree.len() <= TREE_RECORD * SIMULATED {
+            want = chain;
+            assert_eq!(answer, span(&tree, &mut want).into(), "seed {seed}");
+            assert!(got == want, "seed {seed}: the chain");
+            simulated += 1;
+        }
+        refusals[answer.number] += 1;
+        let steps = got[..CHAIN_BYTES * answer.length].chunks(CHAIN_BYTES).map(|step| u16::from_le_bytes([step[0], step[1]]));
+        with_zero += usize::from(steps.into_iter().any(|step| tree[TREE_RECORD * usize::from(step) + 4..][..4] == [0; 4]));
+    }
+    assert!(with_zero > 0 && simulated > 0, "with a step of no weight: {with_zero}, simulated: {simulated}");
+    assert!([0, 2, 3, 4, 5, 7].iter().all(|&number| refusals[number] > 0), "numbers seen: {refusals:?}");
+}
+
+/// All trees of up to seven steps with all weights up to 2.
+#[test]
+fn work_and_span_of_small_trees() {
+    for mut tree in (0..=3).flat_map(random::all_trees) {
+        let n = tree.len() / TREE_RECORD;
+        for weights in 0..3_usize.pow(n as u32) {
+            let mut left = weights;
+            for record in tree.chunks_mut(TREE_RECORD) {
+                record[4] = (left % 3) as u8;
+                left /= 3;
+            }
+            let (mut got, mut want) = ([255; 14], [255; 14]);
+            let expected: FrameSpan = span(&tree, &mut want).into();
+            assert_eq!(tuned::span(&tree, &mut got), expected, "{tree:?}");
+            assert_eq!(got, want, "{tree:?}");
+        }
+    }
 }
 
 /// Single events, refused ones among them, each with the answer of the simulator.

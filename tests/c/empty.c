@@ -27,6 +27,7 @@ int main(void)
     EXPECT(frame_record(NULL, 0, FRAME_WORK_FIRST, 1, NULL, 0, NULL, 0, NULL, 0).number == FRAME_REFUSED_TREE_LENGTH);
     EXPECT(frame_replay(NULL, 0, FRAME_WORK_FIRST, 1, NULL, 0, NULL, 0).number == FRAME_REFUSED_TREE_LENGTH);
     EXPECT(frame_schedule(NULL, 0, FRAME_WORK_FIRST, 1, 0, NULL, 0).number == FRAME_REFUSED_TREE_LENGTH);
+    EXPECT(frame_span(NULL, 0, NULL, 0).number == FRAME_REFUSED_TREE_LENGTH);
     EXPECT(frame_kind(NULL, 0, 0) == 0 && frame_class(NULL, 0, 0) == 0);
     EXPECT(frame_weight(NULL, 0, 0) == 0 && frame_cont(NULL, 0, 0) == 0);
     EXPECT(frame_task(NULL, 0, 0).first == 0 && frame_finish_before(NULL, 0, 0) == 0);
@@ -51,5 +52,6 @@ int main(void)
     replayed = frame_replay(one, sizeof one, FRAME_HELP_FIRST, 1, NULL, 0, NULL, 0);
     EXPECT(replayed.number == FRAME_REFUSED_OUTPUT_LENGTH);
     EXPECT(frame_schedule(one, sizeof one, FRAME_HELP_FIRST, 1, 0, NULL, 0).number == FRAME_REFUSED_OUTPUT_LENGTH);
+    EXPECT(frame_span(one, sizeof one, NULL, 0).number == FRAME_REFUSED_OUTPUT_LENGTH);
     return failures > 0;
 }

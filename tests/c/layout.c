@@ -57,6 +57,12 @@ static void types(void)
     FIELD(FrameSchedule, number);
     FIELD(FrameSchedule, position);
     FIELD(FrameSchedule, events);
+    TYPE(FrameSpan);
+    FIELD(FrameSpan, number);
+    FIELD(FrameSpan, position);
+    FIELD(FrameSpan, work);
+    FIELD(FrameSpan, span);
+    FIELD(FrameSpan, length);
     TYPE(FrameTree);
     FIELD(FrameTree, number);
     FIELD(FrameTree, position);
@@ -85,12 +91,14 @@ static void constants(void)
     NUMBER(FRAME_TRACE_BYTES(4095));
     NUMBER(FRAME_LIST_BYTES(4095));
     NUMBER(FRAME_EVENTS_BYTES(4095));
+    NUMBER(FRAME_CHAIN_BYTES(4095));
     NUMBER(FRAME_TRACE_BYTES(1));
     NUMBER(FRAME_TREE_BYTES(1|2));
     NUMBER(FRAME_LOG_BYTES(1|2));
     NUMBER(FRAME_TRACE_BYTES(1|2));
     NUMBER(FRAME_LIST_BYTES(1|2));
     NUMBER(FRAME_EVENTS_BYTES(1|2));
+    NUMBER(FRAME_CHAIN_BYTES(1|2));
     NUMBER(FRAME_ASYNC);
     NUMBER(FRAME_FINISH);
     NUMBER(FRAME_END);

@@ -22,6 +22,7 @@ int main(void)
     static const uint8_t events[2] = { 0, 0 };
     uint8_t log[FRAME_LOG_BYTES(1)] = { 7, 7, 7, 7 }, trace[FRAME_TRACE_BYTES(1)] = { 7 };
     uint8_t list[FRAME_LIST_BYTES(1)] = { 7, 7, 7, 7 }, made[FRAME_EVENTS_BYTES(1)] = { 7, 7 };
+    uint8_t chain[FRAME_CHAIN_BYTES(1)] = { 7, 7 };
 
     for (uint8_t policy = FRAME_WORK_FIRST; policy <= FRAME_HELP_FIRST; policy++) {
         FrameRecord recorded = frame_record(tree, sizeof tree, policy, 1, events, sizeof events, log, sizeof log, trace,
@@ -39,5 +40,8 @@ int main(void)
         FrameSchedule schedule = frame_schedule(tree, sizeof tree, policy, FRAME_WORKERS, 9, made, sizeof made);
         EXPECT(schedule.number == FRAME_ACCEPTED && schedule.events == 1 && made[0] == 0 && made[1] == 0);
     }
+    FrameSpan spanned = frame_span(tree, sizeof tree, chain, sizeof chain);
+    EXPECT(spanned.number == FRAME_ACCEPTED && spanned.work == 9 && spanned.span == 9);
+    EXPECT(spanned.length == 1 && chain[0] == 0 && chain[1] == 0);
     return failures > 0;
 }

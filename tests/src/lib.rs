@@ -1,9 +1,10 @@
 //! A plain reference simulator of document 01, with a worker count for each
-//! run, the schedule maker, a class for each step and the step that a worker
-//! waits for as document 02 has them: reading a task tree, running it under
-//! scheduler events, recording, replaying, making schedules, and the listing
-//! program. It is written from these two documents alone and shares no code
-//! with the library it is meant to test.
+//! run, the schedule maker, a class for each step, the step that a worker waits
+//! for, and work and span as document 02 has them: reading a task tree, running
+//! it under scheduler events, recording, replaying, making schedules, finding
+//! the heaviest chain of steps, and the listing program. It is written from
+//! these two documents alone and shares no code with the library it is meant to
+//! test.
 
 pub mod cover;
 pub mod phases;
@@ -12,10 +13,12 @@ pub mod record;
 pub mod replay;
 pub mod run;
 pub mod schedule;
+pub mod span;
 pub mod tree;
 
 pub use record::{record, RecordAnswer};
 pub use replay::{replay, ReplayAnswer};
 pub use run::{Policy, Run};
 pub use schedule::{schedule, ScheduleAnswer};
+pub use span::{span, SpanAnswer};
 pub use tree::{Refusal, Tree};

@@ -113,7 +113,24 @@ pub enum Weights {
     Max,
     Small,
     Mixed,
+    /// 0 to 2, so that many chains weigh the same.
+    Tied,
+    /// 0 for nearly all steps.
+    Sparse,
+    /// The greatest or a few less.
+    NearMax,
 }
+
+pub const WEIGHTS: [Weights; 8] = [
+    Weights::One,
+    Weights::Zero,
+    Weights::Max,
+    Weights::Small,
+    Weights::Mixed,
+    Weights::Tied,
+    Weights::Sparse,
+    Weights::NearMax,
+];
 
 /// How the classes are chosen.
 #[derive(Clone, Copy, Debug, PartialEq, Eq)]
@@ -153,6 +170,12 @@ pub fn pile(child: &[u8]) -> Vec<u8> {
     [&tree_record(2, 1), child, &tree_record(3, 1)].concat()
 }
 
+/// The tree of these kinds with these weights, all classes 0.
+pub fn tree_of_weights(kinds: &[u8], weights: &[u32]) -> Vec<u8> {
+    assert_eq!(kinds.len(), weights.len());
+    kinds.iter().zip(weights).flat_map(|(&kind, &weight)| tree_record(kind, weight)).collect()
+}
+
 /// A tree of so many finish children, one in the other; all weights 1.
 pub fn nested_finishes(depth: usize) -> Vec<u8> {
     tree_of_kinds(&[vec![2; depth], vec![3; depth + 1]].concat())
@@ -170,6 +193,17 @@ fn weight(rng: &mut Rng, weights: Weights) -> u32 {
             2 => rng.below(10) as u32,
             _ => rng.next() as u32,
         },
+        Weights::Tied => rng.below(3) as u32,
+        Weights::Sparse if rng.percent(90) => 0,
+        Weights::Sparse => rng.between(1, 2) as u32,
+        Weights::NearMax => u32::MAX - rng.below(3) as u32,
+    }
+}
+
+/// Gives each whole record a weight.
+pub fn set_weights(rng: &mut Rng, tree: &mut [u8], weights: Weights) {
+    for record in tree.chunks_exact_mut(TREE_RECORD) {
+        record[4..].copy_from_slice(&weight(rng, weights).to_le_bytes());
     }
 }
 
@@ -308,6 +342,15 @@ pub fn tree(rng: &mut Rng, tasks: usize) -> Vec<u8> {
         Weights::Mixed,
         Weights::Mixed,
     ]);
+    tree_with(rng, shape, tasks, finish, weights)
+}
+
+/// An accepted tree of any shape with so many spawned tasks, and with weights of
+/// any kind, often such that many chains weigh the same.
+pub fn weighed_tree(rng: &mut Rng, tasks: usize) -> Vec<u8> {
+    let shape = rng.pick(&SHAPES);
+    let finish = rng.pick(&[0, 20, 50, 80, 100]);
+    let weights = if rng.percent(40) { Weights::Tied } else { rng.pick(&WEIGHTS) };
     tree_with(rng, shape, tasks, finish, weights)
 }
 

@@ -1,5 +1,6 @@
 //! The examples of document 01, and worked cases of a run's own worker count,
-//! of the schedule maker, of the classes and of the awaited step.
+//! of the schedule maker, of the classes, of the awaited step, and of work and
+//! span.
 
 #[path = "library/awaited.rs"]
 mod awaited;
@@ -9,12 +10,15 @@ mod classes;
 mod counts;
 #[path = "library/schedules.rs"]
 mod schedules;
+#[path = "library/spans.rs"]
+mod spans;
 
-use frame_tests::random::tree_of_kinds;
+use frame_tests::random::{tree_of_kinds, tree_of_weights};
 use frame_tests::record::{record, record_to_vecs, RecordAnswer};
 use frame_tests::replay::{replay, replay_to_vecs, ReplayAnswer};
 use frame_tests::run::Run;
 use frame_tests::schedule::{schedule, Maker, ScheduleAnswer};
+use frame_tests::span::{all_before, ends, links, span, SpanAnswer, Steps};
 use frame_tests::tree::{Kind, TaskKind, Tree};
 
 /// Tree S.
@@ -351,16 +355,34 @@ fn worked_cases_of_the_maker() {
     }
 }
 
+/// The lines that stand further in under a heading of docs/FORMAT.md.
+fn shown_by_the_format(heading: &str) -> Vec<String> {
+    let page = concat!(env!("CARGO_MANIFEST_DIR"), "/../docs/FORMAT.md");
+    let page = std::fs::read_to_string(page).unwrap();
+    let part = page.split_once(&format!("\n## {heading}\n")).unwrap().1;
+    let part = part.split("\n## ").next().unwrap();
+    part.lines().filter_map(|line| line.strip_prefix("    ").map(str::to_owned)).collect()
+}
+
 /// The list that docs/FORMAT.md decodes is the first worked case.
 #[test]
 fn the_schedule_of_the_format() {
-    let page = concat!(env!("CARGO_MANIFEST_DIR"), "/../docs/FORMAT.md");
-    let page = std::fs::read_to_string(page).unwrap();
-    let example = page.split_once("\n## A schedule by hand\n").unwrap().1;
-    let events = example.lines().filter_map(|line| line.strip_prefix("    "));
-    let bytes = events.flat_map(|line| line.split(' ').take(2));
+    let events = shown_by_the_format("A schedule by hand");
+    let bytes = events.iter().flat_map(|line| line.split(' ').take(2));
     let bytes: Vec<u8> = bytes.map(|byte| u8::from_str_radix(byte, 16).unwrap()).collect();
     assert_eq!(bytes, schedules::LISTS[0].4);
+}
+
+/// The chain that docs/FORMAT.md finds by hand is the simulator's.
+#[test]
+fn the_chain_of_the_format() {
+    let lines = shown_by_the_format("A chain by hand");
+    let bytes = lines.iter().flat_map(|line| line.split_whitespace());
+    let bytes: Vec<u8> = bytes.map(|byte| u8::from_str_radix(byte, 16).unwrap()).collect();
+    let mut chain = vec![0xEE; 14];
+    let answer = span(&s(), &mut chain);
+    assert_eq!((answer.number, answer.work, answer.span, answer.length), (0, 7, 5, 5));
+    assert_eq!(chain, [&bytes[..], &[0xEE; 4]].concat());
 }
 
 /// The first worked case round by round.
@@ -447,4 +469,50 @@ fn worked_cases_of_the_awaited_step() {
             assert_eq!(run.awaited(worker.into()).is_some(), waits, "{case}, worker {worker}");
         }
     }
+}
+
+#[test]
+fn worked_cases_of_work_and_span() {
+    for (kinds, weights, work, latest, chain) in spans::CASES {
+        let case = format!("{kinds:?}, weights {weights:?}");
+        let mut lent = vec![0xEE; 2 * kinds.len() + 3];
+        let answer = span(&tree_of_weights(kinds, weights), &mut lent);
+        let length = chain.len();
+        let want = SpanAnswer { number: 0, position: 0, work, span: latest, length };
+        assert_eq!(answer, want, "{case}");
+        let bytes: Vec<u8> = chain.iter().flat_map(|step| step.to_le_bytes()).collect();
+        assert_eq!(lent[..2 * length], bytes, "{case}");
+        assert!(lent[2 * length..].iter().all(|&byte| byte == 0xEE), "{case}");
+    }
+    for (kinds, room, want) in spans::ROOM {
+        let case = format!("{kinds:?}, {room} bytes");
+        let mut lent = vec![0xEE; room];
+        let answer = span(&tree_of_kinds(kinds), &mut lent);
+        assert_eq!(refusal(answer.number, answer.position), want, "{case}");
+        if answer.number != 0 {
+            assert_eq!((answer.work, answer.span, answer.length), (0, 0, 0), "{case}");
+            assert_eq!(lent, vec![0xEE; room], "{case}");
+        }
+    }
+}
+
+/// What precedes each step, written out by hand.
+#[test]
+fn worked_cases_of_what_precedes() {
+    let lists = |sets: &[Steps]| sets.iter().map(Steps::list).collect::<Vec<_>>();
+    for (kinds, want) in spans::BEFORE {
+        let tree = Tree::parse(&tree_of_kinds(kinds)).unwrap();
+        assert_eq!(lists(&all_before(&links(&tree))), want, "{kinds:?}");
+    }
+    for (kinds, want) in spans::LINKS {
+        let tree = Tree::parse(&tree_of_kinds(kinds)).unwrap();
+        assert_eq!(lists(&links(&tree)), want, "{kinds:?}");
+    }
+}
+
+/// When each step of S ends: step 1 beside the others, 4 and 5 together.
+#[test]
+fn ends_of_tree_s() {
+    let tree = Tree::parse(&s()).unwrap();
+    assert_eq!(ends(&tree, &all_before(&links(&tree))), [1, 2, 2, 3, 4, 4, 5]);
 }

@@ -16,18 +16,19 @@ use frame_tests::replay::{MAX_TRACE, TRACE_BYTES};
 use frame_tests::schedule::most_events;
 use frame_tests::tree::{CLASSES, MAX_OPEN, MAX_TREE_BYTES, TREE_RECORD};
 use library::{
-    FrameEvent, FrameIdle, FrameOutcome, FrameRecord, FrameReplay, FrameRunning, FrameSchedule, FrameStart, FrameTask, FrameTree,
-    RunState,
+    FrameEvent, FrameIdle, FrameOutcome, FrameRecord, FrameReplay, FrameRunning, FrameSchedule, FrameSpan, FrameStart, FrameTask,
+    FrameTree, RunState,
 };
 
 const HEADER: &str = "include/frame.h";
 const RUST: &str = "tests/tests/library/mod.rs";
 /// The crates whose functions the library exports.
-const SOURCES: [&str; 4] = [
+const SOURCES: [&str; 5] = [
     "crates/frame_run/src/lib.rt",
     "crates/frame_traces/src/lib.rt",
     "crates/frame_schedule/src/lib.rt",
     "crates/frame_tree/src/lib.rt",
+    "crates/frame_dag/src/lib.rt",
 ];
 /// The crate of the structs that `frame_run`, `frame_traces` and `frame_schedule` answer.
 const SOURCE_OF_ANSWERS: &str = "crates/frame_answers/src/lib.rt";
@@ -91,6 +92,7 @@ fn c_types(rust: &str) -> &[&str] {
         "FrameRecord" => &["FrameRecord"],
         "FrameReplay" => &["FrameReplay"],
         "FrameSchedule" => &["FrameSchedule"],
+        "FrameSpan" => &["FrameSpan"],
         _ => panic!("which type of C is {rust}?"),
     }
 }
@@ -216,6 +218,7 @@ fn layout() -> BTreeMap<String, Vec<usize>> {
     layout!(lines, "FrameRecord", FrameRecord { number, position, logs, steals, finished, loads, heaviest, class_loads });
     layout!(lines, "FrameReplay", FrameReplay { number, position, phases, loads, heaviest, class_loads });
     layout!(lines, "FrameSchedule", FrameSchedule { number, position, events });
+    layout!(lines, "FrameSpan", FrameSpan { number, position, work, span, length });
     layout!(lines, "FrameTree", FrameTree { number, position, steps });
     layout!(lines, "FrameTask", FrameTask { first, ordinal });
     layout!(lines, "FrameRunning", FrameRunning { opens, hold, push });
@@ -241,10 +244,11 @@ fn format_fields(heading: &str, offset: usize, bytes: usize) -> Vec<Vec<usize>> 
 #[test]
 fn the_layouts_of_the_format() {
     assert_eq!(format_fields("| offset | bytes | meaning |", 0, 1), fields("FrameState"));
-    let answers = "| offset, record | offset, replay | offset, schedule | bytes | meaning |";
-    assert_eq!(format_fields(answers, 0, 3), fields("FrameRecord"));
-    assert_eq!(format_fields(answers, 1, 3), fields("FrameReplay"));
-    assert_eq!(format_fields(answers, 2, 3), fields("FrameSchedule"));
+    let answers = "| offset, record | offset, replay | offset, schedule | offset, span | bytes | meaning |";
+    assert_eq!(format_fields(answers, 0, 4), fields("FrameRecord"));
+    assert_eq!(format_fields(answers, 1, 4), fields("FrameReplay"));
+    assert_eq!(format_fields(answers, 2, 4), fields("FrameSchedule"));
+    assert_eq!(format_fields(answers, 3, 4), fields("FrameSpan"));
 }
 
 /// The fields of a state cover it from its first byte to its last.
@@ -279,7 +283,7 @@ fn versions() -> Vec<usize> {
 
 #[test]
 fn the_versions_of_the_format() {
-    assert_eq!(versions(), [1, 2, 3, 4]);
+    assert_eq!(versions(), [1, 2, 3, 4, 5]);
 }
 
 /// What a name of the header stands for, apart from the refusals.
@@ -300,6 +304,7 @@ fn constants() -> BTreeMap<String, Vec<usize>> {
         ("FRAME_TRACE_BYTES(4095)", TRACE_BYTES * MAX_TRACE + 1),
         ("FRAME_LIST_BYTES(4095)", 4 * steps),
         ("FRAME_EVENTS_BYTES(4095)", EVENT_BYTES * most_events(steps)),
+        ("FRAME_CHAIN_BYTES(4095)", 2 * steps),
         // Never 0, which no array may have.
         ("FRAME_TRACE_BYTES(1)", 1),
         // An argument is taken whole.
@@ -308,6 +313,7 @@ fn constants() -> BTreeMap<String, Vec<usize>> {
         ("FRAME_TRACE_BYTES(1|2)", TRACE_BYTES + 1),
         ("FRAME_LIST_BYTES(1|2)", 3 * 4),
         ("FRAME_EVENTS_BYTES(1|2)", EVENT_BYTES * most_events(3)),
+        ("FRAME_CHAIN_BYTES(1|2)", 3 * 2),
         ("FRAME_ASYNC", 1),
         ("FRAME_FINISH", 2),
         ("FRAME_END", 3),

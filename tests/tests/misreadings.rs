@@ -1,17 +1,22 @@
 //! Each misreading named in document 01, and those that a run's own worker
-//! count, the schedule maker, the classes and the awaited step invite, each
-//! with a case it would fail.
+//! count, the schedule maker, the classes, the awaited step, and work and span
+//! invite, each with a case it would fail.
 
 #[path = "library/awaited.rs"]
 mod awaited;
 #[path = "library/schedules.rs"]
 mod schedules;
+#[path = "library/spans.rs"]
+mod spans;
 
-use frame_tests::random::{tree_of_kinds, tree_record};
+use std::cmp::Ordering;
+
+use frame_tests::random::{tree_of_kinds, tree_of_weights, tree_record};
 use frame_tests::record::record_to_vecs;
 use frame_tests::replay::replay_to_vecs;
 use frame_tests::run::Run;
 use frame_tests::schedule::{schedule, schedule_to_vec};
+use frame_tests::span::{span, span_to_vec};
 use frame_tests::tree::{Refusal, TaskKind, Tree};
 
 fn s() -> Vec<u8> {
@@ -605,5 +610,143 @@ fn misread_awaited_steps() {
     for (misread, case, reading) in misreadings {
         let case = awaited::CASES[case];
         assert_ne!(awaited_by(reading, case), case.4, "{}", misread);
+    }
+}
+
+/// A reading of document 02's words about work and span.
+#[derive(Clone, Copy)]
+struct Spanning {
+    /// Whether the spawning step precedes the child's steps.
+    spawning: bool,
+    /// Whether the earlier steps of a task precede the later ones.
+    earlier: bool,
+    /// Whether a child of this kind precedes what follows it in its parent.
+    child: fn(TaskKind) -> bool,
+    /// Whether a step of such a child precedes it that is the child's own or
+    /// not, and the child's last or not.
+    counts: fn(bool, bool) -> bool,
+    /// Whether a chain counts, by its weights.
+    may: fn(&[u32]) -> bool,
+    /// Whether a chain that ends with the root, or does not, counts.
+    ends: fn(bool) -> bool,
+    /// Which of two equal chains goes before.
+    order: fn(&[u16], &[u16]) -> Ordering,
+}
+
+const SPANNING: Spanning = Spanning {
+    spawning: true,
+    earlier: true,
+    child: |kind| kind == TaskKind::Finish,
+    counts: |_, _| true,
+    may: |_| true,
+    ends: |_| true,
+    order: |one, other| one.cmp(other),
+};
+
+/// Whether the first step precedes the second over one link, read so.
+fn linked(reading: Spanning, tree: &Tree, first: usize, second: usize) -> bool {
+    let task = tree.task_of(second);
+    // A child that ended before the second step and has the first one.
+    let inside = |&child: &usize| {
+        tree.end_of(child) < second && tree.steps_with_descendants(child).contains(&first)
+    };
+    let counts = |&child: &usize| {
+        let (own, last) = (tree.task_of(first) == child, tree.end_of(child) == first);
+        (reading.child)(tree.tasks()[child].kind) && (reading.counts)(own, last)
+    };
+    (reading.spawning && tree.child_opened_by(first) == Some(task))
+        || (reading.earlier && tree.task_of(first) == task && first < second)
+        || tree.tasks()[task].children.iter().any(|child| inside(child) && counts(child))
+}
+
+/// Span and chain of a worked case, read so: the first of the heaviest of all
+/// chains.
+fn span_by(reading: Spanning, (kinds, weights, ..): spans::Case) -> (u64, Vec<u16>) {
+    let tree = Tree::parse(&tree_of_weights(kinds, weights)).unwrap();
+    let n = tree.count();
+    let mut before = vec![vec![false; n]; n];
+    for first in (0..n).rev() {
+        for last in first + 1..n {
+            before[first][last] = linked(reading, &tree, first, last)
+                || (first + 1..last).any(|k| linked(reading, &tree, first, k) && before[k][last]);
+        }
+    }
+    let mut best: Option<(u64, Vec<u16>)> = None;
+    for set in 1..1_u32 << n {
+        let steps: Vec<usize> = (0..n).filter(|step| set >> step & 1 == 1).collect();
+        let own: Vec<u32> = steps.iter().map(|&step| weights[step]).collect();
+        let is_chain = steps.windows(2).all(|pair| before[pair[0]][pair[1]]);
+        if !is_chain || !(reading.may)(&own) || !(reading.ends)(steps.last() == Some(&(n - 1))) {
+            continue;
+        }
+        let weight = own.iter().map(|&weight| u64::from(weight)).sum();
+        let chain: Vec<u16> = steps.iter().map(|&step| step as u16).collect();
+        let taken = best.as_ref().is_none_or(|(most, first)| {
+            weight > *most || (weight == *most && (reading.order)(&chain, first).is_lt())
+        });
+        if taken {
+            best = Some((weight, chain));
+        }
+    }
+    best.unwrap()
+}
+
+/// Each misreading of work and span, with worked cases for which it answers
+/// otherwise.
+#[test]
+fn misread_spans() {
+    for case in spans::CASES {
+        assert_eq!(span_by(SPANNING, case), (case.3, case.4.to_vec()), "{:?}", case);
+    }
+    let no_zeros: fn(&[u32]) -> bool = |own| own.len() == 1 || own.iter().all(|&weight| weight > 0);
+    // At the first difference, with the start of a chain before the chain.
+    let highest: fn(&[u16], &[u16]) -> Ordering =
+        |one, other| match one.iter().zip(other).find(|(a, b)| a != b) {
+            Some((a, b)) => b.cmp(a),
+            None => one.len().cmp(&other.len()),
+        };
+    let whole_first: fn(&[u16], &[u16]) -> Ordering =
+        |one, other| match one.iter().zip(other).find(|(a, b)| a != b) {
+            Some((a, b)) => a.cmp(b),
+            None => other.len().cmp(&one.len()),
+        };
+    let shortest: fn(&[u16], &[u16]) -> Ordering =
+        |one, other| (one.len(), one).cmp(&(other.len(), other));
+    let longest: fn(&[u16], &[u16]) -> Ordering =
+        |one, other| (other.len(), one).cmp(&(one.len(), other));
+    let from_behind: fn(&[u16], &[u16]) -> Ordering =
+        |one, other| one.iter().rev().cmp(other.iter().rev());
+    let misreadings = [
+        ("an async child too", Spanning { child: |_| true, ..SPANNING }),
+        ("no child", Spanning { child: |_| false, ..SPANNING }),
+        ("the finish child's own steps alone", Spanning { counts: |own, _| own, ..SPANNING }),
+        ("its descendants' alone", Spanning { counts: |own, _| !own, ..SPANNING }),
+        ("its end alone", Spanning { counts: |_, last| last, ..SPANNING }),
+        ("a child begins with the run", Spanning { spawning: false, ..SPANNING }),
+        ("the steps of a task overlap", Spanning { earlier: false, ..SPANNING }),
+        ("the span is the root's end", Spanning { ends: |root| root, ..SPANNING }),
+        ("no step of weight 0", Spanning { may: no_zeros, ..SPANNING }),
+        ("the higher step", Spanning { order: highest, ..SPANNING }),
+        ("on through steps of weight 0", Spanning { order: whole_first, ..SPANNING }),
+        ("the shortest", Spanning { order: shortest, ..SPANNING }),
+        ("the longest", Spanning { order: longest, ..SPANNING }),
+        ("the last difference", Spanning { order: from_behind, ..SPANNING }),
+    ];
+    for (misread, reading) in misreadings {
+        let other = |case: &spans::Case| span_by(reading, *case) != (case.3, case.4.to_vec());
+        let others = spans::CASES.iter().filter(|case| other(case)).count();
+        assert!(others > 0, "{}", misread);
+    }
+}
+
+/// The answer counts steps and not bytes. The room is asked for all steps, not
+/// for those of the chain. Work is that of all steps, not of the chain.
+#[test]
+fn length_and_room_of_a_chain() {
+    let (answer, chain) = span_to_vec(&s());
+    assert_eq!((answer.length, chain.len()), (5, 5));
+    assert_eq!((answer.work, answer.span), (7, 5));
+    for (room, number) in [(10, 7), (13, 7), (14, 0)] {
+        assert_eq!(span(&s(), &mut vec![0; room]).number, number);
     }
 }

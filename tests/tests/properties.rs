@@ -1,5 +1,8 @@
 //! Properties over random and over all small trees and schedules.
 
+#[path = "library/chains.rs"]
+mod chains;
+
 use std::collections::{HashMap, HashSet};
 
 use frame_tests::cover::{class_loads, covered_steps, loads, Phase};
@@ -9,7 +12,10 @@ use frame_tests::record::{record, record_to_vecs, RecordAnswer, MAX_EVENTS};
 use frame_tests::replay::{replay, replay_to_vecs, Replay, ReplayAnswer};
 use frame_tests::run::{Policy, Run};
 use frame_tests::schedule::{most_events, schedule, schedule_to_vec, Maker, ScheduleAnswer};
-use frame_tests::tree::{Kind, Tree};
+use frame_tests::span::{
+    all_before, ends, heaviest_chain, links, span, span_to_vec, SpanAnswer, Steps,
+};
+use frame_tests::tree::{Kind, TaskKind, Tree};
 
 /// Names the seed if the test fails while this lives.
 struct Seed(u64);
@@ -1039,9 +1045,267 @@ fn classes_change_nothing_else() {
         let made = schedule_to_vec(policy, workers, &tree, seed);
         assert_eq!(schedule_to_vec(policy, workers, &old, seed), made);
 
+        assert_eq!(span_to_vec(&old), span_to_vec(&tree));
+
         let count = ((tree.len() / 8) as u16).to_le_bytes();
         let input = |tree: &[u8]| [&[policy], &count[..], tree, &trace].concat();
         assert_eq!(phases(&input(&old)), phases(&input(&tree)));
     });
     assert!(changed > 1_000, "{} calls", changed);
+}
+
+fn what_precedes(tree: &Tree) -> Vec<Steps> {
+    all_before(&links(tree))
+}
+
+/// In terms of tasks alone: the first step is the lower, and the second is in its
+/// task or a descendant of that, or the outermost task that has the first and not
+/// the second is a finish child.
+fn precedes_by_tasks(tree: &Tree, first: usize, second: usize) -> bool {
+    let has = |task: usize, step: usize| {
+        (tree.tasks()[task].steps[0]..=tree.end_of(task)).contains(&step)
+    };
+    let mut task = tree.task_of(first);
+    if first >= second || has(task, second) {
+        return first < second;
+    }
+    while let Some(parent) = tree.tasks()[task].parent.filter(|&parent| !has(parent, second)) {
+        task = parent;
+    }
+    tree.tasks()[task].kind == TaskKind::Finish
+}
+
+#[test]
+fn what_precedes_by_tasks() {
+    let mut both = [0; 2];
+    for_seeds(170_000..170_200, |seed| {
+        let mut rng = Rng::new(seed);
+        let tasks = if rng.percent(2) { 2_047 } else { rng.between(0, 80) };
+        let tree = Tree::parse(&random::weighed_tree(&mut rng, tasks)).unwrap();
+        let before = what_precedes(&tree);
+        let mut check = |first: usize, second: usize| {
+            let precedes = before[second].has(first);
+            assert_eq!(precedes, precedes_by_tasks(&tree, first, second), "{first} {second}");
+            both[usize::from(precedes)] += 1;
+        };
+        let n = tree.count();
+        if tasks < 100 {
+            (0..n).for_each(|first| (0..n).for_each(|second| check(first, second)));
+        } else {
+            (0..100_000).for_each(|_| check(rng.below(n), rng.below(n)));
+        }
+    });
+    assert!(both.iter().all(|&pairs| pairs > 100_000), "{both:?}");
+}
+
+/// For each two steps whether the second has run in some state without the first,
+/// by all schedules of so many workers.
+fn overtaken(policy: u8, workers: u8, tree: &[u8]) -> Vec<Vec<bool>> {
+    let n = tree.len() / 8;
+    let mut overtaken = vec![vec![false; n]; n];
+    let mut seen = HashSet::new();
+    let mut open = vec![Run::start(policy, workers, tree).unwrap()];
+    while let Some(run) = open.pop() {
+        // Which of the workers it is does not matter.
+        let mut held: Vec<_> = run.workers.iter().map(|w| (w.held, w.deque.clone())).collect();
+        held.sort();
+        if !seen.insert((held, run.ran.clone())) {
+            continue;
+        }
+        for first in (0..n).filter(|&first| !run.ran[first]) {
+            for second in (0..n).filter(|&second| run.ran[second]) {
+                overtaken[first][second] = true;
+            }
+        }
+        for first in 0..workers {
+            for second in 0..workers {
+                let mut next = run.clone();
+                if next.event(first, second).is_ok() {
+                    open.push(next);
+                }
+            }
+        }
+    }
+    overtaken
+}
+
+/// A step must precede another exactly where no schedule, with a worker for each
+/// task, runs the other without it: so says the scheduling of document 01.
+#[test]
+fn what_precedes_in_all_schedules() {
+    for tasks in 0..=4 {
+        for tree in random::all_trees(tasks) {
+            let before = what_precedes(&Tree::parse(&tree).unwrap());
+            for policy in [1, 2] {
+                let overtaken = overtaken(policy, tasks as u8 + 1, &tree);
+                for (second, before) in before.iter().enumerate() {
+                    let runs_first = |&first: &usize| first != second && !overtaken[first][second];
+                    let always: Vec<usize> = (0..tree.len() / 8).filter(runs_first).collect();
+                    assert_eq!(before.list(), always, "policy {policy}, step {second}, {tree:?}");
+                }
+            }
+        }
+    }
+}
+
+/// No log has a step before one that must precede it.
+#[test]
+fn logs_keep_what_precedes() {
+    for_seeds(172_000..172_500, |seed| {
+        let mut rng = Rng::new(seed);
+        let tasks = rng.between(0, 40);
+        let tree = random::weighed_tree(&mut rng, tasks);
+        let workers = rng.between(1, 16);
+        let mut run = Run::start(rng.pick(&[1, 2]), workers as u8, &tree).unwrap();
+        let plan = Plan::any(&mut rng, workers);
+        random::drive(&mut rng, &mut run, &plan);
+        assert!(run.finished());
+        let before = what_precedes(&run.tree);
+        for (at, record) in run.log.iter().enumerate() {
+            assert!(run.log[at..].iter().all(|later| !before[record.step].has(later.step)));
+        }
+    });
+}
+
+/// A task that starts then: its end, and the end of all that it spawned without
+/// waiting for it. The two are found through each other.
+fn ends_of_task(tree: &Tree, task: usize, start: u64) -> (u64, u64) {
+    let (mut end, mut spawned) = (start, start);
+    for &step in &tree.tasks()[task].steps {
+        end += u64::from(tree.weight(step));
+        if let Some(child) = tree.child_opened_by(step) {
+            let (of_child, beyond) = ends_of_task(tree, child, end);
+            let whole = of_child.max(beyond);
+            if tree.tasks()[child].kind == TaskKind::Finish {
+                end = whole;
+            } else {
+                spawned = spawned.max(whole);
+            }
+        }
+    }
+    (end, spawned)
+}
+
+/// What document 02 says of the chain: each step precedes the next, they weigh as
+/// much as the span, and no chain weighs more. No start of the chain weighs as
+/// much, and none that has the same start and then a lower step.
+fn sound_chain(tree: &Tree, before: &[Steps], latest: u64, chain: &[u16]) {
+    let n = tree.count();
+    let weight = |step: usize| u64::from(tree.weight(step));
+    // The greatest weight of what begins with each step.
+    let mut from = vec![0; n];
+    for first in (0..n).rev() {
+        let behind = (first + 1..n).filter(|&next| before[next].has(first));
+        from[first] = weight(first) + behind.map(|next| from[next]).max().unwrap_or(0);
+    }
+    // No chain weighs more.
+    assert_eq!(from.iter().max(), Some(&latest));
+    let mut sum = 0;
+    let mut last: Option<usize> = None;
+    for &step in chain {
+        let step = usize::from(step);
+        let may_follow = |next: usize| last.is_none_or(|last| before[next].has(last));
+        assert!(may_follow(step));
+        assert!(last.is_none() || sum < latest);
+        for lower in (0..step).filter(|&lower| may_follow(lower)) {
+            assert!(sum + from[lower] < latest);
+        }
+        sum += weight(step);
+        last = Some(step);
+    }
+    assert!(last.is_some());
+    assert_eq!(sum, latest);
+}
+
+/// Work, span and chain of a tree, found again in other ways.
+fn sound_span(bytes: &[u8]) {
+    let tree = Tree::parse(bytes).unwrap();
+    let (answer, chain) = span_to_vec(bytes);
+    assert_eq!((answer.number, answer.position, answer.length), (0, 0, chain.len()));
+    assert_eq!(answer.work, by_class(bytes).iter().sum::<u64>());
+    assert!(answer.span <= answer.work);
+    assert!(answer.work <= tree.count() as u64 * answer.span);
+    let (end, spawned) = ends_of_task(&tree, 0, 0);
+    assert_eq!(answer.span, end.max(spawned));
+    let before = what_precedes(&tree);
+    let found = heaviest_chain(&tree, &before);
+    assert_eq!((found.weight, &found.steps), (answer.span, &chain));
+    sound_chain(&tree, &before, answer.span, &chain);
+    // The root's end is that of its last step.
+    assert_eq!(ends(&tree, &before)[tree.count() - 1], end);
+}
+
+#[test]
+fn spans_of_random_trees() {
+    for_seeds(174_000..178_000, |seed| {
+        let mut rng = Rng::new(seed);
+        let tasks = rng.between(0, 40);
+        sound_span(&random::weighed_tree(&mut rng, tasks));
+    });
+}
+
+#[test]
+fn spans_of_large_trees() {
+    for_seeds(178_000..178_008, |seed| {
+        let mut rng = Rng::new(seed);
+        let weights = rng.pick(&[Weights::Tied, Weights::Sparse, Weights::NearMax, Weights::Max]);
+        let finish = rng.pick(&[0, 30, 70, 100]);
+        let tree = random::tree_with(&mut rng, SHAPES[seed as usize % 4], 2_047, finish, weights);
+        sound_span(&tree);
+    });
+}
+
+/// All trees with up to four spawned tasks: what precedes, and with some weights
+/// the first of all heaviest chains, tried out one by one.
+#[test]
+fn spans_of_all_small_trees() {
+    let mut rng = Rng::new(179_000);
+    let some = [Weights::Tied, Weights::Tied, Weights::Sparse, Weights::Mixed];
+    for tasks in 0..=4 {
+        for mut bytes in random::all_trees(tasks) {
+            let kinds: Vec<u8> = bytes.chunks(8).map(|record| record[0]).collect();
+            let before = what_precedes(&Tree::parse(&bytes).unwrap());
+            let precedes = chains::precedence(&kinds);
+            for (second, before) in before.iter().enumerate() {
+                let lower = (0..kinds.len()).filter(|&first| precedes[first][second]);
+                assert_eq!(before.list(), lower.collect::<Vec<_>>(), "{kinds:?} {second}");
+            }
+            let all = chains::all_chains(&kinds);
+            for _ in 0..100 {
+                let weights = rng.pick(&some);
+                random::set_weights(&mut rng, &mut bytes, weights);
+                let tree = Tree::parse(&bytes).unwrap();
+                let weights: Vec<u32> = (0..tree.count()).map(|step| tree.weight(step)).collect();
+                let (heaviest, chain) = chains::first_heaviest(&all, &weights);
+                let (answer, found) = span_to_vec(&bytes);
+                assert_eq!((answer.span, &found[..]), (heaviest, chain), "{kinds:?} {weights:?}");
+            }
+        }
+    }
+}
+
+/// Every length of the lent buffer: short ones keep their bytes, and so do the
+/// bytes behind the chain.
+#[test]
+fn rooms_for_chains() {
+    for_seeds(180_000..180_200, |seed| {
+        let mut rng = Rng::new(seed);
+        let tasks = rng.between(0, 12);
+        let tree = random::weighed_tree(&mut rng, tasks);
+        let (found, steps) = span_to_vec(&tree);
+        let bytes: Vec<u8> = steps.iter().flat_map(|step| step.to_le_bytes()).collect();
+        let needed = 2 * (2 * tasks + 1);
+        for room in 0..needed + 4 {
+            let lent = rng.bytes(room);
+            let mut chain = lent.clone();
+            let answer = span(&tree, &mut chain);
+            if room < needed {
+                assert_eq!(answer, SpanAnswer { number: 7, ..SpanAnswer::default() });
+                assert_eq!(chain, lent);
+            } else {
+                assert_eq!(answer, found);
+                assert_eq!(chain, [&bytes[..], &lent[bytes.len()..]].concat());
+            }
+        }
+    });
 }

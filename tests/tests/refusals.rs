@@ -5,6 +5,7 @@ use frame_tests::record::{record, RecordAnswer};
 use frame_tests::replay::{replay, ReplayAnswer};
 use frame_tests::run::Run;
 use frame_tests::schedule::{schedule, ScheduleAnswer};
+use frame_tests::span::{span, SpanAnswer};
 use frame_tests::tree::{Refusal, Tree};
 
 fn s() -> Vec<u8> {
@@ -86,8 +87,25 @@ fn schedule_refusal_with(policy: u8, workers: u8, tree: &[u8], room: usize) -> (
     refusals[0]
 }
 
-/// The refusal of a tree, the same from the start, record, replay and the
-/// schedule maker.
+/// The refusal of a span call with an ample buffer.
+fn span_refusal(tree: &[u8]) -> (u32, usize) {
+    span_refusal_with(tree, 2 * 4_095)
+}
+
+/// All other results are 0 and the buffer keeps its bytes.
+fn span_refusal_with(tree: &[u8], room: usize) -> (u32, usize) {
+    let mut chain = vec![0xA5; room];
+    let answer = span(tree, &mut chain);
+    if answer.number != 0 {
+        let (number, position) = (answer.number, answer.position);
+        assert_eq!(answer, SpanAnswer { number, position, ..SpanAnswer::default() });
+        assert!(chain.iter().all(|&byte| byte == 0xA5));
+    }
+    (answer.number, answer.position)
+}
+
+/// The refusal of a tree, the same from the start, record, replay, the schedule
+/// maker and the span call.
 fn tree_refusal(tree: &[u8]) -> (u32, usize) {
     let seen = match Tree::parse(tree) {
         Ok(_) => (0, 0),
@@ -101,6 +119,7 @@ fn tree_refusal(tree: &[u8]) -> (u32, usize) {
     assert_eq!(seen, record_refusal(1, tree, &[]));
     assert_eq!(seen, replay_refusal(2, tree, &[]));
     assert_eq!(seen, schedule_refusal_of(1, 16, tree));
+    assert_eq!(seen, span_refusal(tree));
     seen
 }
 
@@ -400,6 +419,26 @@ fn refusal_7_schedule() {
     assert_eq!(schedule_refusal_with(0, 16, &s(), 0), (1, 0));
     assert_eq!(schedule_refusal_with(3, 17, &s(), 0), (1, 0));
     assert_eq!(schedule_refusal_with(2, 17, &s(), 0), (16, 0));
+}
+
+#[test]
+fn refusal_7_span() {
+    // S has 7 steps of 2 bytes each, however few its chain has.
+    assert_eq!(span_refusal_with(&s(), 14), (0, 0));
+    assert_eq!(span_refusal_with(&s(), 15), (0, 0));
+    for room in 0..14 {
+        assert_eq!(span_refusal_with(&s(), room), (7, 0));
+    }
+    assert_eq!(span_refusal_with(&tree_of_kinds(&[3]), 2), (0, 0));
+    assert_eq!(span_refusal_with(&tree_of_kinds(&[3]), 1), (7, 0));
+    assert_eq!(span_refusal_with(&flat(4_095), 2 * 4_095), (0, 0));
+    assert_eq!(span_refusal_with(&flat(4_095), 2 * 4_095 - 1), (7, 0));
+    // 2 to 5 before 7.
+    assert_eq!(span_refusal_with(&[], 0), (2, 0));
+    assert_eq!(span_refusal_with(&[9; 8], 0), (3, 0));
+    assert_eq!(span_refusal_with(&chain(64, 1), 0), (4, 63));
+    assert_eq!(span_refusal_with(&s()[..48], 0), (5, 6));
+    assert_eq!(span_refusal_with(&tree_of_kinds(&[3, 3]), 3), (5, 1));
 }
 
 #[test]

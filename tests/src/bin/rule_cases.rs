@@ -1,16 +1,18 @@
 //! Writes random calls with the simulator's answers as a table of antt, so that the prover computes the rules' answers and
 //! compares. The rules are what every proof rests on; nothing else tests them on cases that nobody chose.
+//!
+//! `rule_cases SEED THEOREMS` writes the page on runs, traces and schedules, `rule_cases dag SEED THEOREMS` that on work and span.
 
 use std::fmt::Write;
 
 use frame_tests::cover::WORKERS;
 use frame_tests::phases::phases;
 use frame_tests::random::{
-    accepted_bytes, any_count, any_seed, damaged_tree, drive, finish_tree, nearest_count, run_all_but, set_classes, trace, tree,
-    worker_at_the_edge, Classes, Plan, Rng,
+    accepted_bytes, any_count, any_seed, damaged_tree, drive, finish_tree, nearest_count, run_all_but, set_classes, set_weights, trace,
+    tree, worker_at_the_edge, Classes, Plan, Rng, Weights,
 };
 use frame_tests::tree::TREE_RECORD;
-use frame_tests::{record, replay, schedule, Policy, Run, Tree};
+use frame_tests::{record, replay, schedule, span, Policy, Run, Tree};
 
 /// How many rows a theorem has. antt computes each theorem within a fixed count of steps.
 const ROWS: u64 = 10;
@@ -28,6 +30,7 @@ const MAKER: &str = "draw named begun write drawn robbable stealTurn turn round 
 /// The rules' names of what a step waits for, and the rows' own.
 const WAITING: &str = "awaited highest find awaitedBy";
 
+
 /// Bytes as the rules' tables write them: a hexadecimal numeral.
 fn bytes(list: &[u8]) -> String {
     if list.is_empty() {
@@ -42,13 +45,11 @@ fn numbers(list: &[u64]) -> String {
     format!("({items}[])")
 }
 
-/// A tree of a few tasks, sometimes damaged, and a policy, sometimes none.
-fn scene(rng: &mut Rng) -> (u8, Vec<u8>) {
-    let policy = if rng.percent(5) { rng.pick(&[0, 3, 255]) } else { rng.pick(&[1, 2]) };
-    let tasks = rng.below(7);
+/// A tree of so many tasks, sometimes damaged.
+fn some_tree(rng: &mut Rng, tasks: usize) -> Vec<u8> {
     let damaged = damaged_tree(rng, tasks);
     if rng.percent(10) && damaged.len() < LONGEST {
-        return (policy, damaged);
+        return damaged;
     }
     let mut tree = tree(rng, tasks);
     if rng.percent(50) {
@@ -59,7 +60,14 @@ fn scene(rng: &mut Rng) -> (u8, Vec<u8>) {
         let record = rng.below(tree.len() / TREE_RECORD);
         tree[TREE_RECORD * record + rng.between(1, 3)] = rng.pick(&[0, 1, 15, 16, 17, 255]);
     }
-    (policy, tree)
+    tree
+}
+
+/// A tree of a few tasks, sometimes damaged, and a policy, sometimes none.
+fn scene(rng: &mut Rng) -> (u8, Vec<u8>) {
+    let policy = if rng.percent(5) { rng.pick(&[0, 3, 255]) } else { rng.pick(&[1, 2]) };
+    let tasks = rng.below(7);
+    (policy, some_tree(rng, tasks))
 }
 
 /// A lent buffer: mostly as long as asked or longer, sometimes short.
@@ -235,7 +243,39 @@ fn schedule_row(out: &mut String, seed: u64) {
     .expect("a string takes all");
 }
 
-fn tables(out: &mut String, name: &str, row: &str, from: u64, theorems: u64, write_row: fn(&mut String, u64)) {
+/// What the span call answers and writes: mostly with small weights, so that many chains weigh the same. The trees have at most seven
+/// steps, since the rules ask of every two steps over all links whether one precedes the other.
+fn span_row(out: &mut String, seed: u64) {
+    let mut rng = Rng::new(seed);
+    let tasks = rng.pick(&[0, 1, 2, 2, 3, 3, 3]);
+    let mut tree = some_tree(&mut rng, tasks);
+    if rng.percent(80) {
+        let weights = rng.pick(&[Weights::Tied, Weights::Tied, Weights::Sparse, Weights::NearMax]);
+        set_weights(&mut rng, &mut tree, weights);
+    }
+    let asked = 2 * (tree.len() / 8);
+    let mut chain = lent(&mut rng, asked);
+    if rng.percent(10) {
+        chain.truncate(rng.between(0, asked));
+    }
+    let call = format!("answered {} {}", bytes(&tree), bytes(&chain));
+    let answer = span(&tree, &mut chain);
+    write!(
+        out,
+        "record {{ got = {call}; says = record {{ verdict = record {{ number = {}; position = {} }}; work = {}; span = {}; \
+         chainLength = {}; chain = {} }} }} ∷ ",
+        answer.number,
+        answer.position,
+        answer.work,
+        answer.span,
+        answer.length,
+        bytes(&chain)
+    )
+    .expect("a string takes all");
+}
+
+/// Theorems over rows of this type; each unfolds these names.
+fn tables(out: &mut String, name: &str, row: &str, names: &str, from: u64, theorems: u64, write_row: fn(&mut String, u64)) {
     for t in 0..theorems {
         let mut rows = String::new();
         for k in 0..ROWS {
@@ -243,15 +283,13 @@ fn tables(out: &mut String, name: &str, row: &str, from: u64, theorems: u64, wri
         }
         writeln!(out, "unfoldable {name}-{t} : List {row}\n{name}-{t} = {rows}[]\n").expect("a string takes all");
         writeln!(out, "{name}-{t}-holds : map (λ r. r .got) {name}-{t} ≡ map (λ r. r .says) {name}-{t}").expect("a string takes all");
-        let names = format!("answerWith bytes {PROGRAM} {MAKER} {WAITING} {name}-{t}");
-        writeln!(out, "unfolding {names}\n{name}-{t}-holds = refl\n").expect("a string takes all");
+        writeln!(out, "unfolding {names} {name}-{t}\n{name}-{t}-holds = refl\n").expect("a string takes all");
     }
 }
 
-fn main() {
+/// The page on runs, traces and schedules.
+fn rules_page(from: u64, theorems: u64) -> String {
     let [program, maker] = [PROGRAM, MAKER].map(|names| names.replace(' ', ", "));
-    let mut args = std::env::args().skip(1).map(|a| a.parse::<u64>().expect("a number"));
-    let (from, theorems) = (args.next().unwrap_or(0), args.next().unwrap_or(10));
     let mut out = String::from(
         "-- Random calls and the simulator's answers.\n\
          use Prim.Native.Nat.{ℕ}\n\
@@ -260,13 +298,13 @@ fn main() {
          use mathlib.Core.List.{List, [], _∷_, map}\n\
          use mathlib.Core.Option.{none, some}\n\
          use lib.ListN.{length}\n\
          use Rattle.rules.specs.Bytes.{records, count, find, highest}\n\
          use Rattle.rules.specs.Tree.{kinds}\n\
          use Rattle.rules.specs.Scheduling.{awaited}\n\
          use Rattle.rules.specs.Calls.{recordWalk, Recorded, recordCall, Replayed, replayCall}\n\
          use Rattle.rules.specs.Program.{PROGRAM}\n\
-         use Rattle.rules.specs.Schedules.{Scheduled, MAKER}\n\
+         use Rattle.rules_schedule.specs.Schedules.{Scheduled, MAKER}\n\
          use Rattle.rules.specs.Cases.{idling, Answer, idle, answerWith, bytes}\n\n\
          record RecordRow : Type 0 where\n  got : Recorded\n  says : Recorded\n\n\
          record ReplayRow : Type 0 where\n  got : Replayed\n  says : Replayed\n\n\
          record ScheduleRow : Type 0 where\n  got : Scheduled\n  says : Scheduled\n\n\
@@ -280,11 +318,34 @@ fn main() {
     )
     .replace("PROGRAM", &program)
     .replace("MAKER", &maker);
-    tables(&mut out, "recorded", "RecordRow", from, theorems, record_row);
-    tables(&mut out, "replayed", "ReplayRow", from, theorems, replay_row);
-    tables(&mut out, "scheduled", "ScheduleRow", from, theorems, schedule_row);
-    tables(&mut out, "idled", "IdleRow", from, theorems, idle_row);
-    tables(&mut out, "awaiting", "NumbersRow", from, theorems, awaited_row);
-    tables(&mut out, "listed", "NumbersRow", from, theorems, print_row);
-    print!("{out}");
+    let names = format!("answerWith bytes {PROGRAM} {MAKER} {WAITING}");
+    tables(&mut out, "recorded", "RecordRow", &names, from, theorems, record_row);
+    tables(&mut out, "replayed", "ReplayRow", &names, from, theorems, replay_row);
+    tables(&mut out, "scheduled", "ScheduleRow", &names, from, theorems, schedule_row);
+    tables(&mut out, "idled", "IdleRow", &names, from, theorems, idle_row);
+    tables(&mut out, "awaiting", "NumbersRow", &names, from, theorems, awaited_row);
+    tables(&mut out, "listed", "NumbersRow", &names, from, theorems, print_row);
+    out
+}
+
+/// The page on work and span. `answered` of their table of cases is the call, and has all the rules' names.
+fn dag_page(from: u64, theorems: u64) -> String {
+    let mut out = String::from(
+        "-- Random calls of work and span, and the simulator's answers.\n\
+         use mathlib.Core.Path.{_≡_, refl}\n\
+         use mathlib.Core.List.{List, [], _∷_, map}\n\
+         use Rattle.rules.specs.Cases.{bytes}\n\
+         use Rattle.rules_dag.specs.Spans.{Spanned}\n\
+         use Rattle.rules_dag.specs.Chains.{answered}\n\n\
+         record SpanRow : Type 0 where\n  got : Spanned\n  says : Spanned\n\n",
+    );
+    tables(&mut out, "spanned", "SpanRow", "answered bytes", from, theorems, span_row);
+    out
+}
+
+fn main() {
+    let mut args = std::env::args().skip(1).peekable();
+    let page = if args.next_if_eq("dag").is_some() { dag_page } else { rules_page };
+    let mut numbers = args.map(|a| a.parse::<u64>().expect("a number"));
+    print!("{}", page(numbers.next().unwrap_or(0), numbers.next().unwrap_or(10)));
 }

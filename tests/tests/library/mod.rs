@@ -4,7 +4,7 @@
 // A test program need not use them all.
 #![allow(dead_code)]
 
-use frame_tests::{RecordAnswer, ReplayAnswer, ScheduleAnswer};
+use frame_tests::{RecordAnswer, ReplayAnswer, ScheduleAnswer, SpanAnswer};
 
 #[repr(C)]
 #[derive(Clone, Copy, Debug, PartialEq, Eq)]
@@ -153,10 +153,33 @@ impl From<ScheduleAnswer> for FrameSchedule {
     }
 }
 
+#[repr(C)]
+#[derive(Clone, Copy, Debug, PartialEq, Eq)]
+pub struct FrameSpan {
+    pub number: usize,
+    pub position: usize,
+    pub work: u64,
+    pub span: u64,
+    pub length: usize,
+}
+
+/// The simulator's answer as the library gives it.
+impl From<SpanAnswer> for FrameSpan {
+    fn from(answer: SpanAnswer) -> FrameSpan {
+        FrameSpan {
+            number: answer.number as usize,
+            position: answer.position,
+            work: answer.work,
+            span: answer.span,
+            length: answer.length,
+        }
+    }
+}
+
 mod c {
     use super::{
-        FrameEvent, FrameIdle, FrameOutcome, FrameRecord, FrameReplay, FrameRunning, FrameSchedule, FrameStart, FrameTask,
-        FrameTree, RunState,
+        FrameEvent, FrameIdle, FrameOutcome, FrameRecord, FrameReplay, FrameRunning, FrameSchedule, FrameSpan, FrameStart,
+        FrameTask, FrameTree, RunState,
     };
 
     extern "C" {
@@ -203,6 +226,7 @@ mod c {
             events: *mut u8,
             events_len: usize,
         ) -> FrameSchedule;
+        pub fn frame_span(tree: *const u8, tree_len: usize, chain: *mut u8, chain_len: usize) -> FrameSpan;
     }
 }
 
@@ -290,4 +314,8 @@ pub fn replay(tree: &[u8], policy: u8, workers: u8, trace: &[u8], list: &mut [u8
 
 pub fn schedule(tree: &[u8], policy: u8, workers: u8, seed: u32, events: &mut [u8]) -> FrameSchedule {
     unsafe { c::frame_schedule(tree.as_ptr(), tree.len(), policy, workers, seed, events.as_mut_ptr(), events.len()) }
+}
+
+pub fn span(tree: &[u8], chain: &mut [u8]) -> FrameSpan {
+    unsafe { c::frame_span(tree.as_ptr(), tree.len(), chain.as_mut_ptr(), chain.len()) }
 }
