@@ -1,7 +1,7 @@
 -- Document 02, #105: cases of what precedes what, of ends, work, span and chain, each table one theorem, closed by computation.
-use Prim.Native.Nat.{ℕ, _*_}
+use Prim.Native.Nat.{ℕ}
 use mathlib.Core.Path.{_≡_, refl}
-use mathlib.Core.List.{List, [], _∷_, _++_, map, flatten, zipWith}
+use mathlib.Core.List.{List, [], _∷_, map, flatten, zipWith}
 use lib.ListN.{length, replicate}
 use Rattle.rules.specs.Bytes.{count, find, Verdict, accepted}
 use Rattle.rules.specs.Tree.{kinds, weights}

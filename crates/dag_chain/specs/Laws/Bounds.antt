@@ -1,10 +1,10 @@
 -- No chain weighs more than the span: chains that begin inside a step weigh at most what it lasts and what chains weigh that begin outside,
 -- with a step that something inside precedes. And the span is at most the work, the work at most n times the span.
 use Prim.Native.Nat.{ℕ, zero, suc, _+_, _*_, _≤_, _<_, max}
-use mathlib.Core.Path.{_≡_, refl, sym, ap, _∙_}
+use mathlib.Core.Path.{_≡_, refl, sym, _∙_}
 use mathlib.Core.Bool.{Bool, true, false, true≢false}
 use mathlib.Core.List.{List, [], _∷_}
-use mathlib.Core.Logic.{_⊎_, inl, inr, ⊎-elim}
+use mathlib.Core.Logic.{_⊎_, ⊎-elim}
 use native.Mathlib.Decide.{ℕ-discrete, decLe, decLt}
 use native.Mathlib.Nat.{le-max-left, le-max-right}
 use native.Mathlib.Omega.{arith}
@@ -22,7 +22,7 @@ use Rattle.dag_order.specs.Laws.Ahead.{ahead-higher, finish-opened}
 use Rattle.dag_chain.specs.WorkAndSpan.{weigh}
 use Rattle.dag_chain.specs.Terms.{Linked}
 use Rattle.dag_chain.specs.Laws.Lasting.{lasts-end, lasts-async, lasts-finish, lasts-most}
-use Rattle.dag_chain.specs.Laws.Times.{ended, ended-is, ended-most, span-lasts}
+use Rattle.dag_chain.specs.Laws.Times.{ended-is, ended-most, span-lasts}
 
 -- ---- weights of lists
 

@@ -5,7 +5,7 @@ use mathlib.Core.Path.{_≡_, refl, sym, ap, _∙_}
 use mathlib.Core.Bool.{Bool, true, false, cond, _&&_, true≢false}
 use mathlib.Core.List.{List, [], _∷_, zipWith}
 use mathlib.Core.Logic.{_⊎_, inl, inr, ⊎-elim}
-use mathlib.Core.Option.{Option, none, some}
+use mathlib.Core.Option.{none, some}
 use native.Mathlib.Decide.{ℕ-discrete, decLt}
 use native.Mathlib.Nat.{le-antisymm}
 use native.Mathlib.Omega.{arith}
@@ -15,7 +15,7 @@ use borrow.Author.Tests.{eq-eqb, eqb-true, le-leb, lt-leb}
 use Rattle.rules.specs.Bytes.{count, find}
 use Rattle.rules.specs.Traces.{largest}
 use Rattle.rules_dag.specs.Precedence.{mustPrecede}
-use Rattle.rules_dag.specs.Spans.{span, lasts, fromsOf, chainFrom, chain}
+use Rattle.rules_dag.specs.Spans.{span, fromsOf, chainFrom, chain}
 use Rattle.tree.specs.Laws.Counts.{length-count, count-at}
 use Rattle.tree.specs.Laws.Largest.{largest-most, largest-stands}
 use Rattle.tree_scan.specs.Laws.Shape.{Shape}
@@ -28,7 +28,7 @@ use Rattle.dag_chain.specs.WorkAndSpan.{weigh}
 use Rattle.dag_chain.specs.Terms.{onward, pending, path, walked, Pending, remains, Linked}
 use Rattle.dag_chain.specs.Laws.Times.{span-lasts}
 use Rattle.dag_chain.specs.Laws.Bounds.{weigh-cons, weigh-one, linked-within}
-use Rattle.dag_chain.specs.Laws.Walk.{remains-root, remains-most, self-inside, pending-root, Goes, goes, Best, best}
+use Rattle.dag_chain.specs.Laws.Walk.{remains-root, remains-most, self-inside, pending-root, goes, best}
 use Rattle.dag_chain.specs.Laws.Walk.{path-last, path-more}
 
 -- ---- lists

@@ -1,27 +1,25 @@
 -- The statement, put together: the bytes that an accepted call leaves are the walk's, and the walk leads every chain of the span's weight.
-use Prim.Native.Nat.{ℕ, zero, suc, _+_, _*_, _≤_, _<_}
-use mathlib.Core.Path.{_≡_, refl, sym, ap, _∙_}
-use mathlib.Core.Bool.{Bool, true, false}
-use mathlib.Core.List.{List, [], _∷_, _++_, map, flatten}
-use mathlib.Core.Logic.{_⊎_, inl, inr, ⊎-elim}
+use Prim.Native.Nat.{ℕ, _+_, _*_, _≤_, _<_}
+use mathlib.Core.Path.{_≡_, refl, sym, _∙_}
+use mathlib.Core.Bool.{true}
+use mathlib.Core.List.{List, [], _∷_, map}
+use mathlib.Core.Logic.{_⊎_}
 use native.Mathlib.Decide.{ℕ-discrete}
 use native.Mathlib.Omega.{arith}
-use lib.ListN.{length, take, drop, getD, length-map}
+use lib.ListN.{length, take, drop}
 use lib.Seq.{take-at}
-use lib.Dec.{eqb}
 use borrow.Author.Tests.{eq-eqb, ne-eqb}
-use Rattle.rules.specs.Bytes.{littleEndian, twoBytes, records, accepted}
-use Rattle.rules.specs.Tree.{kinds, weights, taskEnd, treeVerdict}
+use Rattle.rules.specs.Bytes.{littleEndian, twoBytes, records}
+use Rattle.rules.specs.Tree.{kinds, weights}
 use Rattle.rules.specs.Calls.{written}
-use Rattle.rules_dag.specs.Precedence.{Precedes}
-use Rattle.rules_dag.specs.Spans.{work, span, lasts, chain, chainBytes, Spanned, spanVerdict, spanOf, spanRefused, spanCall}
-use Rattle.buffers.specs.Laws.Records.{Wide, wide-map, flat-length, flatten-records}
+use Rattle.rules_dag.specs.Spans.{work, span, lasts, chain, chainBytes, spanVerdict, spanOf, spanRefused, spanCall}
+use Rattle.buffers.specs.Laws.Records.{wide-map, flat-length, flatten-records}
 use Rattle.tree.specs.Laws.Records.{number-back, length-kinds, length-weights}
 use Rattle.tree.specs.Laws.Verdicts.{first-accepts}
 use Rattle.tree_scan.specs.Laws.Shape.{Inside, Shape}
 use Rattle.tree_scan.specs.Laws.Frames.{Frame, endAt, sizeAt, end-size, accepted-frame}
 use Rattle.tree_tables.specs.Terms.{weightBefore}
-use Rattle.dag_order.specs.Laws.Ahead.{ahead-higher, precedes-ahead, ahead-precedes}
+use Rattle.dag_order.specs.Laws.Ahead.{precedes-ahead, ahead-precedes}
 use Rattle.dag_chain.specs.WorkAndSpan.{Chain, weigh, goesBefore, FromStep, starts, ends, listed, WorkAndSpan}
 use Rattle.dag_chain.specs.Terms.{walked, Linked}
 use Rattle.dag_chain.specs.Laws.Times.{ended, begun, ended-is, ended-most, precedes-ended, starts-with, inside-ends, inside-last}

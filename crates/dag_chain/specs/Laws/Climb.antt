@@ -1,23 +1,22 @@
 -- Where the walk goes on from an end: over the ends of the tasks that it is in, up to the first that is a finish child's. What follows that
 -- is the nearest of the pending steps.
-use Prim.Native.Nat.{ℕ, zero, suc, _+_, _≤_, _<_}
+use Prim.Native.Nat.{ℕ, suc, _+_, _≤_, _<_}
 use mathlib.Core.Path.{_≡_, refl, sym, ap, _∙_}
-use mathlib.Core.Bool.{Bool, true, false, cond, true≢false}
+use mathlib.Core.Bool.{Bool, true, false, true≢false}
 use mathlib.Core.List.{List, [], _∷_}
-use mathlib.Core.Logic.{_⊎_, inl, inr, ⊎-elim}
+use mathlib.Core.Logic.{_⊎_, inr, ⊎-elim}
 use native.Mathlib.Decide.{ℕ-discrete, decLe, decLt}
 use native.Mathlib.Omega.{arith}
 use lib.ListN.{length, getD}
 use Rattle.rules.specs.Bytes.{sum}
 use Rattle.rules.specs.Tree.{kindAt, isFinish, cont}
-use Rattle.rules_dag.specs.Spans.{lasts}
 use Rattle.tree_scan.specs.Laws.Shape.{Inside, Shape, child-inside, inside-end, nested}
 use Rattle.tree_scan.specs.Laws.Frames.{endAt, sizeAt}
-use Rattle.tree_scan.specs.Laws.Places.{Part, part}
+use Rattle.tree_scan.specs.Laws.Places.{part}
 use Rattle.tree_scan.specs.Laws.Openings.{Opened, opened, finish-opens}
-use Rattle.dag_order.specs.Terms.{Ahead, Across}
+use Rattle.dag_order.specs.Terms.{Ahead}
 use Rattle.dag_order.specs.Laws.Ahead.{finish-opened, ahead-higher}
-use Rattle.dag_chain.specs.Terms.{nearest, openNext, onward, Pending, remains, Follows, Holds, Held, NoneBefore, Climbing}
+use Rattle.dag_chain.specs.Terms.{nearest, onward, Pending, remains, Follows, Holds, Held, NoneBefore, Climbing}
 use Rattle.dag_chain.specs.Terms.{AfterFinish, NextStep}
 use Rattle.dag_chain.specs.Laws.Lasting.{lasts-end}
 use Rattle.dag_chain.specs.Laws.Walk.{self-inside}

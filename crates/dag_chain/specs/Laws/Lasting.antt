@@ -1,13 +1,13 @@
 -- How long the rest of a task lasts with all that it spawned, as equations: more records than remain change nothing.
 use Prim.Native.Nat.{ℕ, zero, suc, _+_, _-_, _*_, _≤_, _<_, max}
-use mathlib.Core.Path.{_≡_, refl, sym, ap, _∙_}
+use mathlib.Core.Path.{_≡_, refl, sym, _∙_}
 use mathlib.Core.Bool.{Bool, true, false}
 use mathlib.Core.List.{List}
 use native.Mathlib.Nat.{max-le}
 use native.Mathlib.Omega.{arith}
 use lib.ListN.{length, getD}
-use Rattle.rules.specs.Tree.{kindAt, isEnd, isFinish, cont}
-use Rattle.rules_dag.specs.Spans.{taskLasts, restLasts, lasts}
+use Rattle.rules.specs.Tree.{kindAt, isFinish, cont}
+use Rattle.rules_dag.specs.Spans.{restLasts, lasts}
 use Rattle.tree_scan.specs.Laws.Shape.{Shape, child-inside, tree-ind}
 use Rattle.tree_scan.specs.Laws.Frames.{endAt, sizeAt, cont-after}
 use Rattle.tree_scan.specs.Laws.Openings.{opened, finish-opens}

@@ -1,10 +1,10 @@
 -- When steps start and end. A step ends its weight after its start, which is the latest end of what precedes it by one link; so the steps
 -- from x to the end of x's task, with all that they spawn, end at the latest when what x lasts is over, and one of them then. For the
 -- root that is the span.
-use Prim.Native.Nat.{ℕ, zero, suc, _+_, _-_, _≤_, _<_, max}
+use Prim.Native.Nat.{ℕ, zero, suc, _+_, _-_, _≤_, _<_}
 use mathlib.Core.Path.{_≡_, refl, sym, ap, _∙_}
 use mathlib.Core.Bool.{Bool, true, false, cond, true≢false}
-use mathlib.Core.List.{List, [], _∷_, _++_, map}
+use mathlib.Core.List.{List, [], map}
 use mathlib.Core.Logic.{_⊎_, inl, inr, ⊎-elim}
 use native.Mathlib.Nat.{le-antisymm, le-max-left, le-max-right}
 use native.Mathlib.Omega.{arith}
@@ -22,7 +22,7 @@ use Rattle.tree_scan.specs.Laws.Frames.{endAt, sizeAt, cont-after}
 use Rattle.tree_scan.specs.Laws.Openings.{opened, into-child, into-cont}
 use Rattle.dag_order.specs.Terms.{Directly}
 use Rattle.dag_order.specs.Laws.Links.{directly-is, is-directly}
-use Rattle.dag_order.specs.Laws.Ahead.{direct-higher, precedes-higher, link-child, link-cont, link-finish, links-child, links-cont}
+use Rattle.dag_order.specs.Laws.Ahead.{direct-higher, link-child, link-cont, link-finish, links-child, links-cont}
 use Rattle.dag_chain.specs.Laws.Lasting.{lasts-end, lasts-async, lasts-finish}
 
 -- ---- the list of ends

@@ -1,11 +1,7 @@
 -- `dag_span::measure` meets its contract: the tables have room for an accepted tree, the walk writes the rules' chain, and what the
 -- root lasts is the span. Assumes nothing.
-use Prim.Native.Nat.{_*_, _≤_}
-use mathlib.Core.Path.{_≡_}
 use native.Mathlib.Omega.{arith}
-use lib.ListN.{length}
 use borrow.Author.Needs.{needs}
-use Rattle.rules.specs.Tree.{kinds}
 use Rattle.tree_scan.specs.Laws.Frames.{Frame, accepted-frame}
 use Rattle.dag_span.specs.Laws.Results.{measured}
 use Rattle.dag_span.proofs.measure.Statement.{statement}

@@ -1,10 +1,10 @@
 -- The answers of a call, and its returns: refused by the tree, for a short buffer, or accepted.
 use Prim.Native.Nat.{ℕ, _*_, _≤_, _<_}
 use mathlib.Core.Path.{_≡_, refl, sym, ap, _∙_}
-use mathlib.Core.List.{List, [], _∷_}
+use mathlib.Core.List.{List}
 use native.Mathlib.Omega.{arith}
 use lib.ListN.{length}
-use borrow.Author.Tests.{eq-eqb, ne-eqb, lt-ltb, le-ltb}
+use borrow.Author.Tests.{eq-eqb, lt-ltb, le-ltb}
 use Rattle.rules.specs.Bytes.{Verdict, accepted, refusedIf, firstRefused}
 use Rattle.rules.specs.Tree.{kinds, weights, treeVerdict}
 use Rattle.rules_dag.specs.Spans.{work, lasts, spanVerdict, spanOf, spanRefused, spanCall}

@@ -1,7 +1,7 @@
 -- `dag_walk::after_finish` meets its contract: the climb passes the ends of tasks that are no finish children, and some finish child has
 -- the step, so it comes to that child's end. Assumes nothing.
-use Prim.Native.Nat.{_-_, _<_}
-use mathlib.Core.Path.{_≡_, sym, _∙_}
+use Prim.Native.Nat.{_-_}
+use mathlib.Core.Path.{_≡_, sym}
 use native.Mathlib.Omega.{arith}
 use lib.ListN.{length, getD}
 use borrow.Author.Needs.{needs}

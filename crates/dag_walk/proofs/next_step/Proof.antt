@@ -1,6 +1,6 @@
 -- `dag_walk::next_step` meets its contract: each return is a case of where the chain goes on, and the tables have what the two parts of
 -- an opening step last. Assumes nothing.
-use Prim.Native.Nat.{ℕ, suc, _+_, _≤_, _<_}
+use Prim.Native.Nat.{suc, _+_, _<_}
 use mathlib.Core.Path.{_≡_, sym, _∙_}
 use native.Mathlib.Omega.{arith}
 use lib.ListN.{length, getD}

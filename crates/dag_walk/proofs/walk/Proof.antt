@@ -1,9 +1,9 @@
 -- `dag_walk::walk` meets its contract: what is written and the walk from the step on are together the walk from the root, which is the
 -- rules' chain; each step is higher than the one before, so there are no more of them than the buffer has room for. Assumes nothing.
-use Prim.Native.Nat.{_-_, _*_, _≤_, _<_}
-use mathlib.Core.Path.{_≡_, ap, _∙_}
+use Prim.Native.Nat.{_-_}
+use mathlib.Core.Path.{_∙_}
 use native.Mathlib.Omega.{arith}
-use lib.ListN.{length, getD}
+use lib.ListN.{length}
 use borrow.Author.Needs.{needs}
 use Rattle.rules.specs.Tree.{kinds, weights}
 use Rattle.tree_scan.specs.Laws.Frames.{Frame}

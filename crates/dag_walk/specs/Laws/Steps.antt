@@ -3,18 +3,17 @@ use Prim.Native.Nat.{ℕ, suc, pred, _+_, _≤_, _<_}
 use mathlib.Core.Path.{_≡_, refl, sym, ap, _∙_}
 use mathlib.Core.Bool.{Bool, true, false, cond, true≢false}
 use mathlib.Core.List.{List}
-use mathlib.Core.Option.{Option, none, some, Option·none-ne-some}
+use mathlib.Core.Option.{none, some, Option·none-ne-some}
 use native.Mathlib.Numerals.{add-one}
 use native.Mathlib.Omega.{arith}
 use lib.ListN.{length, getD}
 use borrow.Author.Tests.{ne-eqb, le-leb, lt-leb}
-use Rattle.rules.specs.Tree.{kinds, weights, kindAt, isEnd, isFinish, taskEnd, cont, finishBefore}
+use Rattle.rules.specs.Tree.{kinds, weights, kindAt, isEnd, isFinish, cont, finishBefore}
 use Rattle.rules_dag.specs.Spans.{lasts}
-use Rattle.tree_scan.specs.Laws.Shape.{after, Shape, child-inside}
+use Rattle.tree_scan.specs.Laws.Shape.{after, child-inside}
 use Rattle.tree_scan.specs.Laws.Frames.{Frame, endAt, sizeAt, end-size, accepted-frame, cont-after}
 use Rattle.tree_scan.specs.Laws.Places.{last-step, finish-cont}
 use Rattle.tree_scan.specs.Laws.Openings.{opened}
-use Rattle.tree_tables.specs.Terms.{Opener}
 use Rattle.tree_tables.specs.Laws.Filling.{cont-at, end-kind, open-kind}
 use Rattle.dag_chain.specs.Terms.{openNext, Held, Climbing, AfterFinish, NextStep}
 use Rattle.dag_chain.specs.Laws.Climb.{climb-start, climb-turn, climb-done}

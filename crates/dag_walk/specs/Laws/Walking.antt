@@ -1,13 +1,11 @@
 -- The walk, turn by turn: what is written and the walk from the step on are together the whole walk.
-use Prim.Native.Nat.{ℕ, zero, suc, _+_, _-_, _*_, _/_, _%_, _≤_, _<_}
+use Prim.Native.Nat.{ℕ, suc, _+_, _-_, _*_, _/_, _%_, _≤_, _<_}
 use mathlib.Core.Path.{_≡_, refl, sym, ap, _∙_}
 use mathlib.Core.Bool.{true}
 use mathlib.Core.List.{List, [], _∷_, _++_, flatten, append-assoc}
-use native.Mathlib.Numerals.{add-one}
 use native.Mathlib.Omega.{arith}
 use lib.ListN.{length, getD, length-append}
 use Rattle.rules.specs.Bytes.{twoBytes}
-use Rattle.rules.specs.Tree.{kinds, weights}
 use Rattle.rules.specs.Calls.{written}
 use Rattle.rules_dag.specs.Spans.{lasts, chain as chainSteps, chainBytes}
 use Rattle.buffers.specs.Terms.{eventPut}
@@ -15,7 +13,7 @@ use Rattle.buffers.specs.Laws.Records.{flat-one}
 use Rattle.buffers.specs.Laws.Fronts.{event-written, length-written}
 use Rattle.tree_scan.specs.Laws.Shape.{Shape}
 use Rattle.tree_scan.specs.Laws.Frames.{endAt, sizeAt}
-use Rattle.dag_chain.specs.Terms.{onward, pending, path, walked, Pending, remains, Held, NextStep}
+use Rattle.dag_chain.specs.Terms.{onward, pending, walked, remains, Held, NextStep}
 use Rattle.dag_chain.specs.Laws.Walk.{remains-root, pending-root, Goes, goes-higher, goes, path-last, path-more}
 use Rattle.dag_chain.specs.Laws.Choice.{chain-walked}
 use Rattle.dag_chain.specs.Laws.Climb.{left-held, next-onward}

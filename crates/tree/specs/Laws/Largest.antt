@@ -1,11 +1,11 @@
 -- The largest number of a list: none is larger, it is at most what bounds each, and it stands in the list or is 0. Then of what a
 -- function makes of the numbers of an interval.
 use Prim.Native.Nat.{ℕ, zero, suc, _+_, _-_, _≤_, _<_, max}
-use mathlib.Core.Path.{_≡_, refl, sym, ap, _∙_}
+use mathlib.Core.Path.{_≡_, refl, sym, _∙_}
 use mathlib.Core.List.{List, [], _∷_, map}
 use mathlib.Core.Logic.{_⊎_, inl, inr, ⊎-elim}
 use native.Mathlib.Decide.{decLe}
-use native.Mathlib.Nat.{le-max-left, le-max-right, max-le, max-eq-left, max-eq-right, lt-of-not-le}
+use native.Mathlib.Nat.{le-max-left, le-max-right, max-le, max-eq-left, max-eq-right}
 use native.Mathlib.Omega.{arith}
 use lib.ListN.{length, getD}
 use Rattle.rules.specs.Bytes.{count}
