@@ -544,3 +544,16 @@ fn stack_of_a_call() {
         assert!(used <= MOST_STACK, "seed {seed}: {used} bytes");
     }
 }
+
+/// The stack grows with the tasks that are open together, at most 64, and not with the children of a task: a function that called
+/// itself for the next child would be 2,047 deep in a flat tree.
+#[test]
+fn stack_by_open_tasks() {
+    let one = stack_of(&tree_of_kinds(&[3]));
+    for kind in [1, 2] {
+        let flat = stack_of(&tree_of_kinds(&[[kind, 3].repeat(2_047), vec![3]].concat()));
+        assert!(flat <= one + 512, "flat {flat}, one step {one}");
+        let deep = stack_of(&tree_of_kinds(&[vec![kind; 63], vec![3; 64]].concat()));
+        assert!(deep > flat && deep <= one + 64 * 160, "deep {deep}, one step {one}");
+    }
+}
