@@ -1,6 +1,7 @@
 //! Work, span and chain: whole calls, on trees whose steps have weights.
 
 use std::hint::black_box;
+use std::ops::Range;
 
 use frame_bench::cases::{
     tree, tree_of_one_kind, weighed, Shape, Way, ASYNC, COUNTS, FINISH, LARGEST, SEEDS, SHAPES, WEIGHTS,
@@ -63,6 +64,13 @@ impl SpanCase {
     }
 }
 
+/// At every size so many inputs that they have as many steps in all: of few small trees a processor would learn every branch, and
+/// larger ones would seem to take longer by step.
+fn seeds(n: usize) -> Range<u64> {
+    let largest = SEEDS.count() * LARGEST;
+    SEEDS.start..SEEDS.start + (largest / n) as u64
+}
+
 fn label(shape: &str, n: usize, weights: &str, length: usize) -> String {
     format!("{shape:9}{n:>5}  {weights:10}{length:>24}")
 }
@@ -79,7 +87,7 @@ pub fn table() {
         for (shape, growth) in &mut growth {
             for weights in WEIGHTS {
                 let case = |seed| SpanCase::new(weighed(weights, tree(*shape, n, seed), seed));
-                let (length, times) = SpanCase::times(&mut SEEDS.map(case).collect::<Vec<_>>());
+                let (length, times) = SpanCase::times(&mut seeds(n).map(case).collect::<Vec<_>>());
                 table.labelled_line(n, &label(shape.0, n, weights.0, length), times);
                 growth.add(n, times);
             }

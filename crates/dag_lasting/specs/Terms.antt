@@ -6,6 +6,7 @@ use lib.ListN.{length, getD}
 use Rattle.rules.specs.Tree.{mostSteps, kinds, treeVerdict}
 use Rattle.rules_dag.specs.Spans.{lasts}
 use Rattle.tree_scan.specs.Laws.Frames.{sizeAt}
+use Rattle.tree_tables.specs.Laws.Filling as tables
 
 -- The most that four bytes can weigh.
 abbrev pub mostWeight : ℕ
@@ -28,6 +29,10 @@ Lasting ks ws table a b = (j : ℕ) → a ≤ j → j < b → Lasts ks ws j (get
 pub record Filled (ks ws before table : List ℕ) (a b : ℕ) : Type 0 where
   pub lasting : Lasting ks ws table a (suc b)
   pub kept : (j : ℕ) → b < j → getD table j 0 ≡ getD before j 0
+
+-- The tables of ends and of openers have what the steps from j on tell, and are as long as they were.
+abbrev pub Tabled : List ℕ → List ℕ → List ℕ → List ℕ → List ℕ → ℕ → Type 0
+Tabled ks ends₀ openers₀ ends openers j = tables.Filled ks ends₀ openers₀ ends openers j
 
 -- It has room for each step of an accepted tree, of which i is one.
 pub record Room (tree table : List ℕ) (i : ℕ) : Type 0 where

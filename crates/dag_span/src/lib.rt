@@ -58,8 +58,7 @@ fn measure(tree: &[u8], chain: &mut [u8]) -> Spanned
     let mut ends: [u16; MOST_STEPS] = [0; MOST_STEPS];
     let mut openers: [u16; MOST_STEPS] = [0; MOST_STEPS];
     let mut lasting: [u64; MOST_STEPS] = [0; MOST_STEPS];
-    tree_tables::fill(tree, &mut ends, &mut openers);
-    dag_lasting::fill(tree, &mut lasting);
+    dag_lasting::fill(tree, &mut lasting, &mut ends, &mut openers);
     let length = dag_walk::walk(tree, &ends, &openers, &lasting, chain);
     Spanned {
         number: 0,

@@ -9,15 +9,15 @@ use native.Mathlib.Omega.{arith}
 use lib.ListN.{length, getD, set, length-set}
 use lib.Seq.{getD-set-other}
 use borrow.Author.Tests.{eqb-true}
-use Rattle.rules.specs.Tree.{mostSteps, kinds, weights, kindAt, isEnd, isFinish, task, cont}
+use Rattle.rules.specs.Tree.{mostSteps, kinds, weights, treeVerdict, kindAt, isEnd, isFinish, task, cont}
 use Rattle.tree_scan.specs.Laws.Shape.{Shape, child-inside}
 use Rattle.tree_scan.specs.Laws.Frames.{Frame, endAt, sizeAt, accepted-frame}
 use Rattle.tree_scan.specs.Laws.Places.{part, root-first, task-child, task-cont, last-step}
 use Rattle.tree_scan.specs.Laws.Openings.{opened}
-use Rattle.tree_tables.specs.Laws.Filling.{stored}
+use Rattle.tree_tables.specs.Laws.Filling.{stored, fill-end, fill-open}
 use Rattle.dag_chain.specs.Terms.{joined}
 use Rattle.dag_chain.specs.Laws.Lasting.{lasts-end, lasts-open, lasts-most}
-use Rattle.dag_lasting.specs.Terms.{mostWeight, longest, Lasts, Lasting, Filled, Room}
+use Rattle.dag_lasting.specs.Terms.{mostWeight, longest, Lasts, Lasting, Filled, Tabled, Room}
 
 -- ---- where children end
 
@@ -132,6 +132,60 @@ pub filled-stored : {ks ws table : List ℕ} {a b : ℕ} (old : List ℕ) (w : �
     → Filled ks ws old table a b
 filled-stored {b = b} old w f =
     record { lasting = f .lasting; kept = λ j l. f .kept j l ∙ getD-set-other old b j w 0 (λ s. omega arith) }
+
+-- ---- the tree's tables
+
+module _ {ks ends₀ openers₀ ends openers : List ℕ} {j : ℕ} (t : Tabled ks ends₀ openers₀ ends openers j) where
+  -- What goes on from filled tables takes them for the old ones,
+  pub tabled-again : Tabled ks ends openers ends openers j
+  tabled-again =
+      record {
+        within = t .within;
+        room-ends = t .room-ends;
+        room-openers = t .room-openers;
+        same-ends = refl;
+        same-openers = refl;
+        ended = t .ended;
+        opened = t .opened;
+      }
+
+  pub tabled-back : 0 < j → Tabled ks ends openers ends openers (suc (j - 1))
+  tabled-back z =
+      let same : suc (j - 1) ≡ j = omega arith in
+      rw same tabled-again
+
+  -- and leaves them as long as they were before.
+  pub tabled-through : {ends₁ openers₁ : List ℕ} {i : ℕ} → Tabled ks ends openers ends₁ openers₁ i
+      → Tabled ks ends₀ openers₀ ends₁ openers₁ i
+  tabled-through u =
+      record {
+        within = u .within;
+        room-ends = u .room-ends;
+        room-openers = u .room-openers;
+        same-ends = u .same-ends ∙ t .same-ends;
+        same-openers = u .same-openers ∙ t .same-openers;
+        ended = u .ended;
+        opened = u .opened;
+      }
+
+module _ (tree : List ℕ) {ends₀ openers₀ ends openers : List ℕ} (accepts : treeVerdict tree .number ≡ 0) where
+  -- An end's task ends with it,
+  pub tabled-end : {j : ℕ} → endAt (kinds tree) j ≡ true → Tabled (kinds tree) ends₀ openers₀ ends openers (suc j)
+      → Tabled (kinds tree) ends₀ openers₀ (set ends j (j + 1)) openers j
+  tabled-end {j} e t = fill-end (kinds tree) (accepted-frame tree accepts .shape) _ _ _ _ j t e
+
+  -- and an opener's where its continuation's does; it opened both its parts.
+  pub tabled-open : {first at : ℕ} → Child (kinds tree) first at → Tabled (kinds tree) ends₀ openers₀ ends openers first
+      → let opener = first - 1 in
+      Tabled (kinds tree) ends₀ openers₀ (set ends opener (getD ends at 0)) (set (set openers first opener) at opener) opener
+  tabled-open {first} {at} c t =
+      let sh = accepted-frame tree accepts .shape in
+      let one : suc (first - 1) ≡ first = omega (arith, c .some) in
+      let plus : (first - 1) + 1 ≡ first = omega (arith, c .some) in
+      let filled = fill-open (kinds tree) sh ends₀ openers₀ ends openers (first - 1) (rw one t) (c .opens) at (c .next) in
+      rw plus at filled
+
+-- ---- the walk's turns
 
 module _ {tree old table : List ℕ} {from at : ℕ} (p : Passed tree old table from at) where
   abbrev ks : List ℕ

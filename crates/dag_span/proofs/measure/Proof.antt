@@ -10,13 +10,10 @@ use Rattle.dag_span.proofs.measure.Tie as tie
 -- ---- places
 
 abbrev entry : tie.After-fill → tie.Start
-entry c = c .before .before .before .before .before
+entry c = c .before .before .before .before .before .before
 
-abbrev filled : tie.After-fill2 → tie.After-fill
-filled c = c .before .before .before .before
-
-abbrev lasted : tie.After-walk → tie.After-fill2
-lasted c = c .before .before .before .before .before .before
+abbrev filled : tie.After-walk → tie.After-fill
+filled c = c .before .before .before .before .before .before .before .before
 
 frame : (c : tie.Start) → Frame (c .args .tree .now)
 frame c = accepted-frame (c .args .tree .now) (c .pre .0)
@@ -29,18 +26,14 @@ slice-aggregate-fill c = search needs
 slice-aggregate-fill-2 : tie.Need-slice-aggregate-fill-2
 slice-aggregate-fill-2 c = search needs
 
-fill-requires : tie.Need-fill-requires
-fill-requires c κs =
-    let at = c .before .before .before .before in
-    (at .pre .0, (frame at .most, frame at .most))
-
 slice-aggregate-fill-3 : tie.Need-slice-aggregate-fill-3
 slice-aggregate-fill-3 c = search needs
 
-fill-requires-2 : tie.Need-fill-requires-2
-fill-requires-2 c κs =
-    let at = entry (c .before .before .before) in
-    (at .pre .0, frame at .most)
+fill-requires : tie.Need-fill-requires
+fill-requires c κs =
+    let at = c .before .before .before .before .before in
+    let most = frame at .most in
+    (at .pre .0, (most, (most, most)))
 
 slice-aggregate-walk : tie.Need-slice-aggregate-walk
 slice-aggregate-walk c = search needs
@@ -53,18 +46,19 @@ slice-aggregate-walk-3 c = search needs
 
 walk-requires : tie.Need-walk-requires
 walk-requires c κs =
-    let lasting = c .before .before .before .before .before in
-    let tables = filled lasting in
+    let tables = c .before .before .before .before .before .before .before in
     let at = entry tables in
-    let most = frame at .most in (
+    let most = frame at .most in
+    let e = tables .fill .ensures in
+    let kept = tables .fill .kept .1 in (
       record {
         accepts = at .pre .0;
-        roomEnds = omega (arith, most, tables .fill .kept .1 .0);
-        roomOpeners = omega (arith, most, tables .fill .kept .1 .1 .0);
-        endsAre = tables .fill .ensures .0;
-        openersAre = tables .fill .ensures .1;
+        roomEnds = omega (arith, most, kept .1 .0);
+        roomOpeners = omega (arith, most, kept .1 .1 .0);
+        endsAre = e .1 .0;
+        openersAre = e .1 .1;
       },
-      (record { room = omega (arith, most, lasting .fill2 .kept .1 .0); all = lasting .fill2 .ensures }, at .pre .1),
+      (record { room = omega (arith, most, kept .0); all = e .0 }, at .pre .1),
     )
 
 work-requires : tie.Need-work-requires
@@ -79,9 +73,9 @@ same-length c = search needs
 returns : tie.Need-returns
 returns c =
     let walked = c .before .before .before in
-    let lasting = lasted walked in
-    let at = entry (filled lasting) in
-    let root = lasting .fill2 .ensures 0 (omega arith) (frame at .some) .0 in
+    let tables = filled walked in
+    let at = entry tables in
+    let root = tables .fill .ensures .0 0 (omega arith) (frame at .some) .0 in
     measured _ _ (at .pre .0) _ _ (walked .walk .ensures) _ _ (c .work .ensures) root
 
 pub measure-spec : {M : Type 1} → statement M
@@ -90,9 +84,8 @@ measure-spec =
     (tie.spec
     slice-aggregate-fill
     slice-aggregate-fill-2
-    fill-requires
     slice-aggregate-fill-3
-    fill-requires-2
+    fill-requires
     slice-aggregate-walk
     slice-aggregate-walk-2
     slice-aggregate-walk-3
