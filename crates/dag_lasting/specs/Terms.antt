@@ -1,4 +1,4 @@
--- What the table has. `ks` are the tree's kinds and `ws` its weights.
+-- What the tables have. `ks` are the tree's kinds and `ws` its weights.
 use Prim.Native.Nat.{ℕ, suc, _*_, _≤_, _<_}
 use mathlib.Core.Path.{_≡_}
 use mathlib.Core.List.{List}
@@ -21,7 +21,7 @@ longest = mostSteps * mostWeight
 abbrev pub Lasts : List ℕ → List ℕ → ℕ → ℕ → Type 0
 Lasts ks ws j x = (x ≡ lasts ks ws j) × (lasts ks ws j ≤ sizeAt ks j * mostWeight)
 
--- The table has it for each step from a to before b.
+-- The table of what steps last has it for each step from a to before b.
 abbrev pub Lasting : List ℕ → List ℕ → List ℕ → ℕ → ℕ → Type 0
 Lasting ks ws table a b = (j : ℕ) → a ≤ j → j < b → Lasts ks ws j (getD table j 0)
 
@@ -34,7 +34,7 @@ pub record Filled (ks ws before table : List ℕ) (a b : ℕ) : Type 0 where
 abbrev pub Tabled : List ℕ → List ℕ → List ℕ → List ℕ → List ℕ → ℕ → Type 0
 Tabled ks ends₀ openers₀ ends openers j = tables.Filled ks ends₀ openers₀ ends openers j
 
--- It has room for each step of an accepted tree, of which i is one.
+-- A table has room for each step of an accepted tree, of which i is one.
 pub record Room (tree table : List ℕ) (i : ℕ) : Type 0 where
   pub accepts : treeVerdict tree .number ≡ 0
   pub step : i < length (kinds tree)
