@@ -5,3 +5,4 @@
 --     Additions    cases of buckets, of histograms that traces are added to, and of refusals
 pub mod Limits
 pub mod Histograms
+pub mod Additions
