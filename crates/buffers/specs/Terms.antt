@@ -1,7 +1,11 @@
--- What storing a record leaves in an array.
+-- A number as it is read from bytes, and what storing a record leaves in an array.
 use Prim.Native.Nat.{ℕ, _+_, _*_, _/_, _%_}
 use mathlib.Core.List.{List}
-use lib.ListN.{set}
+use lib.ListN.{getD, set}
+
+-- The number of the two bytes at a place.
+unfoldable pub numberAt : List ℕ → ℕ → ℕ
+numberAt bytes at = getD bytes at 0 + 256 * getD bytes (at + 1) 0
 
 -- Record k of a log, a trace or a run list: two bytes and a number of two bytes.
 unfoldable pub recordPut : List ℕ → ℕ → ℕ → ℕ → ℕ → List ℕ

@@ -5,7 +5,7 @@ ghost use Prim.Native.Nat.{_+_, _*_, _≤_};
 ghost use lib.ListN.{length, take};
 ghost use Rattle.rules.specs.Bytes.{wholeRecords};
 ghost use Rattle.rules.specs.Calls.{written};
-ghost use Rattle.buffers.specs.Terms.{eventPut, recordPut};
+ghost use Rattle.buffers.specs.Terms.{numberAt, eventPut, recordPut};
 
 // Bytes of a record of a log, a trace or a run list.
 pub const RECORD: usize = 4;
@@ -18,6 +18,14 @@ pub fn two_bytes(low: u8, high: u8) -> u16
     ensures { λ r. ⌜ r ≡ low + 256 * high ⌝ }
 {
     low as u16 + 256 * (high as u16)
+}
+
+// The number of the two bytes at a place.
+pub fn number_at(bytes: &[u8], at: usize) -> usize
+    requires { ⌜ at + 2 ≤ length (now bytes) ⌝ }
+    ensures { λ r. ⌜ r ≡ numberAt (now (bytes .entry)) at ⌝ }
+{
+    two_bytes(bytes[at], bytes[at + 1]) as usize
 }
 
 // Whether bytes are whole records of a width, and not too many.

@@ -4,17 +4,9 @@ ghost use Prim.Native.Nat.{_+_, _*_, _≤_};
 ghost use lib.ListN.{length};
 ghost use Rattle.rules.specs.Calls.{written};
 ghost use Rattle.phases_text.specs.Contract.{mostLine};
-ghost use Rattle.phases_text.specs.Line.Terms.{numberAt, workerBy, linesOf, Phased};
+ghost use Rattle.phases_text.specs.Line.Terms.{workerBy, linesOf, Phased};
 use super::number::put_line;
 use tree::Phase;
-
-// The number of the two bytes at a place.
-fn number_at(bytes: &[u8], at: usize) -> usize
-    requires { ⌜ at + 2 ≤ length (now bytes) ⌝ }
-    ensures { λ r. ⌜ r ≡ numberAt (now (bytes .entry)) at ⌝ }
-{
-    buffers::two_bytes(bytes[at], bytes[at + 1]) as usize
-}
 
 // The worker of a phase: worker 0 of phase 0, of a later one the thief of the trace record that began it.
 fn worker_of(trace: &[u8], phase: Phase) -> usize
@@ -44,8 +36,8 @@ pub fn put_lines(text: &mut [u8], trace: &[u8], list: &[u8], records: usize) -> 
     while k < records {
         let i = buffers::RECORD * k;
         k += 1;
-        let phase = number_at(list, i);
-        let step = number_at(list, i + 2);
+        let phase = buffers::number_at(list, i);
+        let step = buffers::number_at(list, i + 2);
         let worker = worker_of(trace, Phase(phase));
         at += put_line(&mut text[at..], phase, worker, step);
     }

@@ -14,8 +14,8 @@ use lib.Dec.{eqb, leb}
 use borrow.Author.Tests.{eq-eqb, ne-eqb}
 use Rattle.rules.specs.Bytes.{records, accepted, firstRefused}
 use Rattle.rules.specs.Tree.{kinds, weights, treeVerdict}
-use Rattle.rules.specs.Scheduling.{mostWorkers, Phase, phaseAt, Run, workerAt, waits, isRun, judgeRun, holdsStep, judgeSteal, judgeEvent}
-use Rattle.rules.specs.Traces.{latestPhase, numberAllowed, recordNumber, judgeRead, judgeTraceRecord, replayWalk, loads}
+use Rattle.rules.specs.Scheduling.{mostWorkers, Phase, Run, workerAt, waits, isRun, judgeRun, holdsStep, judgeSteal, judgeEvent}
+use Rattle.rules.specs.Traces.{recordNumber, judgeTraceRecord, replayWalk, loads}
 use Rattle.rules.specs.Calls.{policyVerdict, countVerdict, startVerdict, Recorded, recordWalk, recordVerdict, recordOf, recordRefused}
 use Rattle.rules.specs.Calls.{recordCall, Replayed, replayVerdict, replayOf, replayRefused, replayCall}
 use Rattle.tree.specs.Laws.Verdicts.{cond-of, number-by, neither, first-accepts, first-refuses, first-passes}
@@ -33,6 +33,7 @@ use Rattle.run_spec.specs.Laws.Idle.{lowest-set, set-below}
 use Rattle.run_state.specs.declared.RunState.{RunState}
 use Rattle.run_state.specs.Contract.{fields, startAnswer, eventAnswer, idleAnswer}
 use Rattle.run_refinement.specs.Laws.AnyState.{event-setup, far-move, near-move}
+use Rattle.replay_invariant.specs.Laws.Verdicts.{read-other}
 use Rattle.loads.specs.Laws.Loads.{loads-length}
 use Rattle.loads.specs.Laws.Unused.{Unused, unused-loads, recorded-unused, replayed-unused}
 use Rattle.agreement.specs.Agreement.{refusalOf}
@@ -118,19 +119,12 @@ event-walked : (ks : List ℕ) (r : Run) (e : List ℕ)
 unfolding judgeEvent namesNone
 event-walked ks r e = number-by 8 _ _ (neither 8 (isRun e) _ _ (run-other ks r (getD e 0 0)) (steal-other r (getD e 0 0) (getD e 1 0)))
 
-read-other : (p : ℕ) (ks : List ℕ) (phs : List Phase) (v number : ℕ) → judgeRead p ks phs v number ≡ 8 → ⊥
-unfolding judgeRead
-read-other p ks phs v number = by (latestPhase v 0 phs) refl
-  where
-    by : (o : Option ℕ) → latestPhase v 0 phs ≡ o → judgeRead p ks phs v number ≡ 8 → ⊥
-    by none h = rw (h, judgeRead) (omega arith)
-    by (some k) h = rw (h, judgeRead) (neither 8 (numberAllowed p ks (phaseAt phs k) number) 0 15 (omega arith) (omega arith))
-
 record-walked : (p : ℕ) (ks : List ℕ) (w : ℕ) (phs : List Phase) (r : List ℕ)
     → eqb (judgeTraceRecord w p ks phs r) 8 ≡ namesNone w (getD r 0 0) (getD r 1 0)
 unfolding judgeTraceRecord namesNone
 record-walked p ks w phs r =
-    number-by 8 _ _ (neither 8 (eqb (getD r 0 0) (getD r 1 0)) 13 _ (omega arith) (read-other p ks phs (getD r 1 0) (recordNumber r)))
+    number-by 8 _ _ (neither 8 (eqb (getD r 0 0) (getD r 1 0)) 13 _ (omega arith)
+    (read-other 8 (omega arith) (omega arith) (omega arith) p ks phs (getD r 1 0) (recordNumber r)))
 
 -- ---- the idle workers
 

@@ -1,20 +1,21 @@
--- Records as bytes, over their width: how many bytes some of them have, one more at the end, and the bytes cut into records again. Then
--- those of a log and a trace, four bytes each; and one more stored in an array that has those before it at its front.
-use Prim.Native.Nat.{ℕ, suc, _+_, _*_, _/_, _%_, _≤_, _<_}
+-- Records as bytes, over their width: how many bytes some of them have, one more at the end, and the bytes cut into records again.
+-- Then those of a log and a trace, four bytes each; what is read from their bytes; and one more stored in an array that has those
+-- before it at its front.
+use Prim.Native.Nat.{ℕ, zero, suc, _+_, _*_, _/_, _%_, _≤_, _<_}
 use mathlib.Core.Path.{_≡_, refl, sym, _∙_}
 use mathlib.Core.Bool.{true, true≢false}
 use mathlib.Core.List.{List, [], _∷_, _++_, map, flatten, append-nil, append-assoc, map-append}
 use native.Mathlib.Decide.{ℕ-discrete}
 use native.Mathlib.Nat.{mul-zero, mul-suc, mul-div-cancel-left}
 use native.Mathlib.Omega.{arith}
-use lib.ListN.{length, take, drop, length-append, length-map, length-set}
+use lib.ListN.{length, take, drop, getD, length-append, length-map, length-set}
 use lib.Seq.{sets, sets-eq, take-at, drop-at, take-append-seam}
 use lib.Dec.{eqb}
 use borrow.Author.Tests.{eq-eqb, ne-eqb}
 use Rattle.rules.specs.Bytes.{twoBytes, cut, records, all}
 use Rattle.rules.specs.Scheduling.{Entry, Steal}
 use Rattle.rules.specs.Traces.{traceNumber, traceBytes, entryBytes}
-use Rattle.buffers.specs.Terms.{recordPut}
+use Rattle.buffers.specs.Terms.{numberAt, recordPut}
 
 -- ---- lists written one behind the other
 
@@ -117,6 +118,52 @@ module _ (p : ℕ) (ks : List ℕ) where
   trace-one steals thief victim step =
       flat-one (λ s. s .thief ∷ s .victim ∷ twoBytes (traceNumber p ks (s .step))) steals
       (record { thief = thief; victim = victim; step = step })
+
+-- ---- records of four bytes, read again
+
+-- What stands at entry i.
+abbrev pub entryAt : List Entry → ℕ → Entry
+entryAt es i = getD es i (record { phase = 0; step = 0 })
+
+module _ (rest : List ℕ) where
+  phase-first : (e : Entry) (es : List Entry) → e .phase < 65536 → numberAt (entryBytes (e ∷ es) ++ rest) 0 ≡ e .phase
+  unfolding numberAt entryBytes twoBytes flatten
+  phase-first e es h = omega arith
+
+  step-first : (e : Entry) (es : List Entry) → e .step < 65536 → numberAt (entryBytes (e ∷ es) ++ rest) 2 ≡ e .step
+  unfolding numberAt entryBytes twoBytes flatten
+  step-first e es h = omega arith
+
+  number-later : (e : Entry) (es : List Entry) (i : ℕ)
+      → numberAt (entryBytes (e ∷ es) ++ rest) (4 + i) ≡ numberAt (entryBytes es ++ rest) i
+  unfolding numberAt entryBytes twoBytes flatten
+  number-later e es i =
+      let one : 4 + i ≡ suc (suc (suc (suc i))) = omega arith in
+      let two : suc (suc (suc (suc i))) + 1 ≡ suc (suc (suc (suc (i + 1)))) = omega arith in
+      rw (one, two) refl
+
+  -- A field of entry i, by what its bytes are in the first.
+  number-at : (field : Entry → ℕ) (at : ℕ)
+      → ((e : Entry) (es : List Entry) → field e < 65536 → numberAt (entryBytes (e ∷ es) ++ rest) at ≡ field e)
+      → (es : List Entry) (i : ℕ) → i < length es → field (entryAt es i) < 65536
+      → numberAt (entryBytes es ++ rest) (4 * i + at) ≡ field (entryAt es i)
+  number-at field at first [] i h l = absurd (omega arith)
+  number-at field at first (e ∷ es) zero h l =
+      let here : 4 * 0 + at ≡ at = omega arith in
+      rw here (first e es l)
+  number-at field at first (e ∷ es) (suc i) h l =
+      let next : 4 * suc i + at ≡ 4 + (4 * i + at) = omega arith in
+      rw (next, number-later e es (4 * i + at)) (number-at field at first es i (omega arith) l)
+
+  pub number-phase : (es : List Entry) (i : ℕ) → i < length es → entryAt es i .phase < 65536
+      → numberAt (entryBytes es ++ rest) (4 * i) ≡ entryAt es i .phase
+  number-phase es i h l =
+      let here : 4 * i ≡ 4 * i + 0 = omega arith in
+      rw here (number-at (λ e. e .phase) 0 phase-first es i h l)
+
+  pub number-step : (es : List Entry) (i : ℕ) → i < length es → entryAt es i .step < 65536
+      → numberAt (entryBytes es ++ rest) (4 * i + 2) ≡ entryAt es i .step
+  number-step = number-at (λ e. e .step) 2 step-first
 
 -- ---- a record stored
 

@@ -16,15 +16,17 @@ use Rattle.rules.specs.Traces.{entryBytes}
 use Rattle.rules.specs.Calls.{written, replayVerdict, replayOf, replayRefused, replayCall, Replayed as Call}
 use Rattle.rules.specs.Program.{inputPolicy, inputTree, inputTrace, heading, phaseLines, refusedLine, phasesText, mostInput, printed}
 use Rattle.replay_invariant.specs.Splits.{phasesOf}
+use Rattle.replay_invariant.specs.Laws.Verdicts.{call-accepted, call-refused, call-number}
+use Rattle.replay_invariant.specs.Laws.Consequences.{replay-starts}
+use Rattle.replay_invariant.specs.Laws.Entries.{runOf, listed-room}
 use Rattle.replay.specs.declared.answer.Replayed.{Replayed}
 use Rattle.replay.specs.Contract.{answers}
 use Rattle.phases_text.specs.Contract.{mostText, textFor}
 use Rattle.phases_text.specs.Report.Terms.{refusalText}
 use Rattle.phases_text.specs.Line.Terms.{linesOf, Phased}
 use Rattle.phases_text.specs.Input.Terms.{Parts}
-use Rattle.phases_text.specs.Laws.Verdicts.{start-steps, same-verdict, call-accepted, call-refused, call-number}
-use Rattle.phases_text.specs.Laws.Verdicts.{accepted-start}
-use Rattle.phases_text.specs.Laws.Lists.{runOf, listed-lines, listed-phases, listed-room}
+use Rattle.phases_text.specs.Laws.Verdicts.{start-steps, same-verdict}
+use Rattle.phases_text.specs.Laws.Lists.{listed-lines, listed-phases}
 
 -- What is known once replay is called: what it answers, and what it leaves in the run list that it is lent.
 pub record Called (input : List ℕ) (r : Replayed) (out : List ℕ) : Type 0 where
@@ -101,7 +103,7 @@ module _ {input : List ℕ} {r : Replayed} {out : List ℕ} (called : Called inp
 
     pub called-steps : length (kinds (inputTree input)) ≤ mostSteps
     unfolding verdict
-    called-steps = start-steps mostWorkers p tree (accepted-start mostWorkers p tree trace list fine)
+    called-steps = start-steps mostWorkers p tree (replay-starts mostWorkers p tree trace list fine)
 
     pub called-room : 4 * length (kinds (inputTree input)) ≤ length out
     unfolding verdict

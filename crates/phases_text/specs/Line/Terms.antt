@@ -4,10 +4,7 @@ use mathlib.Core.List.{List, [], _∷_, map, flatten}
 use lib.ListN.{length, getD}
 use Rattle.rules.specs.Bytes.{count}
 use Rattle.rules.specs.Program.{line}
-
--- The number of the two bytes at a place.
-unfoldable pub numberAt : List ℕ → ℕ → ℕ
-numberAt bytes at = getD bytes at 0 + 256 * getD bytes (at + 1) 0
+use Rattle.buffers.specs.Terms.{numberAt}
 
 -- The worker of a phase: worker 0 of phase 0, of a later one the thief of the trace record that began it.
 unfoldable pub workerBy : List ℕ → ℕ → ℕ

@@ -12,7 +12,7 @@ use borrow.Author.Tests.{eq-eqb, ne-eqb}
 use Rattle.rules.specs.Bytes.{records, count, any, sum}
 use Rattle.rules.specs.Tree.{kinds}
 use Rattle.rules.specs.Scheduling.{afterRun, Phase, phaseAt, Entry}
-use Rattle.rules.specs.Traces.{covers, runAlone, runningOrder, runList, replayWalk}
+use Rattle.rules.specs.Traces.{covers, runAlone, runningOrder, runList}
 use Rattle.rules.specs.Calls.{startVerdict, replayVerdict}
 use Rattle.tree.specs.Laws.Counts.{length-count}
 use Rattle.tree.specs.Laws.Verdicts.{cond-same, first-accepts}
@@ -20,7 +20,7 @@ use Rattle.tree_scan.specs.Laws.Starts.{start-tree-accepts, admitted-policy}
 use Rattle.tree_scan.specs.Laws.Shape.{Shape}
 use Rattle.tree_scan.specs.Laws.Frames.{endAt, sizeAt, Frame, accepted-frame}
 use Rattle.run_invariant.specs.Invariant.{logOf, self, frontierEnd}
-use Rattle.run_invariant.specs.Laws.Counts.{sum-ones, sum-same, sum-alike, sum-missed, sum-self}
+use Rattle.run_invariant.specs.Laws.Counts.{sum-ones, sum-same, sum-below, sum-alike, sum-missed, sum-self}
 use Rattle.run_invariant.specs.Laws.Weights.{sum-append}
 use Rattle.run_invariant.specs.Laws.Moves.{log-append}
 use Rattle.replay_invariant.specs.Invariant.{Cut, Split}
@@ -32,7 +32,7 @@ use Rattle.replay_invariant.specs.Laws.Order.{order-sum, order-interval}
 -- ---- the run list, phase by phase
 
 -- The records of phase m with these steps.
-unfoldable entries : ℕ → List ℕ → List Entry
+unfoldable pub entries : ℕ → List ℕ → List Entry
 entries m l = map (λ i. record { phase = m; step = i }) l
 
 entries-own : (m k : ℕ) → m ≡ k → (l : List ℕ) → logOf k (entries m l) ≡ l
@@ -52,7 +52,7 @@ entries-sum f m (x ∷ l) = omega (arith, entries-sum f m l)
 
 module _ (p : ℕ) (ks : List ℕ) where
   -- The run list of phases numbered from a on.
-  unfoldable listFrom : ℕ → List Phase → List Entry
+  unfoldable pub listFrom : ℕ → List Phase → List Entry
   listFrom a [] = []
   listFrom a (ph ∷ phs) = entries a (runningOrder p ks ph) ++ listFrom (suc a) phs
 
@@ -62,7 +62,7 @@ module _ (p : ℕ) (ks : List ℕ) where
   list-from a [] = refl
   list-from a (ph ∷ phs) = ap (λ (l : List Entry). entries a (runningOrder p ks ph) ++ l) (list-from (suc a) phs)
 
-  list-is : (phs : List Phase) → runList p ks phs ≡ listFrom 0 phs
+  pub list-is : (phs : List Phase) → runList p ks phs ≡ listFrom 0 phs
   unfolding runList entries
   list-is phs = list-from 0 phs
 
@@ -169,6 +169,22 @@ module _ (p : ℕ) (ks : List ℕ) (some-step : 1 ≤ length ks) (sh : Shape (le
   list-length =
       omega (arith, sum-ones (runList p ks phs), list-sum (λ j. 1), sum-ones (count 0 (length ks)), length-count (length ks) 0)
 
+  -- No phase is without a step, so there are at most as many phases as steps.
+  pub phases-most : length phs ≤ length ks
+  unfolding sum phaseAt
+  phases-most =
+      let steps : Phase → ℕ = λ ph. sum (λ j. 1) (runningOrder p ks ph) in
+      let some : (k : ℕ) → 1 ≤ steps (phaseAt phs k) = λ k. rw (order-begins p ks (phaseAt phs k) some-step .1) (omega arith) in
+      omega (
+        arith,
+        sum-ones phs,
+        sum-below (λ ph. 1) steps noPhase phs some,
+        from-sum p ks (λ j. 1) 0 phs,
+        sum-ones (listFrom p ks 0 phs),
+        ap length (list-is p ks phs),
+        list-length,
+      )
+
   pub list-once : (j : ℕ) → j < length ks → sum (λ e. self j (e .step)) (runList p ks phs) ≡ 1
   list-once j h = list-sum (self j) ∙ picks (λ i. true) j (length ks) 0 (omega arith) (omega arith)
 
@@ -182,15 +198,25 @@ pub replay-starts : (w p : ℕ) (tree trace list : List ℕ) → replayVerdict w
 unfolding replayVerdict
 replay-starts w p tree trace list e = first-accepts _ _ e .0
 
-pub splits : (w p : ℕ) (tree trace list : List ℕ) → replayVerdict w p tree trace list .number ≡ 0 → Splits w p tree trace
+-- What replay accepts has a tree that is accepted, and phases that split it.
+pub replay-frame : (w p : ℕ) (tree trace list : List ℕ) → replayVerdict w p tree trace list .number ≡ 0 → Frame tree
+replay-frame w p tree trace list e = accepted-frame tree (start-tree-accepts w p tree (replay-starts w p tree trace list e))
+
+pub replay-split : (w p : ℕ) (tree trace list : List ℕ) → replayVerdict w p tree trace list .number ≡ 0
+    → Split p (kinds tree) (phasesOf w p tree trace)
 unfolding phasesOf
+replay-split w p tree trace list e =
+    let frame = replay-frame w p tree trace list e in
+    always-split p (admitted-policy w p tree (replay-starts w p tree trace list e)) (kinds tree) (frame .some) (frame .shape) w
+    (records 4 trace)
+
+pub splits : (w p : ℕ) (tree trace list : List ℕ) → replayVerdict w p tree trace list .number ≡ 0 → Splits w p tree trace
 splits w p tree trace list e =
-    let starts = replay-starts w p tree trace list e in
     let ks = kinds tree in
-    let frame : Frame tree = accepted-frame tree (start-tree-accepts w p tree starts) in
+    let frame : Frame tree = replay-frame w p tree trace list e in
     let sh = frame .shape in
-    let phs = replayWalk w p ks (records 4 trace) .state in
-    let split : Split p ks phs = always-split p (admitted-policy w p tree starts) ks (frame .some) sh w (records 4 trace) in
+    let phs = phasesOf w p tree trace in
+    let split : Split p ks phs = replay-split w p tree trace list e in
     record {
       covered = covered-once ks sh p (frame .some) phs split;
       many = list-length p ks (frame .some) sh phs split;

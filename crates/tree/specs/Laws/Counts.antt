@@ -65,6 +65,17 @@ count-at n low i h = ap (λ (l : List ℕ). getD l i 0) (sym (map-id (count low 
 pub map-length : (f : ℕ → ℕ) (n low : ℕ) → length (map f (count low n)) ≡ n
 map-length f n low = length-map (count low n) f ∙ length-count n low
 
+-- A function of the numbers of an interval, and another of a list that has as many members.
+pub map-count : {A B : Type 0} (f : A → B) (g : ℕ → B) (d : A) (a : ℕ) (es : List A)
+    → ((i : ℕ) → i < length es → g (a + i) ≡ f (getD es i d)) → map g (count a (length es)) ≡ map f es
+unfolding count
+map-count f g d a [] e = refl
+map-count {B = B} f g d a (x ∷ es) e =
+    let here : a + 0 ≡ a = omega arith in
+    let next : (i : ℕ) → i < length es → g (suc a + i) ≡ f (getD es i d) =
+    λ i h. let at : suc a + i ≡ a + suc i = omega arith in rw at (e (suc i) (omega arith)) in
+    rw (rw here at (e 0 (omega arith))) (ap (λ (l : List B). f x ∷ l) (map-count f g d (suc a) es next))
+
 -- A list that has the same at each place.
 pub map-is : (f : ℕ → ℕ) (n : ℕ) (l : List ℕ) → length l ≡ n → ((i : ℕ) → i < n → getD l i 0 ≡ f i) → l ≡ map f (count 0 n)
 map-is f n l size same =

@@ -11,7 +11,8 @@ use Rattle.rules.specs.Program.{line}
 use Rattle.rules.specs.Calls.{written}
 use Rattle.tree.specs.Laws.Counts.{count-snoc}
 use Rattle.phases_text.specs.Contract.{mostLine}
-use Rattle.phases_text.specs.Line.Terms.{numberAt, workerBy, lineOf, linesOf}
+use Rattle.phases_text.specs.Line.Terms.{workerBy, lineOf, linesOf}
+use Rattle.buffers.specs.Terms.{numberAt}
 use Rattle.buffers.specs.Laws.Records.{flat-one}
 use Rattle.buffers.specs.Laws.Fronts.{partOf, withPart, Front, front-none, front-next}
 use Rattle.phases_text.specs.Number.Laws.Texts.{text-is, line-most}

@@ -1,9 +1,9 @@
--- `phases_text::line::number_at` meets its contract: both bytes are within the buffer, as is required, and `buffers::two_bytes`
--- promises their number. Assumes nothing.
+-- `buffers::number_at` meets its contract: both bytes are within the buffer, as is required, and `two_bytes` promises
+-- their number. Assumes nothing.
 use borrow.Author.Needs.{needs}
-use Rattle.phases_text.specs.Line.Terms.{numberAt}
-use Rattle.phases_text.proofs.line.number_at.Statement.{statement}
-use Rattle.phases_text.proofs.line.number_at.Tie as tie
+use Rattle.buffers.specs.Terms.{numberAt}
+use Rattle.buffers.proofs.number_at.Statement.{statement}
+use Rattle.buffers.proofs.number_at.Tie as tie
 
 shared-slice-read-two-bytes : tie.Need-shared-slice-read-two-bytes
 shared-slice-read-two-bytes c = search needs
