@@ -1,19 +1,23 @@
 // What an admitted replay comes to (document 01, "Trace, log, run list"): the trace is walked with the tree's tables, and the run
-// list is written once every record is accepted. The classes are charged with what the tree's steps weigh: the phases cover all of
-// them (document 02, #103).
+// list is written once every record is accepted, unless the caller is full (document 02, #106). The classes are charged with
+// what the tree's steps weigh: the phases cover all of them (document 02, #103).
 ghost use mathlib.Core.Path.{_≡_};
 ghost use lib.ListN.{replicate};
 ghost use Rattle.rules.specs.Tree.{classCount};
 ghost use Rattle.replay.specs.Body.Terms.{Admitted, Result};
 use policy::MOST_PHASES;
 use policy::Setup;
+use policy::WORKERS;
 use replay_spec::FREE;
 use replay_walk::Ended;
 use tree::CLASSES;
 use tree::MOST_STEPS;
 use tree_tables::sums::SUMS;
 
-// Walks the trace of a tree of n steps. The lent list is written where no record is refused.
+// The refusal of a trace that the caller has no room for.
+const FULL: u8 = 17;
+
+// Walks the trace of a tree of n steps. The lent list is written where no record is refused, unless the caller is full.
 pub fn run(
     tree: &[u8],
     setup: Setup,
@@ -21,11 +25,12 @@ pub fn run(
     n: usize,
     list: &mut [u8],
     classes: &mut [u64; CLASSES],
+    full: bool,
 ) -> Ended
     requires { ⌜ Admitted (setup .workers) (setup .policy) (now tree) (now trace) n (now list) ⌝ }
     requires { ⌜ now classes ≡ replicate classCount 0 ⌝ }
     ensures { λ r.
-        let ended = Result (setup .workers) (setup .policy) (now (tree .entry)) (now (trace .entry)) (now (list .entry)) r in
+        let ended = Result full (setup .workers) (setup .policy) (now (tree .entry)) (now (trace .entry)) (now (list .entry)) r in
         ⌜ ended (now (list .exit)) (now (classes .exit)) ⌝ }
 {
     let mut ends: [u16; MOST_STEPS] = [0; MOST_STEPS];
@@ -47,6 +52,14 @@ pub fn run(
     );
     if walked.number != 0 {
         return walked;
+    }
+    if full {
+        return Ended {
+            number: FULL,
+            position: 0,
+            phases: 0,
+            loads: [0; WORKERS],
+        };
     }
     replay_list::write_list(
         tree,

@@ -1,5 +1,6 @@
 -- `replay::body::run` meets its contract: the tables are filled and all labels free, so the walk is the rules'; where it
--- accepts every record, the labels and first steps that it leaves are those of the phases that the run list is written from.
+-- accepts every record and the caller is not full, the labels and first steps that it leaves are those of the phases that the run
+-- list is written from.
 -- Assumes nothing.
 use Prim.Native.Nat.{ℕ, _≤_, _<_}
 use native.Mathlib.Omega.{arith}
@@ -15,7 +16,8 @@ use Rattle.tree_tables.specs.Terms.{Ends}
 use Rattle.tree_tables.specs.Laws.Fronts.{start-frame, ends-prefix, openers-prefix}
 use Rattle.replay_walk.specs.Terms.{Retraced}
 use Rattle.replay.specs.Body.Terms.{Admitted}
-use Rattle.replay.specs.Body.Laws.Results.{take-replicate, front-room, front-length, lost-result, done-asked, done-result}
+use Rattle.replay.specs.Body.Laws.Results.{take-replicate, front-room, front-length, lost-result, full-result}
+use Rattle.replay.specs.Body.Laws.Results.{done-asked, done-result}
 use Rattle.replay.proofs.body.run.Statement.{statement}
 use Rattle.replay.proofs.body.run.Tie as tie
 
@@ -82,8 +84,8 @@ walked c = c .walk .ensures
 labels-many : (c : tie.After-walk) → length (labels c) ≡ start c .args .n
 labels-many c = walked c .sizes .0 ∙ sym (ready (start c) .steps)
 
-abbrev walk-at : tie.Else1 → tie.After-walk
-walk-at c = c .before .before .before
+abbrev walk-at : tie.Else2 → tie.After-walk
+walk-at c = c .before .before .before .before
 
 -- ---- the needs
 
@@ -152,6 +154,11 @@ returns c =
     let at = c .before .before .before in
     lost-result (ready (start at)) (walked at) (c .if1 .taken) _
 
+returns-2 : tie.Need-returns-2
+returns-2 c =
+    let at = c .before .before .before .before in
+    full-result (ready (start at)) (walked at) (c .before .if1 .left) (c .if2 .taken) _ _ _
+
 array-share-prefix-ends-2 : tie.Need-array-share-prefix-ends-2
 array-share-prefix-ends-2 c = ends-room (filled (summed (walk-at c .before)))
 
@@ -177,21 +184,21 @@ write-list-requires c κs =
     let at = walk-at one in
     let s = start at in
     let same = take-at (labels at) _ (s .args .n) (labels-many at) in
-    let asked = done-asked (ready s) (walked at) (one .if1 .left) _ same in
+    let asked = done-asked (ready s) (walked at) (one .before .if1 .left) _ same in
     ((start-tree-accepts _ _ (s .args .tree .now) (ready s .started), ends-lent (filled (summed (at .before))) .1), asked)
 
 same-length : tie.Need-same-length
 same-length c = search needs
 
-returns-2 : tie.Need-returns-2
-returns-2 c =
+returns-3 : tie.Need-returns-3
+returns-3 c =
     let wrote = c .before .before in
     let list = wrote .write-list in
     let one = wrote .before .before .before .before .before in
     let at = walk-at one in
     let same = take-at (labels at) _ (start at .args .n) (labels-many at) in
-    done-result (ready (start at)) (walked at) (one .if1 .left) _ same (list .last .1 .1 .1 .1 .1 .1 .0) _ (list .ensures)
-    (summed (at .before) .add-up .ensures .1)
+    done-result (ready (start at)) (walked at) (one .before .if1 .left) (one .if2 .left) _ same (list .last .1 .1 .1 .1 .1 .1 .0) _
+    (list .ensures) (summed (at .before) .add-up .ensures .1)
 
 pub run-spec : {M : Type 1} → statement M
 run-spec =
@@ -211,6 +218,7 @@ run-spec =
     slice-aggregate-walk-4
     walk-requires
     returns
+    returns-2
     array-share-prefix-ends-2
     slice-aggregate-write-list
     array-share-prefix-labels
@@ -218,4 +226,4 @@ run-spec =
     slice-aggregate-write-list-3
     write-list-requires
     same-length
-    returns-2)
+    returns-3)
