@@ -7,7 +7,6 @@ use mathlib.Core.Option.{Option, none, some}
 use lib.ListN.{set, replicate}
 use Rattle.rules.specs.Bytes.{find, highest, Verdict, accepted}
 use Rattle.rules.specs.Scheduling.{workFirst, helpFirst, mostWorkers}
-use Rattle.rules.specs.Calls.{Replayed}
 use Rattle.rules.specs.Cases.{answerWith, bytes, ofKinds, S, oneEnd}
 use Rattle.rules.specs.NearMisses.{bad, sixteenLoads}
 use Rattle.rules_histogram.specs.Limits.{limits, bucket, bucketCount, place}
