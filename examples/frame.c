@@ -1,6 +1,6 @@
 /* The library from C: runs tree S of docs/FORMAT.md, here with two classes of steps, event by event, records the same events,
- * replays their trace, begins a run of fewer workers and makes a schedule for them. README.md says how to build it;
- * examples/frame.txt is what it prints. */
+ * replays their trace and adds its phases to a histogram, begins a run of fewer workers, makes a schedule for them, and asks for work
+ * and span. README.md says how to build it; examples/frame.txt is what it prints. */
 #include <inttypes.h>
 #include <stdio.h>
 
@@ -59,6 +59,7 @@ static const char *refusal_name(size_t number)
         NAME(FRAME_REFUSED_NO_PHASE);
         NAME(FRAME_REFUSED_NUMBER);
         NAME(FRAME_REFUSED_COUNT);
+        NAME(FRAME_REFUSED_FULL);
         default: return "FRAME_ACCEPTED";
     }
 }
@@ -124,6 +125,20 @@ int main(void)
         size_t phase = two_bytes(list + 4 * i);
         printf("%zu %d %zu\n", phase, phase == 0 ? 0 : trace[4 * (phase - 1)], two_bytes(list + 4 * i + 2));
     }
+
+    /* The same trace added to a histogram of the week, twice: what replay answers, and how its phases are loaded. */
+    FrameHistogram week = frame_histogram_start();
+    for (int i = 0; i < 2; i++) {
+        FrameAdded added = frame_histogram_add(week, tree, sizeof tree, FRAME_WORK_FIRST, FRAME_WORKERS, trace, 4 * recorded.steals,
+                                               list, sizeof list);
+        if (refused("adding", added.replay.number, added.replay.position))
+            return 1;
+        week = added.histogram;
+    }
+    printf("\n%" PRIu32 " traces, of their phases\n%" PRIu32 " of load 0\n", week.traces, week.counts[0]);
+    for (int k = 0; k < FRAME_LIMITS; k++)
+        if (week.counts[k + 1] > 0)
+            printf("%" PRIu32 " at limit %d\n", week.counts[k + 1], k);
 
     /* A trace whose second record is damaged. The list keeps its bytes. */
     trace[4 + 2] = 1;

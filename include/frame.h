@@ -1,18 +1,18 @@
 /* The C interface of the library, for C11 and C++11 or later on x86-64 Linux: a run event by event, recording and replay, the
- * schedule maker, work and span, and at the end the questions about a tree. Link libframe.a, which bin/library makes; it needs
- * memcpy and memset alone. docs/FORMAT.md has the formats of tree, events, trace, log, run list and chain, and the rules;
- * examples/frame.c is an example.
+ * histogram of phase loads, the schedule maker, work and span, and at the end the questions about a tree. Link libframe.a, which
+ * bin/library makes; it needs memcpy and memset alone. docs/FORMAT.md has the formats of tree, events, trace, log, run list,
+ * histogram and chain, and the rules; examples/frame.c is an example.
  *
  * What holds of every call:
  * - Any bytes and any numbers are safe. A call answers or refuses, and always ends.
  * - A pointer and the length after it, in bytes, are one buffer of the caller's. A pointer of length 0 may be NULL.
  * - A buffer that is not const overlaps no other buffer of the same call. A call writes to no other memory of the caller's.
  * - A refusal is a number, FRAME_REFUSED_.., and a position, which is that of a record where the refusal names one and else 0.
- *   All other results are 0 then, but for the state that frame_event hands back, and no byte of a buffer or of a lent state has
- *   changed.
+ *   All other results are 0 then, but for the state that frame_event and the histogram that frame_histogram_add hand back, and no
+ *   byte of a buffer or of a lent state has changed.
  * - A call allocates nothing and keeps nothing: there is no global state. Calls may run at the same time in several threads where
  *   none writes a buffer that another one uses; a tree is only read, so one may serve them all.
- * - A call uses less than FRAME_STACK_BYTES of stack. Record and replay come near to that, the others do not. */
+ * - A call uses less than FRAME_STACK_BYTES of stack. Record, replay and the histogram come near to that, the others do not. */
 #ifndef FRAME_H
 #define FRAME_H
 
@@ -26,7 +26,7 @@ extern "C" {
 
 /* Rises with each change of this header that a caller can see; docs/FORMAT.md lists them. 1 was the header without a version and
  * without a worker count. */
-#define FRAME_VERSION 5
+#define FRAME_VERSION 6
 
 /* Limits. */
 #define FRAME_MOST_STEPS 4095   /* of a tree, which has a record for each */
@@ -35,6 +35,9 @@ extern "C" {
 #define FRAME_CLASSES 16        /* of steps, 0 to 15: byte 1 of a tree record, no part of scheduling */
 #define FRAME_MOST_EVENTS 8192  /* of a recording */
 #define FRAME_MOST_STEALS 2047  /* records of a trace */
+#define FRAME_MOST_TRACES 65535 /* added to one histogram */
+#define FRAME_LIMITS 176        /* of loads, in a histogram */
+#define FRAME_BUCKETS 177       /* of a histogram: one for load 0, then one for each limit */
 #define FRAME_STACK_BYTES 98304 /* 96 KB */
 
 /* The bytes of a tree of n steps and of buffers to lend for it, as lengths of arrays: uint8_t trace[FRAME_TRACE_BYTES(n)]. Record
@@ -79,7 +82,8 @@ typedef enum FrameRefusal {
     FRAME_REFUSED_SAME_WORKER = 13,  /* in a trace, thief and victim are equal */
     FRAME_REFUSED_NO_PHASE = 14,     /* in a trace, the victim has had no phase */
     FRAME_REFUSED_NUMBER = 15,       /* in a trace, the number breaks the rule of "Trace" */
-    FRAME_REFUSED_COUNT = 16         /* the count of workers is outside 1 to 16 */
+    FRAME_REFUSED_COUNT = 16,        /* the count of workers is outside 1 to 16 */
+    FRAME_REFUSED_FULL = 17          /* 65,535 traces have been added to the histogram */
 } FrameRefusal;
 
 /* What an event did. */
@@ -157,6 +161,21 @@ typedef struct FrameReplay {
     uint64_t class_loads[FRAME_CLASSES];
 } FrameReplay;
 
+/* How the phases of many traces are loaded. frame_histogram_start makes it and only frame_histogram_add changes it; the caller keeps
+ * it, and may copy and read it. Limit k, from 0 to FRAME_LIMITS - 1, is the largest whole number whose fourth power is at most 2 to
+ * the power k. A phase is counted at the highest k whose limit does not exceed its load, the weight of the steps that it covers.
+ * Every byte is a field's and none is padding, so memcmp tells whether two histograms are equal. */
+typedef struct FrameHistogram {
+    uint32_t traces;                /* added since the start */
+    uint32_t counts[FRAME_BUCKETS]; /* of phases: counts[0] of load 0, counts[k + 1] at limit k. They add up to the phases of all
+                                       traces added */
+} FrameHistogram;
+
+typedef struct FrameAdded {
+    FrameReplay replay;       /* what frame_replay answers, its number and position first */
+    FrameHistogram histogram; /* the next one; after a refusal the very one given */
+} FrameAdded;
+
 typedef struct FrameSchedule {
     size_t number;
     size_t position;
@@ -199,6 +218,15 @@ FrameRecord frame_record(const uint8_t *tree, size_t tree_len, uint8_t policy, u
  * FRAME_LIST_BYTES(n). Refuses with 1, 16, 2 to 8 and 13 to 15. */
 FrameReplay frame_replay(const uint8_t *tree, size_t tree_len, uint8_t policy, uint8_t workers, const uint8_t *trace,
                          size_t trace_len, uint8_t *list, size_t list_len);
+
+/* A histogram that no trace has been added to. It never refuses. */
+FrameHistogram frame_histogram_start(void);
+
+/* Does what frame_replay does, run list included, and adds all phases of the trace to a histogram. Refuses as frame_replay does, and
+ * then with 17 where FRAME_MOST_TRACES have been added; a refused trace is not counted. Give the histogram that the start or the
+ * latest addition handed back: on any other the counts mean nothing. */
+FrameAdded frame_histogram_add(FrameHistogram histogram, const uint8_t *tree, size_t tree_len, uint8_t policy, uint8_t workers,
+                               const uint8_t *trace, size_t trace_len, uint8_t *list, size_t list_len);
 
 /* Makes a schedule for so many workers: a list of events that frame_record, with the same tree, policy and count, accepts, and that
  * run every step. The events stand at the front of the buffer; the bytes beyond keep what they held. events_len must be at least
@@ -259,7 +287,8 @@ FrameRunning frame_running(const uint8_t *tree, size_t tree_len, uint8_t policy,
 static_assert(offsetof(FrameState, policy) == 4095 && offsetof(FrameState, held) == 4096 && offsetof(FrameState, phase) == 4128
               && offsetof(FrameState, low) == 4160 && offsetof(FrameState, base) == 4192 && offsetof(FrameState, steals) == 4224
               && offsetof(FrameState, workers) == 4226 && sizeof(FrameState) == 4228, "FrameState is not the library's");
-static_assert(sizeof(FrameEvent) == 4280 && sizeof(FrameRecord) == 304 && sizeof(FrameReplay) == 288,
+static_assert(sizeof(FrameEvent) == 4280 && sizeof(FrameRecord) == 304 && sizeof(FrameReplay) == 288
+              && sizeof(FrameHistogram) == 712 && sizeof(FrameAdded) == 1000,
               "frame.h is for x86-64 Linux and structs that are not packed");
 
 #ifdef __cplusplus
