@@ -1,6 +1,6 @@
-// The baseline of the benchmarks: recording, replay, single events, the schedule maker, and work and span, tuned by hand and
-// proved by nothing. It reads the same bytes as the library, refuses the same calls with the same numbers and positions, and
-// writes the same bytes. It is for little-endian machines only.
+// The baseline of the benchmarks: recording, replay, histograms, single events, the schedule maker, and work and span, tuned by
+// hand and proved by nothing. It reads the same bytes as the library, refuses the same calls with the same numbers and
+// positions, and writes the same bytes. It is for little-endian machines only.
 //
 // What makes it fast: one pass checks the tree and finds the continuations; neither that nor running a step branches on a
 // record's kind, which a processor cannot foresee. A step that was popped never waits, because steals take the oldest step
@@ -8,7 +8,8 @@
 // of the finish child, because every phase with steps left in the child holds one of them. Such a phase does not leave the
 // child before it ends: so the maker looks again only then. Phases cover every step, so the class loads are the tree's own
 // weights by class, whatever the run was. Work and span take one pass, which judges the tree too. It does branch on the kind:
-// arithmetic in place of that gains in random trees, and loses more in all others.
+// arithmetic in place of that gains in random trees, and loses more in all others. An addition to a histogram is a replay that
+// also counts the loads which it has anyway; a load's highest bit leaves four limits, and these are shifts of the last four.
 
 #include <stddef.h>
 #include <stdint.h>
@@ -20,6 +21,8 @@ enum {
     MOST_OPEN = 64,
     MOST_EVENTS = 8192,
     MOST_STEALS = 2047,
+    MOST_TRACES = 65535,
+    BUCKETS = 177,
     WORKERS = 16,
     CLASSES = 16,
     WORK_FIRST = 1,
@@ -56,6 +59,16 @@ struct replayed {
     uint64_t loads[WORKERS];
     size_t heaviest;
     uint64_t class_loads[CLASSES];
+};
+
+struct histogram {
+    uint32_t traces;
+    uint32_t counts[BUCKETS];
+};
+
+struct added {
+    struct replayed replayed;
+    struct histogram histogram;
 };
 
 struct outcome {
@@ -719,8 +732,24 @@ static inline void put(uint8_t *list, size_t at, uint32_t phase, uint32_t step)
     memcpy(list + 4 * at, &record, sizeof record);
 }
 
+// Counts a phase in the bucket of its load, where there is a histogram. Of the limits from 4 b to 4 b + 3, where b is the load's
+// highest bit, the first is 2 to the power b; each other one is that of bit 43, shifted.
+static inline void count_load(struct histogram *histogram, uint64_t load)
+{
+    if (histogram == NULL)
+        return;
+    size_t bucket = 0;
+    if (load != 0) {
+        unsigned bit = 63 - __builtin_clzll(load), shift = 43 - bit;
+        bucket = 4 * bit + 1 + (load >= 10460376406235u >> shift) + (load >= 12439554047901u >> shift)
+                 + (load >= 14793206181225u >> shift);
+    }
+    histogram->counts[bucket]++;
+}
+
 // Writes the list and adds up the loads.
-static void list_intervals(const struct replay *replay, const uint8_t *tree, uint8_t *restrict list, uint64_t *restrict loads)
+static inline void list_intervals(const struct replay *replay, const uint8_t *tree, uint8_t *restrict list,
+                                  uint64_t *restrict loads, struct histogram *histogram)
 {
     for (size_t phase = 0; phase < replay->phases; phase++) {
         size_t first = replay->first[phase], count = replay->limit[phase] - first;
@@ -731,11 +760,13 @@ static void list_intervals(const struct replay *replay, const uint8_t *tree, uin
         }
         list += 4 * count;
         loads[replay->worker[phase]] += load;
+        count_load(histogram, load);
     }
 }
 
 // The same under help-first: each phase is run alone, with a stack of what it has pushed.
-static void list_runs(struct replay *replay, const uint8_t *tree, uint8_t *restrict list, uint64_t *restrict loads)
+static inline void list_runs(struct replay *replay, const uint8_t *tree, uint8_t *restrict list, uint64_t *restrict loads,
+                             struct histogram *histogram)
 {
     uint16_t stack[MOST_STEALS + 1];
     for (size_t phase = 1; phase < replay->phases; phase++)
@@ -760,11 +791,15 @@ static void list_runs(struct replay *replay, const uint8_t *tree, uint8_t *restr
             }
         }
         loads[replay->worker[phase]] += load;
+        count_load(histogram, load);
     }
 }
 
-struct replayed tuned_replay(const uint8_t *tree, size_t tree_length, uint8_t policy, uint8_t workers, const uint8_t *trace,
-                             size_t trace_length, uint8_t *list, size_t list_length)
+// The call, with a histogram or without: the compiler makes one function of each.
+__attribute__((always_inline)) static inline struct replayed replay_call(const uint8_t *tree, size_t tree_length, uint8_t policy,
+                                                                         uint8_t workers, const uint8_t *trace,
+                                                                         size_t trace_length, uint8_t *list, size_t list_length,
+                                                                         struct histogram *histogram)
 {
     struct replay replay;
     struct replayed answer = {0};
@@ -777,18 +812,36 @@ struct replayed tuned_replay(const uint8_t *tree, size_t tree_length, uint8_t po
     if (refusal.number == 0)
         refusal = policy == WORK_FIRST ? read_trace(&replay, tree, n, WORK_FIRST, workers, trace, trace_length / 4)
                                        : read_trace(&replay, tree, n, HELP_FIRST, workers, trace, trace_length / 4);
+    if (refusal.number == 0 && histogram != NULL && histogram->traces >= MOST_TRACES)
+        refusal.number = 17;
     answer.number = refusal.number;
     answer.position = refusal.position;
     if (refusal.number != 0)
         return answer;
     if (policy == WORK_FIRST)
-        list_intervals(&replay, tree, list, answer.loads);
+        list_intervals(&replay, tree, list, answer.loads, histogram);
     else
-        list_runs(&replay, tree, list, answer.loads);
+        list_runs(&replay, tree, list, answer.loads, histogram);
     answer.phases = replay.phases;
     answer.heaviest = heaviest(answer.loads);
     add_classes(tree, n, answer.loads, answer.class_loads);
     return answer;
+}
+
+struct replayed tuned_replay(const uint8_t *tree, size_t tree_length, uint8_t policy, uint8_t workers, const uint8_t *trace,
+                             size_t trace_length, uint8_t *list, size_t list_length)
+{
+    return replay_call(tree, tree_length, policy, workers, trace, trace_length, list, list_length, NULL);
+}
+
+struct added tuned_histogram_add(struct histogram histogram, const uint8_t *tree, size_t tree_length, uint8_t policy,
+                                 uint8_t workers, const uint8_t *trace, size_t trace_length, uint8_t *list, size_t list_length)
+{
+    struct added added;
+    added.histogram = histogram;
+    added.replayed = replay_call(tree, tree_length, policy, workers, trace, trace_length, list, list_length, &added.histogram);
+    added.histogram.traces += added.replayed.number == 0;
+    return added;
 }
 
 // ---- Work and span ----

@@ -1,10 +1,11 @@
 //! Prints the tables of the benchmarks. `bench/run` builds all that they need and runs this; its words go here:
 //!
-//! - `record`, `replay`, `event`, `schedule`, `waiting`, `span`: only these tables
+//! - `record`, `replay`, `histogram`, `event`, `schedule`, `waiting`, `span`: only these tables
 //! - `--instructions`, alone or before such words: instructions of calls on the largest trees in place of times
 //! - `--call WHAT CONTESTANT SHAPE POLICY WORKERS`, `--call poll CONTESTANT SITUATION POLICY`,
 //!   `--call span CONTESTANT SHAPE WEIGHTS`: makes one such call
 
+mod histogram;
 mod span;
 mod waiting;
 
@@ -25,6 +26,7 @@ use frame_tests::replay::{replay, MAX_TRACE, TRACE_BYTES};
 use frame_tests::schedule::{self as maker, most_events};
 use frame_tests::tree::{MAX_OPEN, TREE_RECORD};
 use frame_tests::{Policy, Run};
+use histogram::HistogramCase;
 
 // ---- Tables ----
 
@@ -565,12 +567,17 @@ fn make_call(words: &[&str]) {
             let call = [ReplayCase::tuned, ReplayCase::library, ReplayCase::simulator][contestant];
             measured_call(&mut || _ = black_box(call(&mut case)));
         }
+        "histogram" => {
+            let mut case = HistogramCase::new(ReplayCase::of_run(tree, policy, workers, seed), seed);
+            let call = [HistogramCase::tuned, HistogramCase::library, HistogramCase::simulator][contestant];
+            measured_call(&mut || _ = black_box(call(&mut case)));
+        }
         "schedule" => {
             let mut case = ScheduleCase::new(tree, policy, workers, seed);
             let call = [ScheduleCase::tuned, ScheduleCase::library, ScheduleCase::simulator][contestant];
             measured_call(&mut || _ = black_box(call(&mut case)));
         }
-        _ => panic!("record, replay or schedule, not {what}"),
+        _ => panic!("record, replay, histogram or schedule, not {what}"),
     }
 }
 
@@ -591,6 +598,9 @@ fn instructions(words: &[&str]) -> f64 {
     count.unwrap_or_else(|| panic!("valgrind counts nothing for {words:?}: {text}"))
 }
 
+/// Of these calls the units are steps, of the others events.
+const STEP_BY_STEP: [&str; 2] = ["replay", "histogram"];
+
 /// The row of a case, and the instructions of its calls by unit.
 fn counted(what: &str, shape: Shape, (policy, byte): (&'static str, u8), workers: usize) -> (Row, [f64; 3]) {
     let seed = SEEDS.start;
@@ -601,14 +611,14 @@ fn counted(what: &str, shape: Shape, (policy, byte): (&'static str, u8), workers
         let mut case = RecordCase::new(tree, byte, workers, seed);
         (case.events(), case.check())
     };
-    let units = if what == "replay" { LARGEST } else { events };
+    let units = if STEP_BY_STEP.contains(&what) { LARGEST } else { events };
     let count = |contestant| instructions(&[what, contestant, shape.0, policy, &workers.to_string()]);
     let counts = CONTESTANTS.map(|contestant| count(contestant) / units as f64);
     (Row { shape: shape.0, n: LARGEST, policy, workers, units, steals }, counts)
 }
 
 fn instructions_table(what: &str) {
-    let units = if what == "replay" { "steps" } else { "events" };
+    let units = if STEP_BY_STEP.contains(&what) { "steps" } else { "events" };
     let mut table = Table::new(&format!("{what}, instructions of a call"), units, CONTESTANTS);
     for shape in SHAPES {
         for policy in POLICIES {
@@ -633,18 +643,20 @@ fn print_tables(tables: &[(&str, fn())], words: &[&str]) {
     }
 }
 
-const TIMES: [(&str, fn()); 6] = [
+const TIMES: [(&str, fn()); 7] = [
     ("record", record_table),
     ("replay", replay_table),
+    ("histogram", histogram::table),
     ("event", event_table),
     ("schedule", schedule_table),
     ("waiting", waiting::tables),
     ("span", span::table),
 ];
 
-const INSTRUCTIONS: [(&str, fn()); 5] = [
+const INSTRUCTIONS: [(&str, fn()); 6] = [
     ("record", || instructions_table("record")),
     ("replay", || instructions_table("replay")),
+    ("histogram", || instructions_table("histogram")),
     ("schedule", || instructions_table("schedule")),
     ("waiting", waiting::instructions_tables),
     ("span", span::instructions_table),

@@ -1,6 +1,6 @@
 //! The baseline of `tuned.c`: all declarations, and safe calls.
 
-use crate::library::{FrameOutcome, FrameRecord, FrameReplay, FrameSchedule, FrameSpan};
+use crate::library::{FrameAdded, FrameOutcome, FrameRecord, FrameReplay, FrameSchedule, FrameSpan, Histogram};
 
 #[repr(C)]
 #[derive(Clone, Copy, Debug, PartialEq, Eq)]
@@ -10,7 +10,7 @@ pub struct Refusal {
 }
 
 mod c {
-    use super::{FrameOutcome, FrameRecord, FrameReplay, FrameSchedule, FrameSpan, Refusal};
+    use super::{FrameAdded, FrameOutcome, FrameRecord, FrameReplay, FrameSchedule, FrameSpan, Histogram, Refusal};
 
     extern "C" {
         pub fn tuned_record(
@@ -35,6 +35,17 @@ mod c {
             list: *mut u8,
             list_len: usize,
         ) -> FrameReplay;
+        pub fn tuned_histogram_add(
+            histogram: Histogram,
+            tree: *const u8,
+            tree_len: usize,
+            policy: u8,
+            workers: u8,
+            trace: *const u8,
+            trace_len: usize,
+            list: *mut u8,
+            list_len: usize,
+        ) -> FrameAdded;
         pub fn tuned_schedule(
             tree: *const u8,
             tree_len: usize,
@@ -72,6 +83,22 @@ pub fn record(tree: &[u8], policy: u8, workers: u8, events: &[u8], log: &mut [u8
 pub fn replay(tree: &[u8], policy: u8, workers: u8, trace: &[u8], list: &mut [u8]) -> FrameReplay {
     unsafe {
         c::tuned_replay(
+            tree.as_ptr(),
+            tree.len(),
+            policy,
+            workers,
+            trace.as_ptr(),
+            trace.len(),
+            list.as_mut_ptr(),
+            list.len(),
+        )
+    }
+}
+
+pub fn histogram_add(histogram: Histogram, tree: &[u8], policy: u8, workers: u8, trace: &[u8], list: &mut [u8]) -> FrameAdded {
+    unsafe {
+        c::tuned_histogram_add(
+            histogram,
             tree.as_ptr(),
             tree.len(),
             policy,

@@ -1,9 +1,10 @@
 //! The tuned baseline against the simulator, so that what the benchmarks compare with does the same work. Where the simulator takes
 //! long, the baseline is held against the library.
 
-use frame_bench::library::{self, FrameRecord, FrameReplay, FrameSchedule, FrameSpan};
+use frame_bench::library::{self, FrameAdded, FrameRecord, FrameReplay, FrameSchedule, FrameSpan, Histogram};
 use frame_bench::live::expected;
 use frame_bench::tuned;
+use frame_tests::histogram::{add, limits, BUCKETS};
 use frame_tests::random::{
     self, any_count, any_event, any_seed, events_to_record, nearest_count, robbed_in_turn, trace_to_replay, Rng, Weights,
 };
@@ -117,6 +118,48 @@ fn replaying() {
     }
     assert!(classes.iter().all(|&count| count > 0), "calls of one class and of several: {classes:?}");
     assert!([0, 1, 2, 3, 4, 5, 6, 7, 8, 13, 14, 15, 16].iter().all(|&number| refusals[number] > 0), "numbers seen: {refusals:?}");
+}
+
+#[test]
+fn adding_to_histograms() {
+    let mut refusals = [0; 18];
+    for seed in 0..checks() {
+        let rng = &mut Rng::new(seed);
+        let (policy, workers, mut tree) = (policy(rng), any_count(rng), tree(rng));
+        let trace = list(rng, policy, workers, &tree, trace_to_replay);
+        for record in tree.chunks_exact_mut(TREE_RECORD).filter(|_| seed % 2 == 0) {
+            record[4..].copy_from_slice(&(rng.next() as u32 >> rng.below(32)).to_le_bytes());
+        }
+        let list = buffer(rng, 4 * (tree.len() / 8));
+        let (mut got, mut want) = (list.clone(), list);
+        let traces = rng.pick(&[0, 1, 65_534, 65_534, 65_535, 65_536, u32::MAX]);
+        let histogram = Histogram { traces, counts: [(); BUCKETS].map(|()| rng.next() as u32) };
+        let answer = tuned::histogram_add(histogram, &tree, policy, workers, &trace, &mut got);
+        let expected: FrameAdded = add(&histogram.into(), policy, workers, &tree, &trace, &mut want).into();
+        assert_eq!(answer, expected, "seed {seed}");
+        assert!(got == want, "seed {seed}: the run list");
+        refusals[answer.replay.number] += 1;
+    }
+    assert!((0..9).chain(13..18).all(|number| refusals[number] > 0), "numbers seen: {refusals:?}");
+}
+
+/// Each limit, one below and one above, as the load of a single phase.
+#[test]
+fn buckets_at_every_limit() {
+    let most = u64::from(u32::MAX);
+    for load in limits().iter().flat_map(|&limit| [limit - 1, limit, limit + 1]) {
+        let steps = load.div_ceil(most) as usize | 1;
+        let mut tree = random::flat_tree(steps / 2);
+        for (step, record) in tree.chunks_mut(TREE_RECORD).enumerate() {
+            let weight = load.saturating_sub(step as u64 * most).min(most) as u32;
+            record[4..].copy_from_slice(&weight.to_le_bytes());
+        }
+        let mut list = vec![0; 4 * steps];
+        let start = Histogram { traces: 0, counts: [0; BUCKETS] };
+        let expected: FrameAdded = add(&start.into(), 1, 16, &tree, &[], &mut list).into();
+        assert_eq!(tuned::histogram_add(start, &tree, 1, 16, &[], &mut list), expected, "load {load}");
+        assert_eq!(expected.replay.loads[0], load);
+    }
 }
 
 /// Each value of the first four bytes of each record: kind, class and two zeros.

@@ -63,6 +63,12 @@ static void types(void)
     FIELD(FrameSpan, work);
     FIELD(FrameSpan, span);
     FIELD(FrameSpan, length);
+    TYPE(FrameHistogram);
+    FIELD(FrameHistogram, traces);
+    FIELD(FrameHistogram, counts);
+    TYPE(FrameAdded);
+    FIELD(FrameAdded, replay);
+    FIELD(FrameAdded, histogram);
     TYPE(FrameTree);
     FIELD(FrameTree, number);
     FIELD(FrameTree, position);
@@ -85,6 +91,9 @@ static void constants(void)
     NUMBER(FRAME_CLASSES);
     NUMBER(FRAME_MOST_EVENTS);
     NUMBER(FRAME_MOST_STEALS);
+    NUMBER(FRAME_LIMITS);
+    NUMBER(FRAME_BUCKETS);
+    NUMBER(FRAME_MOST_TRACES);
     NUMBER(FRAME_STACK_BYTES);
     NUMBER(FRAME_TREE_BYTES(4095));
     NUMBER(FRAME_LOG_BYTES(4095));
@@ -121,6 +130,7 @@ static void constants(void)
     NUMBER(FRAME_REFUSED_NO_PHASE);
     NUMBER(FRAME_REFUSED_NUMBER);
     NUMBER(FRAME_REFUSED_COUNT);
+    NUMBER(FRAME_REFUSED_FULL);
     NUMBER(FRAME_RAN);
     NUMBER(FRAME_STOLE);
     NUMBER(FRAME_PLACE_RUN);

@@ -37,6 +37,10 @@ int main(void)
         EXPECT(replayed.number == FRAME_ACCEPTED && replayed.phases == 1 && replayed.loads[0] == 9);
         EXPECT(replayed.class_loads[0] == 0 && replayed.class_loads[FRAME_CLASSES - 1] == 9);
         EXPECT(list[0] == 0 && list[1] == 0 && list[2] == 0 && list[3] == 0);
+        FrameAdded added = frame_histogram_add(frame_histogram_start(), tree, sizeof tree, policy, 1, trace, 0, list, sizeof list);
+        EXPECT(added.replay.number == FRAME_ACCEPTED && added.replay.phases == 1 && added.replay.loads[0] == 9);
+        /* Limit 13 is 9, and limit 14 is 11. */
+        EXPECT(added.histogram.traces == 1 && added.histogram.counts[13 + 1] == 1);
         FrameSchedule schedule = frame_schedule(tree, sizeof tree, policy, FRAME_WORKERS, 9, made, sizeof made);
         EXPECT(schedule.number == FRAME_ACCEPTED && schedule.events == 1 && made[0] == 0 && made[1] == 0);
     }

@@ -35,6 +35,13 @@ impl Phase {
         }
         covered
     }
+
+    /// The phase's own load: the sum of weights of all steps it covers.
+    pub fn load(&self, tree: &Tree) -> u64 {
+        let covered = self.covers(tree);
+        let steps = (0..tree.count()).filter(|&step| covered[step]);
+        steps.map(|step| u64::from(tree.weight(step))).sum()
+    }
 }
 
 /// All steps that phases cover, each with the phase's worker.

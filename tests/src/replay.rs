@@ -21,6 +21,17 @@ pub struct ReplayAnswer {
     pub class_loads: [u64; CLASSES],
 }
 
+impl ReplayAnswer {
+    /// A refused call's answer: all other results are 0.
+    pub fn refused(refusal: Refusal) -> ReplayAnswer {
+        ReplayAnswer {
+            number: refusal.number,
+            position: refusal.position,
+            ..ReplayAnswer::default()
+        }
+    }
+}
+
 /// The phases as the trace read so far leaves them.
 #[derive(Clone, Debug)]
 pub struct Replay {
@@ -140,6 +151,28 @@ impl Replay {
         }
         order
     }
+
+    /// Writes the run list of a trace read to its end, and answers.
+    pub fn write_and_answer(&self, run_list: &mut [u8]) -> ReplayAnswer {
+        let mut at = 0;
+        for phase in 0..self.phases.len() {
+            for step in self.running_order(phase) {
+                put_u16(run_list, at, phase);
+                put_u16(run_list, at + 2, step);
+                at += 4;
+            }
+        }
+        let covered = covered_steps(&self.tree, &self.phases);
+        let loads = loads(&self.tree, &covered);
+        ReplayAnswer {
+            number: 0,
+            position: 0,
+            phases: self.phases.len(),
+            loads,
+            heaviest: heaviest(&loads),
+            class_loads: class_loads(&self.tree, &covered),
+        }
+    }
 }
 
 /// Reads a whole trace; `list_bytes` is the length of the lent run list.
@@ -177,33 +210,9 @@ pub fn replay(
     trace: &[u8],
     run_list: &mut [u8],
 ) -> ReplayAnswer {
-    let replay = match judge_and_replay(policy, workers, tree, trace, run_list.len()) {
-        Err(refusal) => {
-            return ReplayAnswer {
-                number: refusal.number,
-                position: refusal.position,
-                ..ReplayAnswer::default()
-            }
-        }
-        Ok(replay) => replay,
-    };
-    let mut at = 0;
-    for phase in 0..replay.phases.len() {
-        for step in replay.running_order(phase) {
-            put_u16(run_list, at, phase);
-            put_u16(run_list, at + 2, step);
-            at += 4;
-        }
-    }
-    let covered = covered_steps(&replay.tree, &replay.phases);
-    let loads = loads(&replay.tree, &covered);
-    ReplayAnswer {
-        number: 0,
-        position: 0,
-        phases: replay.phases.len(),
-        loads,
-        heaviest: heaviest(&loads),
-        class_loads: class_loads(&replay.tree, &covered),
+    match judge_and_replay(policy, workers, tree, trace, run_list.len()) {
+        Err(refusal) => ReplayAnswer::refused(refusal),
+        Ok(replay) => replay.write_and_answer(run_list),
     }
 }
 

@@ -9,11 +9,12 @@ use std::path::{Path, PathBuf};
 const DOCUMENT: &str = "docs/ARCHITECTURE.md";
 
 /// The entries in Rattle, by source. Those for C are found by their mark.
-const ENTRIES: [(&str, &[&str]); 12] = [
+const ENTRIES: [(&str, &[&str]); 13] = [
     ("crates/run_state/src/start.rt", &["start"]),
     ("crates/run_state/src/lib.rt", &["run", "steal", "event", "idle"]),
     ("crates/record/src/lib.rt", &["record"]),
     ("crates/replay/src/lib.rt", &["replay"]),
+    ("crates/histogram/src/lib.rt", &["start", "add"]),
     ("crates/schedule/src/lib.rt", &["schedule"]),
     ("crates/dag_span/src/lib.rt", &["span"]),
     ("crates/phases_text/src/lib.rt", &["list_phases"]),
@@ -149,10 +150,11 @@ fn statements(whole: &str) -> Vec<String> {
 
 // ---- Pages ----
 
-/// The pages with several theorems: demand 3, the worker count and the classes; progress of a state with the invariant, and of one
-/// that events lead to. Every other has one.
-const SEVERAL: [(&str, usize); 3] = [
+/// The pages with several theorems: demand 3, the worker count and the classes; one addition to a histogram, and a list of them;
+/// progress of a state with the invariant, and of one that events lead to. Every other has one.
+const SEVERAL: [(&str, usize); 4] = [
     ("crates/agreement/specs/Theorem.antt", 3),
+    ("crates/histogram_invariant/specs/Theorem.antt", 2),
     ("crates/run_progress/specs/Theorem.antt", 2),
     ("crates/run_refinement/specs/Theorem.antt", 2),
 ];
@@ -168,7 +170,7 @@ fn believed() -> BTreeMap<String, String> {
         }
     }
     let theorems: Vec<String> = files("crates").into_iter().filter(|name| name.ends_with("/specs/Theorem.antt")).collect();
-    assert_eq!(theorems.len(), 8, "{theorems:#?}");
+    assert_eq!(theorems.len(), 10, "{theorems:#?}");
     for theorem in theorems {
         let whole = text(&theorem, "--");
         let statements = statements(&whole);

@@ -1,6 +1,6 @@
 //! The examples of document 01, and worked cases of a run's own worker count,
-//! of the schedule maker, of the classes, of the awaited step, and of work and
-//! span.
+//! of the schedule maker, of the classes, of the awaited step, of work and span,
+//! and of the histogram.
 
 #[path = "library/awaited.rs"]
 mod awaited;
@@ -8,14 +8,17 @@ mod awaited;
 mod classes;
 #[path = "library/counts.rs"]
 mod counts;
+#[path = "library/histograms.rs"]
+mod histograms;
 #[path = "library/schedules.rs"]
 mod schedules;
 #[path = "library/spans.rs"]
 mod spans;
 
+use frame_tests::histogram::{add, bucket, limits, Added, Histogram, MAX_TRACES};
 use frame_tests::random::{tree_of_kinds, tree_of_weights};
 use frame_tests::record::{record, record_to_vecs, RecordAnswer};
-use frame_tests::replay::{replay, replay_to_vecs, ReplayAnswer};
+use frame_tests::replay::{judge_and_replay, replay, replay_to_vecs, ReplayAnswer};
 use frame_tests::run::Run;
 use frame_tests::schedule::{schedule, Maker, ScheduleAnswer};
 use frame_tests::span::{all_before, ends, links, span, SpanAnswer, Steps};
@@ -385,6 +388,15 @@ fn the_chain_of_the_format() {
     assert_eq!(chain, [&bytes[..], &[0xEE; 4]].concat());
 }
 
+/// The limits with which docs/FORMAT.md begins are the simulator's.
+#[test]
+fn the_first_limits_of_the_format() {
+    let lines = shown_by_the_format("Histogram");
+    let numbers = lines.iter().flat_map(|line| line.split_whitespace());
+    let numbers: Vec<u64> = numbers.map(|number| number.parse().unwrap()).collect();
+    assert_eq!(numbers, limits()[..12]);
+}
+
 /// The first worked case round by round.
 #[test]
 fn turns_of_sixteen_workers() {
@@ -515,4 +527,52 @@ fn worked_cases_of_what_precedes() {
 fn ends_of_tree_s() {
     let tree = Tree::parse(&s()).unwrap();
     assert_eq!(ends(&tree, &all_before(&links(&tree))), [1, 2, 2, 3, 4, 4, 5]);
+}
+
+#[test]
+fn worked_limits_and_buckets() {
+    for (k, limit) in histograms::LIMITS {
+        assert_eq!(limits()[k], limit, "limit {k}");
+    }
+    for (load, limit) in histograms::BUCKETS_OF_LOADS {
+        assert_eq!(bucket(load), limit.map_or(0, |k| k + 1), "load {load}");
+    }
+}
+
+/// A worked case on this histogram, with all that the case says of the answer
+/// but the histogram.
+fn worked_addition(histogram: &Histogram, case: histograms::Case) -> Added {
+    let (policy, kinds, weights, trace, room, want, loads, _) = case;
+    let tree = tree_of_weights(kinds, weights);
+    let mut list = vec![0xEE; room];
+    let added = add(histogram, policy, 16, &tree, trace, &mut list);
+    assert_eq!(refusal(added.replay.number, added.replay.position), want, "{case:?}");
+    if added.replay.number != 0 {
+        assert_eq!(added.replay, refused_replay(want.0 as u32, want.1), "{case:?}");
+        assert_eq!(list, vec![0xEE; room], "{case:?}");
+    } else {
+        let mut own = vec![0xEE; room];
+        assert_eq!(added.replay, replay(policy, 16, &tree, trace, &mut own), "{case:?}");
+        assert_eq!(list, own, "{case:?}");
+        let read = judge_and_replay(policy, 16, &tree, trace, room).unwrap();
+        let found: Vec<u64> = read.phases.iter().map(|phase| phase.load(&read.tree)).collect();
+        assert_eq!(found, loads, "{case:?}");
+    }
+    added
+}
+
+#[test]
+fn worked_cases_of_the_histogram() {
+    let mut histogram = Histogram::start();
+    let mut traces = 0;
+    for case in histograms::IN_TURN {
+        histogram = worked_addition(&histogram, case).histogram;
+        traces += u32::from(case.5 .0 == 0);
+        let counts = histograms::counts(case.7);
+        assert_eq!(histogram, Histogram { traces, counts }, "{case:?}");
+    }
+    for case in histograms::WHERE_FULL {
+        let full = Histogram { traces: MAX_TRACES, counts: histograms::counts(case.7) };
+        assert_eq!(worked_addition(&full, case).histogram, full, "{case:?}");
+    }
 }

@@ -11,30 +11,35 @@ use std::path::{Path, PathBuf};
 use std::process::Command;
 
 use frame_tests::cover::WORKERS;
+use frame_tests::histogram::{BUCKETS, LIMITS, MAX_TRACES};
 use frame_tests::record::{EVENT_BYTES, MAX_EVENTS};
 use frame_tests::replay::{MAX_TRACE, TRACE_BYTES};
 use frame_tests::schedule::most_events;
 use frame_tests::tree::{CLASSES, MAX_OPEN, MAX_TREE_BYTES, TREE_RECORD};
 use library::{
-    FrameEvent, FrameIdle, FrameOutcome, FrameRecord, FrameReplay, FrameRunning, FrameSchedule, FrameSpan, FrameStart, FrameTask,
-    FrameTree, RunState,
+    FrameAdded, FrameEvent, FrameIdle, FrameOutcome, FrameRecord, FrameReplay, FrameRunning, FrameSchedule, FrameSpan, FrameStart,
+    FrameTask, FrameTree, Histogram, RunState,
 };
 
 const HEADER: &str = "include/frame.h";
 const RUST: &str = "tests/tests/library/mod.rs";
 /// The crates whose functions the library exports.
-const SOURCES: [&str; 5] = [
+const SOURCES: [&str; 6] = [
     "crates/frame_run/src/lib.rt",
     "crates/frame_traces/src/lib.rt",
+    "crates/frame_histogram/src/lib.rt",
     "crates/frame_schedule/src/lib.rt",
     "crates/frame_tree/src/lib.rt",
     "crates/frame_dag/src/lib.rt",
 ];
 /// The crate of the structs that `frame_run`, `frame_traces` and `frame_schedule` answer.
 const SOURCE_OF_ANSWERS: &str = "crates/frame_answers/src/lib.rt";
-const SOURCE_OF_STATE: &str = "crates/run_state/src/lib.rt";
+/// The structs that C takes and gets by value, each with its crate.
+const SOURCES_OF_STATES: [(&str, &str); 2] =
+    [("RunState", "crates/run_state/src/lib.rt"), ("Histogram", "crates/histogram/src/lib.rt")];
 /// The crates of the constants that are lengths of arrays in these structs.
-const SOURCES_OF_LENGTHS: [&str; 2] = ["crates/policy/src/lib.rt", "crates/tree/src/lib.rt"];
+const SOURCES_OF_LENGTHS: [&str; 3] =
+    ["crates/policy/src/lib.rt", "crates/tree/src/lib.rt", "crates/histogram_bucket/src/lib.rt"];
 
 fn path(name: &str) -> PathBuf {
     Path::new(env!("CARGO_MANIFEST_DIR")).join("..").join(name)
@@ -93,6 +98,8 @@ fn c_types(rust: &str) -> &[&str] {
         "FrameReplay" => &["FrameReplay"],
         "FrameSchedule" => &["FrameSchedule"],
         "FrameSpan" => &["FrameSpan"],
+        "Histogram" => &["FrameHistogram"],
+        "FrameAdded" => &["FrameAdded"],
         _ => panic!("which type of C is {rust}?"),
     }
 }
@@ -184,8 +191,9 @@ fn with_length(field: &str) -> String {
 fn the_same_structs() {
     let sources = SOURCES.into_iter().chain([SOURCE_OF_ANSWERS]);
     let mut exported: BTreeMap<_, _> = sources.flat_map(rust_structs).collect();
-    let state = rust_structs(SOURCE_OF_STATE).remove_entry("RunState").expect("the state is a struct of C");
-    exported.extend([state]);
+    for (name, source) in SOURCES_OF_STATES {
+        exported.extend([rust_structs(source).remove_entry(name).expect("it is a struct of C")]);
+    }
     for fields in exported.values_mut() {
         *fields = fields.iter().map(|field| with_length(field)).collect();
     }
@@ -219,6 +227,8 @@ fn layout() -> BTreeMap<String, Vec<usize>> {
     layout!(lines, "FrameReplay", FrameReplay { number, position, phases, loads, heaviest, class_loads });
     layout!(lines, "FrameSchedule", FrameSchedule { number, position, events });
     layout!(lines, "FrameSpan", FrameSpan { number, position, work, span, length });
+    layout!(lines, "FrameHistogram", Histogram { traces, counts });
+    layout!(lines, "FrameAdded", FrameAdded { replay, histogram });
     layout!(lines, "FrameTree", FrameTree { number, position, steps });
     layout!(lines, "FrameTask", FrameTask { first, ordinal });
     layout!(lines, "FrameRunning", FrameRunning { opens, hold, push });
@@ -244,6 +254,7 @@ fn format_fields(heading: &str, offset: usize, bytes: usize) -> Vec<Vec<usize>> 
 #[test]
 fn the_layouts_of_the_format() {
     assert_eq!(format_fields("| offset | bytes | meaning |", 0, 1), fields("FrameState"));
+    assert_eq!(format_fields("| offset in a histogram | bytes | meaning |", 0, 1), fields("FrameHistogram"));
     let answers = "| offset, record | offset, replay | offset, schedule | offset, span | bytes | meaning |";
     assert_eq!(format_fields(answers, 0, 4), fields("FrameRecord"));
     assert_eq!(format_fields(answers, 1, 4), fields("FrameReplay"));
@@ -261,6 +272,15 @@ fn no_byte_of_a_state_is_padding() {
         end + place[1]
     });
     assert_eq!((end, size_of::<RunState>()), (4_228, 4_228));
+}
+
+/// A histogram is its counts and nothing else, and an addition's answer is replay's with the histogram behind it.
+#[test]
+fn no_byte_of_a_histogram_is_padding() {
+    assert_eq!(fields("FrameHistogram"), [[0, 4], [4, 4 * 177]]);
+    assert_eq!(size_of::<Histogram>(), 4 + 4 * 177);
+    assert_eq!(fields("FrameAdded"), [[0, 288], [288, 712]]);
+    assert_eq!(size_of::<FrameAdded>(), 288 + 712);
 }
 
 /// The class loads stand last, and all else where it was before there were classes.
@@ -283,7 +303,7 @@ fn versions() -> Vec<usize> {
 
 #[test]
 fn the_versions_of_the_format() {
-    assert_eq!(versions(), [1, 2, 3, 4, 5]);
+    assert_eq!(versions(), [1, 2, 3, 4, 5, 6]);
 }
 
 /// What a name of the header stands for, apart from the refusals.
@@ -297,6 +317,9 @@ fn constants() -> BTreeMap<String, Vec<usize>> {
         ("FRAME_CLASSES", CLASSES),
         ("FRAME_MOST_EVENTS", MAX_EVENTS),
         ("FRAME_MOST_STEALS", MAX_TRACE),
+        ("FRAME_LIMITS", LIMITS),
+        ("FRAME_BUCKETS", BUCKETS),
+        ("FRAME_MOST_TRACES", MAX_TRACES as usize),
         ("FRAME_STACK_BYTES", 96 * 1_024),
         ("FRAME_TREE_BYTES(4095)", MAX_TREE_BYTES),
         ("FRAME_LOG_BYTES(4095)", 4 * steps),
@@ -345,7 +368,7 @@ fn header_refusals() -> Vec<(usize, String, String)> {
 fn the_refusals_of_the_format() {
     let refusal = |row: Vec<String>| (row[0].parse().expect("it is a number"), row[1].clone());
     let rows: Vec<(usize, String)> = format_rows("| number | condition | position |").into_iter().map(refusal).collect();
-    assert_eq!(rows.iter().map(|row| row.0).collect::<Vec<_>>(), (1..=16).collect::<Vec<_>>());
+    assert_eq!(rows.iter().map(|row| row.0).collect::<Vec<_>>(), (1..=17).collect::<Vec<_>>());
     let named = header_refusals().into_iter().map(|(number, _, condition)| (number, condition));
     assert_eq!(named.collect::<Vec<_>>(), rows);
 }

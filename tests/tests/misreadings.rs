@@ -1,19 +1,23 @@
 //! Each misreading named in document 01, and those that a run's own worker
-//! count, the schedule maker, the classes, the awaited step, and work and span
-//! invite, each with a case it would fail.
+//! count, the schedule maker, the classes, the awaited step, work and span, and
+//! the histogram invite, each with a case it would fail.
 
 #[path = "library/awaited.rs"]
 mod awaited;
+#[path = "library/histograms.rs"]
+mod histograms;
 #[path = "library/schedules.rs"]
 mod schedules;
 #[path = "library/spans.rs"]
 mod spans;
 
 use std::cmp::Ordering;
+use std::collections::BTreeMap;
 
+use frame_tests::histogram::{bucket, limits, BUCKETS, LIMITS};
 use frame_tests::random::{tree_of_kinds, tree_of_weights, tree_record};
 use frame_tests::record::record_to_vecs;
-use frame_tests::replay::replay_to_vecs;
+use frame_tests::replay::{judge_and_replay, replay_to_vecs, Replay};
 use frame_tests::run::Run;
 use frame_tests::schedule::{schedule, schedule_to_vec};
 use frame_tests::span::{span, span_to_vec};
@@ -748,5 +752,97 @@ fn length_and_room_of_a_chain() {
     assert_eq!((answer.work, answer.span), (7, 5));
     for (room, number) in [(10, 7), (13, 7), (14, 0)] {
         assert_eq!(span(&s(), &mut vec![0; room]).number, number);
+    }
+}
+
+/// A reading of document 02's words about the histogram.
+#[derive(Clone, Copy)]
+struct Counting {
+    /// The loads that an accepted trace adds.
+    loads: fn(&Replay) -> Vec<u64>,
+    /// The bucket of a load.
+    bucket: fn(u64) -> usize,
+    /// Whether a trace with this refusal adds to the count of traces.
+    counts: fn(usize) -> bool,
+}
+
+const COUNTING: Counting = Counting {
+    loads: |replay| replay.phases.iter().map(|phase| phase.load(&replay.tree)).collect(),
+    bucket,
+    counts: |number| number == 0,
+};
+
+/// The count of traces and the counts after each of the worked cases, read so.
+fn counted_by(reading: Counting) -> Vec<(u32, [u32; BUCKETS])> {
+    let (mut traces, mut counts) = (0, [0; BUCKETS]);
+    let mut after = Vec::new();
+    for (policy, kinds, weights, trace, room, want, ..) in histograms::IN_TURN {
+        traces += u32::from((reading.counts)(want.0));
+        let tree = tree_of_weights(kinds, weights);
+        if let Ok(replay) = judge_and_replay(policy, 16, &tree, trace, room) {
+            for load in (reading.loads)(&replay) {
+                counts[(reading.bucket)(load)] += 1;
+            }
+        }
+        after.push((traces, counts));
+    }
+    after
+}
+
+/// Each misreading of the histogram, which the worked cases tell from it.
+#[test]
+fn misread_histograms() {
+    let want: Vec<_> = histograms::IN_TURN
+        .iter()
+        .zip([1, 2, 3, 3, 4, 5])
+        .map(|(case, traces)| (traces, histograms::counts(case.7)))
+        .collect();
+    assert_eq!(counted_by(COUNTING), want);
+    // The first of the limits that equal this one.
+    let lowest: fn(u64) -> usize = |load| match bucket(load) {
+        0 => 0,
+        after => limits().iter().position(|&limit| limit == limits()[after - 1]).unwrap() + 1,
+    };
+    let below: fn(u64) -> usize =
+        |load| (0..LIMITS).rev().find(|&k| limits()[k] < load).map_or(0, |k| k + 1);
+    let above: fn(u64) -> usize =
+        |load| (0..LIMITS).find(|&k| limits()[k] >= load).map_or(0, |k| k + 1);
+    // The first of the four limits that have the load's highest bit.
+    let by_bit: fn(u64) -> usize =
+        |load| load.checked_ilog2().map_or(0, |bit| 4 * bit as usize + 1);
+    let by_worker: fn(&Replay) -> Vec<u64> = |replay| {
+        let mut loads = BTreeMap::new();
+        for (phase, load) in replay.phases.iter().zip((COUNTING.loads)(replay)) {
+            *loads.entry(phase.worker).or_default() += load;
+        }
+        loads.into_values().collect()
+    };
+    let steps: fn(&Replay) -> Vec<u64> = |replay| {
+        let covered = replay.phases.iter().map(|phase| phase.covers(&replay.tree));
+        covered.map(|covered| covered.iter().filter(|&&step| step).count() as u64).collect()
+    };
+    let at_their_start: fn(&Replay) -> Vec<u64> = |replay| {
+        let weight = |step| u64::from(replay.tree.weight(step));
+        let ranges = replay.phases.iter().map(|phase| replay.tree.to_end_of_task(phase.first));
+        ranges.map(|steps| steps.map(weight).sum()).collect()
+    };
+    let stolen: fn(&Replay) -> Vec<u64> = |replay| (COUNTING.loads)(replay).split_off(1);
+    let heavy: fn(&Replay) -> Vec<u64> =
+        |replay| (COUNTING.loads)(replay).into_iter().filter(|&load| load > 0).collect();
+    let misreadings = [
+        ("the lowest of equal limits", Counting { bucket: lowest, ..COUNTING }),
+        ("a limit below the load", Counting { bucket: below, ..COUNTING }),
+        ("the lowest limit that the load does not exceed", Counting { bucket: above, ..COUNTING }),
+        ("load 0 to limit 0", Counting { bucket: |load| bucket(load).max(1), ..COUNTING }),
+        ("by the highest bit alone", Counting { bucket: by_bit, ..COUNTING }),
+        ("the loads of the workers", Counting { loads: by_worker, ..COUNTING }),
+        ("the phases' counts of steps", Counting { loads: steps, ..COUNTING }),
+        ("what a phase covers at its start", Counting { loads: at_their_start, ..COUNTING }),
+        ("stolen phases alone", Counting { loads: stolen, ..COUNTING }),
+        ("phases with a load alone", Counting { loads: heavy, ..COUNTING }),
+        ("refused traces too", Counting { counts: |_| true, ..COUNTING }),
+    ];
+    for (misread, reading) in misreadings {
+        assert_ne!(counted_by(reading), want, "{}", misread);
     }
 }

@@ -6,6 +6,7 @@ mod chains;
 use std::collections::{HashMap, HashSet};
 
 use frame_tests::cover::{class_loads, covered_steps, loads, Phase};
+use frame_tests::histogram::{add, bucket, limits, Big, Histogram, LIMITS};
 use frame_tests::phases::phases;
 use frame_tests::random::{self, Classes, Plan, Rng, Shape, Weights, SHAPES};
 use frame_tests::record::{record, record_to_vecs, RecordAnswer, MAX_EVENTS};
@@ -1308,4 +1309,90 @@ fn rooms_for_chains() {
             }
         }
     });
+}
+
+/// The fourth powers of a limit and of one more stand around the power of two:
+/// in 128 bits where they fit, and by the simulator's own numbers everywhere.
+#[test]
+fn limits_are_fourth_roots() {
+    for (k, &limit) in limits().iter().enumerate() {
+        let (limit, next) = (Big::new(limit), Big::new(limit + 1));
+        let power = Big::power_of_two(k);
+        assert!(limit.fourth_power().at_most(power), "limit {k}");
+        assert!(!next.fourth_power().at_most(power), "limit {k}");
+    }
+    for (k, &limit) in limits().iter().enumerate().take(124) {
+        let (limit, power) = (u128::from(limit), 1_u128 << k);
+        assert!(limit.pow(4) <= power && power < (limit + 1).pow(4), "limit {k}");
+    }
+    // A power of two every four limits; else twice the one four before, or one more.
+    for k in 0..LIMITS {
+        let limit = limits()[k];
+        assert!(k % 4 > 0 || limit == 1 << (k / 4), "limit {k}");
+        assert!(k < 4 || limit / 2 == limits()[k - 4], "limit {k}");
+        assert!(k == 0 || limits()[k - 1] <= limit, "limit {k}");
+    }
+}
+
+/// The simulator's long numbers against those of 128 bits.
+#[test]
+fn products_of_long_numbers() {
+    for_seeds(150_000..160_000, |seed| {
+        let mut rng = Rng::new(seed);
+        let numbers = [(); 4].map(|()| rng.next() >> rng.below(64));
+        let [a, b, c, d] = numbers.map(Big::new);
+        let [ab, cd] = [0, 2].map(|k| u128::from(numbers[k]) * u128::from(numbers[k + 1]));
+        assert_eq!(a.times(b), b.times(a));
+        assert_eq!(a.times(b).at_most(c.times(d)), ab <= cd);
+        assert_eq!(a.times(b).times(c), a.times(b.times(c)));
+        let exponent = rng.below(128);
+        assert_eq!(a.times(b).at_most(Big::power_of_two(exponent)), ab <= 1 << exponent);
+    });
+}
+
+/// The highest limit that does not exceed a load.
+#[test]
+fn buckets_of_loads() {
+    for_seeds(160_000..170_000, |seed| {
+        let mut rng = Rng::new(seed);
+        let near = rng.pick(limits()) + rng.below(3) as u64 - 1;
+        let load = if rng.percent(50) { near } else { rng.next() >> rng.below(64) };
+        match bucket(load) {
+            0 => assert_eq!(load, 0),
+            LIMITS => assert!(limits()[LIMITS - 1] <= load),
+            after => assert!(limits()[after - 1] <= load && load < limits()[after]),
+        }
+    });
+}
+
+/// Over a list of calls: what replay answers, and the counts add up to the phases
+/// answered. Each load is that of the phase's steps in the run list.
+#[test]
+fn histograms_of_lists_of_calls() {
+    let mut seen = HashSet::new();
+    for_seeds(170_000..171_000, |seed| {
+        let mut rng = Rng::new(seed);
+        let mut histogram = Histogram::start();
+        let mut want = histogram;
+        let mut phases = 0;
+        for _ in 0..rng.between(1, 12) {
+            let (policy, workers, tree, _, trace) = any_call(&mut rng);
+            let mut list = vec![0; tree.len() / 2];
+            let added = add(&histogram, policy, workers, &tree, &trace, &mut list);
+            let (replayed, steps) = replay_to_vecs(policy, workers, &tree, &trace);
+            assert_eq!(added.replay, replayed);
+            want.traces += u32::from(replayed.number == 0);
+            for steps in &steps {
+                let parsed = Tree::parse(&tree).unwrap();
+                let weights = steps.iter().map(|&step| u64::from(parsed.weight(step)));
+                want.counts[bucket(weights.sum())] += 1;
+            }
+            assert_eq!(added.histogram, want);
+            histogram = added.histogram;
+            phases += replayed.phases as u32;
+            assert_eq!(histogram.counts.iter().sum::<u32>(), phases);
+            seen.insert(added.replay.number);
+        }
+    });
+    assert!(seen.len() >= 12, "{:?}", seen);
 }

@@ -1,5 +1,6 @@
 //! Each refusal at least twice with its position, and which one wins.
 
+use frame_tests::histogram::{add, Added, Histogram, BUCKETS};
 use frame_tests::random::tree_of_kinds;
 use frame_tests::record::{record, RecordAnswer};
 use frame_tests::replay::{replay, ReplayAnswer};
@@ -63,7 +64,34 @@ fn replay_refusal_with(
         assert_eq!(answer, ReplayAnswer { number, position, ..ReplayAnswer::default() });
         assert!(list.iter().all(|&byte| byte == 0xA5));
     }
+    for traces in [0, 65_534, 65_535] {
+        let added = add_refusal_with(traces, policy, workers, tree, trace, list_bytes);
+        let full = answer.number == 0 && traces == 65_535;
+        assert_eq!(added, if full { (17, 0) } else { (answer.number, answer.position) });
+    }
     (answer.number, answer.position)
+}
+
+/// The refusal of an addition to a histogram of so many traces. All other
+/// results are 0, the histogram is the one given, and the list keeps its bytes.
+fn add_refusal_with(
+    traces: u32,
+    policy: u8,
+    workers: u8,
+    tree: &[u8],
+    trace: &[u8],
+    list_bytes: usize,
+) -> (u32, usize) {
+    let histogram = Histogram { traces, counts: [7; BUCKETS] };
+    let mut list = vec![0xA5; list_bytes];
+    let added = add(&histogram, policy, workers, tree, trace, &mut list);
+    let (number, position) = (added.replay.number, added.replay.position);
+    if number != 0 {
+        let replay = ReplayAnswer { number, position, ..ReplayAnswer::default() };
+        assert_eq!(added, Added { replay, histogram });
+        assert!(list.iter().all(|&byte| byte == 0xA5));
+    }
+    (number, position)
 }
 
 /// The refusal of a schedule call with any seed and an ample buffer.
@@ -624,4 +652,21 @@ fn refusal_15_help_first() {
     assert_eq!(replay_refusal(2, &s(), &[1, 0, 6, 0, 2, 0, 4, 0, 3, 0, 1, 0]), (0, 0));
     // The tree of one end has nothing to steal.
     assert_eq!(replay_refusal(2, &tree_of_kinds(&[3]), &[1, 0, 0, 0]), (15, 0));
+}
+
+#[test]
+fn refusal_17() {
+    let one = tree_of_kinds(&[3]);
+    for traces in [0, 1, 65_533, 65_534] {
+        assert_eq!(add_refusal_with(traces, 1, 16, &s(), &[1, 0, 1, 0], 28), (0, 0));
+        assert_eq!(add_refusal_with(traces, 2, 1, &one, &[], 4), (0, 0));
+    }
+    assert_eq!(add_refusal_with(65_535, 1, 16, &s(), &[1, 0, 1, 0], 28), (17, 0));
+    assert_eq!(add_refusal_with(65_535, 2, 1, &one, &[], 4), (17, 0));
+    // After every refusal of the replay itself; 16 is among them.
+    assert_eq!(add_refusal_with(65_535, 1, 17, &s(), &[1, 0, 1, 0], 28), (16, 0));
+    assert_eq!(add_refusal_with(65_535, 1, 16, &s(), &[1, 0, 1, 0], 27), (7, 0));
+    assert_eq!(add_refusal_with(65_535, 1, 16, &s(), &[1, 0, 3, 0], 28), (15, 0));
+    // Replay alone has no such refusal.
+    assert_eq!(replay_refusal(1, &s(), &[1, 0, 1, 0]), (0, 0));
 }

@@ -1,18 +1,20 @@
 //! Writes random calls with the simulator's answers as a table of antt, so that the prover computes the rules' answers and
 //! compares. The rules are what every proof rests on; nothing else tests them on cases that nobody chose.
 //!
-//! `rule_cases SEED THEOREMS` writes the page on runs, traces and schedules, `rule_cases dag SEED THEOREMS` that on work and span.
+//! `rule_cases SEED THEOREMS` writes the page on runs, traces and schedules, `rule_cases dag SEED THEOREMS` that on work and span,
+//! `rule_cases histogram SEED THEOREMS` that on histograms.
 
 use std::fmt::Write;
 
 use frame_tests::cover::WORKERS;
+use frame_tests::histogram::{BUCKETS, MAX_TRACES};
 use frame_tests::phases::phases;
 use frame_tests::random::{
     accepted_bytes, any_count, any_seed, damaged_tree, drive, finish_tree, nearest_count, run_all_but, set_classes, set_weights, trace,
     tree, worker_at_the_edge, Classes, Plan, Rng, Weights,
 };
 use frame_tests::tree::TREE_RECORD;
-use frame_tests::{record, replay, schedule, span, Policy, Run, Tree};
+use frame_tests::{add, record, replay, schedule, span, Histogram, Policy, ReplayAnswer, Run, Tree};
 
 /// How many rows a theorem has. antt computes each theorem within a fixed count of steps.
 const ROWS: u64 = 10;
@@ -145,19 +147,22 @@ fn replay_row(out: &mut String, seed: u64) {
     let mut list = lent(&mut rng, 4 * n);
     let call = format!("replayCall {workers} {policy} {} {} {}", bytes(&bytes_of_tree), bytes(&records), bytes(&list));
     let answer = replay(policy, workers, &bytes_of_tree, &records, &mut list);
-    write!(
-        out,
-        "record {{ got = {call}; says = record {{ verdict = record {{ number = {}; position = {} }}; phaseCount = {}; \
-         loads = {}; heaviest = {}; classLoads = {}; list = {} }} }} ∷ ",
+    write!(out, "record {{ got = {call}; says = {} }} ∷ ", replayed(&answer, &list)).expect("a string takes all");
+}
+
+/// What a replay answers and writes, as the rules' record.
+fn replayed(answer: &ReplayAnswer, list: &[u8]) -> String {
+    format!(
+        "record {{ verdict = record {{ number = {}; position = {} }}; phaseCount = {}; loads = {}; heaviest = {}; \
+         classLoads = {}; list = {} }}",
         answer.number,
         answer.position,
         answer.phases,
         numbers(&answer.loads),
         answer.heaviest,
         numbers(&answer.class_loads),
-        bytes(&list)
+        bytes(list)
     )
-    .expect("a string takes all");
 }
 
 /// What program `phases` prints: mostly for a whole input, sometimes with another count of records, or cut anywhere.
@@ -274,6 +279,48 @@ fn span_row(out: &mut String, seed: u64) {
     .expect("a string takes all");
 }
 
+/// A histogram with a few counts, mostly not full.
+fn some_histogram(rng: &mut Rng) -> Histogram {
+    let traces = rng.pick(&[0, 1, 300, MAX_TRACES - 2, MAX_TRACES - 1, MAX_TRACES, MAX_TRACES + 1]);
+    let mut counts = [0; BUCKETS];
+    for _ in 0..rng.below(6) {
+        counts[rng.below(BUCKETS)] = rng.next() as u32 >> rng.between(1, 31);
+    }
+    Histogram { traces, counts }
+}
+
+/// A histogram as the rules' record.
+fn histogram(histogram: &Histogram) -> String {
+    let counts = histogram.counts.map(u64::from);
+    format!("record {{ traces = {}; counts = {} }}", histogram.traces, numbers(&counts))
+}
+
+/// What an addition answers and writes, with loads of all sizes. The trees have at most seven steps.
+fn histogram_row(out: &mut String, seed: u64) {
+    let mut rng = Rng::new(seed);
+    let policy = if rng.percent(5) { rng.pick(&[0, 3, 255]) } else { rng.pick(&[1, 2]) };
+    let tasks = rng.pick(&[0, 1, 2, 2, 3, 3, 3]);
+    let mut tree = some_tree(&mut rng, tasks);
+    if rng.percent(60) {
+        for record in tree.chunks_exact_mut(TREE_RECORD) {
+            record[4..].copy_from_slice(&(rng.next() as u32 >> rng.below(32)).to_le_bytes());
+        }
+    }
+    let workers = any_count(&mut rng);
+    let records = steals(&mut rng, policy, nearest_count(workers), &tree);
+    let mut list = lent(&mut rng, 4 * (tree.len() / 8));
+    let given = some_histogram(&mut rng);
+    let call = format!("added {workers} {policy} {} {} {} ({})", bytes(&tree), bytes(&records), bytes(&list), histogram(&given));
+    let answer = add(&given, policy, workers, &tree, &records, &mut list);
+    write!(
+        out,
+        "record {{ got = {call}; says = record {{ replayed = {}; histogram = {} }} }} ∷ ",
+        replayed(&answer.replay, &list),
+        histogram(&answer.histogram)
+    )
+    .expect("a string takes all");
+}
+
 /// Theorems over rows of this type; each unfolds these names.
 fn tables(out: &mut String, name: &str, row: &str, names: &str, from: u64, theorems: u64, write_row: fn(&mut String, u64)) {
     for t in 0..theorems {
@@ -343,9 +390,30 @@ fn dag_page(from: u64, theorems: u64) -> String {
     out
 }
 
+/// The page on histograms. `added` of their table of cases is the call, and has all the rules' names.
+fn histogram_page(from: u64, theorems: u64) -> String {
+    let mut out = String::from(
+        "-- Random additions to histograms, and the simulator's answers.\n\
+         use mathlib.Core.Path.{_≡_, refl}\n\
+         use mathlib.Core.List.{List, [], _∷_, map}\n\
+         use Rattle.rules.specs.Cases.{bytes}\n\
+         use Rattle.rules_histogram.specs.Histograms.{Added}\n\
+         use Rattle.rules_histogram.specs.Additions.{added}\n\n\
+         record AddedRow : Type 0 where\n  got : Added\n  says : Added\n\n",
+    );
+    tables(&mut out, "additions", "AddedRow", "added bytes", from, theorems, histogram_row);
+    out
+}
+
 fn main() {
     let mut args = std::env::args().skip(1).peekable();
-    let page = if args.next_if_eq("dag").is_some() { dag_page } else { rules_page };
+    let page = if args.next_if_eq("dag").is_some() {
+        dag_page
+    } else if args.next_if_eq("histogram").is_some() {
+        histogram_page
+    } else {
+        rules_page
+    };
     let mut numbers = args.map(|a| a.parse::<u64>().expect("a number"));
     print!("{}", page(numbers.next().unwrap_or(0), numbers.next().unwrap_or(10)));
 }

@@ -4,7 +4,7 @@
 // A test program need not use them all.
 #![allow(dead_code)]
 
-use frame_tests::{RecordAnswer, ReplayAnswer, ScheduleAnswer, SpanAnswer};
+use frame_tests::{Added, RecordAnswer, ReplayAnswer, ScheduleAnswer, SpanAnswer};
 
 #[repr(C)]
 #[derive(Clone, Copy, Debug, PartialEq, Eq)]
@@ -176,10 +176,45 @@ impl From<SpanAnswer> for FrameSpan {
     }
 }
 
+#[repr(C)]
+#[derive(Clone, Copy, Debug, PartialEq, Eq)]
+pub struct Histogram {
+    pub traces: u32,
+    pub counts: [u32; 177],
+}
+
+/// The simulator's histogram as the library has it.
+impl From<frame_tests::Histogram> for Histogram {
+    fn from(histogram: frame_tests::Histogram) -> Histogram {
+        Histogram { traces: histogram.traces, counts: histogram.counts }
+    }
+}
+
+/// The library's histogram as the simulator has it.
+impl From<Histogram> for frame_tests::Histogram {
+    fn from(histogram: Histogram) -> frame_tests::Histogram {
+        frame_tests::Histogram { traces: histogram.traces, counts: histogram.counts }
+    }
+}
+
+#[repr(C)]
+#[derive(Clone, Copy, Debug, PartialEq, Eq)]
+pub struct FrameAdded {
+    pub replay: FrameReplay,
+    pub histogram: Histogram,
+}
+
+/// The simulator's answer as the library gives it.
+impl From<Added> for FrameAdded {
+    fn from(answer: Added) -> FrameAdded {
+        FrameAdded { replay: answer.replay.into(), histogram: answer.histogram.into() }
+    }
+}
+
 mod c {
     use super::{
-        FrameEvent, FrameIdle, FrameOutcome, FrameRecord, FrameReplay, FrameRunning, FrameSchedule, FrameSpan, FrameStart,
-        FrameTask, FrameTree, RunState,
+        FrameAdded, FrameEvent, FrameIdle, FrameOutcome, FrameRecord, FrameReplay, FrameRunning, FrameSchedule, FrameSpan,
+        FrameStart, FrameTask, FrameTree, Histogram, RunState,
     };
 
     extern "C" {
@@ -227,6 +262,18 @@ mod c {
             events_len: usize,
         ) -> FrameSchedule;
         pub fn frame_span(tree: *const u8, tree_len: usize, chain: *mut u8, chain_len: usize) -> FrameSpan;
+        pub fn frame_histogram_start() -> Histogram;
+        pub fn frame_histogram_add(
+            histogram: Histogram,
+            tree: *const u8,
+            tree_len: usize,
+            policy: u8,
+            workers: u8,
+            trace: *const u8,
+            trace_len: usize,
+            list: *mut u8,
+            list_len: usize,
+        ) -> FrameAdded;
     }
 }
 
@@ -318,4 +365,24 @@ pub fn schedule(tree: &[u8], policy: u8, workers: u8, seed: u32, events: &mut [u
 
 pub fn span(tree: &[u8], chain: &mut [u8]) -> FrameSpan {
     unsafe { c::frame_span(tree.as_ptr(), tree.len(), chain.as_mut_ptr(), chain.len()) }
+}
+
+pub fn histogram_start() -> Histogram {
+    unsafe { c::frame_histogram_start() }
+}
+
+pub fn histogram_add(histogram: Histogram, tree: &[u8], policy: u8, workers: u8, trace: &[u8], list: &mut [u8]) -> FrameAdded {
+    unsafe {
+        c::frame_histogram_add(
+            histogram,
+            tree.as_ptr(),
+            tree.len(),
+            policy,
+            workers,
+            trace.as_ptr(),
+            trace.len(),
+            list.as_mut_ptr(),
+            list.len(),
+        )
+    }
 }
