@@ -76,4 +76,5 @@ module _ (w p : ℕ) (tree trace list : List ℕ) (h : Histogram) where
       added-meets counts e =
           let told = unless-accepted full w p tree trace list fine in
           let loads = listed-loads w p tree trace list accepts in
-          rw (addCall, eq-eqb (addVerdict w p tree trace list (given h) .number) 0 fine, e, answered, left, told, loads, add-one) (refl, refl)
+          let judged = eq-eqb (addVerdict w p tree trace list (given h) .number) 0 fine in
+          rw (addCall, judged, e, answered, left, told, loads, add-one) (refl, refl)
