@@ -36,8 +36,6 @@ enum {
     NO_OPENER = MOST_STEPS,
     // No step, no phase or no label.
     NONE = 65535,
-    // A step that was passed over.
-    LATE = 65534,
     // Added to a held step: a finish continuation that was stolen, so that it may have to wait.
     MAY_WAIT = 32768,
 };
@@ -644,9 +642,7 @@ struct replay {
     uint16_t limit[MOST_STEALS + 1];
     uint16_t base[MOST_STEALS + 1];
     uint16_t ordinal[MOST_STEALS + 1];
-    // Help-first: for each phase the step that pushed the one last stolen from it, or NONE; for each step the one that holds or
-    // pushes it, and, if it can be stolen no more, its phase.
-    uint16_t pusher[MOST_STEALS + 1];
+    // Help-first: for each step the one that holds or pushes it, and, if it can be stolen no more, its phase.
     uint16_t opener[MOST_STEPS + 1];
     uint16_t label[MOST_STEPS];
 };
@@ -673,22 +669,7 @@ static inline size_t by_ordinal(struct replay *replay, size_t phase, size_t numb
     return step;
 }
 
-// Whether a step was pushed before the one last stolen from its phase, where `top` is the labelled step above it. It was not if
-// `top` pushed the last one itself, or the last one's pusher is in what `top` holds and the step in what it pushes, which runs
-// later. The climb from the last one's pusher is over steps that later records do not climb again.
-static inline int is_late(const struct replay *replay, size_t phase, size_t top, size_t step)
-{
-    size_t last = replay->pusher[phase], above = last, below = last;
-    if (last == NONE || last == top)
-        return 0;
-    while (above > top) {
-        below = above;
-        above = replay->opener[above];
-    }
-    return above != top || below != held_by(replay->moves[top]) || step == pushed_by(replay->moves[top]);
-}
-
-// The step that a serial number names in a help-first phase, NONE or LATE. The steps above it are labelled up to a labelled one,
+// The step that a serial number names in a help-first phase, or NONE. The steps above it are labelled up to a labelled one,
 // which tells whose it was.
 static inline size_t by_serial(struct replay *replay, const uint8_t *tree, size_t n, size_t phase, size_t step)
 {
@@ -704,11 +685,7 @@ static inline size_t by_serial(struct replay *replay, const uint8_t *tree, size_
     }
     if (replay->label[above] != phase)
         return NONE;
-    if (is_late(replay, phase, above, step))
-        return LATE;
     replay->label[step] = replay->phases;
-    replay->pusher[phase] = opener;
-    replay->pusher[replay->phases] = NONE;
     return step;
 }
 
@@ -727,7 +704,6 @@ static inline struct refusal read_trace(struct replay *replay, const uint8_t *tr
     } else {
         memset(replay->label, 255, n * sizeof replay->label[0]);
         replay->label[0] = 0;
-        replay->pusher[0] = NONE;
     }
     for (size_t at = 0; at < count; at++) {
         size_t thief = trace[4 * at], victim = trace[4 * at + 1];
@@ -743,8 +719,6 @@ static inline struct refusal read_trace(struct replay *replay, const uint8_t *tr
         size_t step = policy == WORK_FIRST ? by_ordinal(replay, phase, number) : by_serial(replay, tree, n, phase, number);
         if (step == NONE)
             return (struct refusal){15, at};
-        if (step == LATE)
-            return (struct refusal){18, at};
         replay->worker[replay->phases] = thief;
         replay->first[replay->phases] = step;
         replay->latest[thief] = replay->phases++;

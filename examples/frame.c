@@ -60,7 +60,6 @@ static const char *refusal_name(size_t number)
         NAME(FRAME_REFUSED_NUMBER);
         NAME(FRAME_REFUSED_COUNT);
         NAME(FRAME_REFUSED_FULL);
-        NAME(FRAME_REFUSED_NOT_OLDEST);
         default: return "FRAME_ACCEPTED";
     }
 }

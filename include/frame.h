@@ -26,7 +26,7 @@ extern "C" {
 
 /* Rises with each change of this header that a caller can see; docs/FORMAT.md lists them. 1 was the header without a version and
  * without a worker count. */
-#define FRAME_VERSION 7
+#define FRAME_VERSION 6
 
 /* Limits. */
 #define FRAME_MOST_STEPS 4095   /* of a tree, which has a record for each */
@@ -63,9 +63,8 @@ enum {
     FRAME_HELP_FIRST = 2
 };
 
-/* The refusals. 3 to 5, 8 to 15 and 18 have the position of a record, but 5 has n where the root is still open. 16 is judged
- * directly after 1, and 17 after 18; docs/FORMAT.md has the whole order. In a debugger, a cast to FrameRefusal shows a number's
- * name. */
+/* The refusals. 3 to 5 and 8 to 15 have the position of a record, but 5 has n where the root is still open. 16 is judged directly
+ * after 1; docs/FORMAT.md has the whole order. In a debugger, a cast to FrameRefusal shows a number's name. */
 typedef enum FrameRefusal {
     FRAME_ACCEPTED = 0,
     FRAME_REFUSED_POLICY = 1,        /* the policy is neither 1 nor 2 */
@@ -84,8 +83,7 @@ typedef enum FrameRefusal {
     FRAME_REFUSED_NO_PHASE = 14,     /* in a trace, the victim has had no phase */
     FRAME_REFUSED_NUMBER = 15,       /* in a trace, the number breaks the rule of "Trace" */
     FRAME_REFUSED_COUNT = 16,        /* the count of workers is outside 1 to 16 */
-    FRAME_REFUSED_FULL = 17,         /* 65,535 traces have been added to the histogram */
-    FRAME_REFUSED_NOT_OLDEST = 18    /* in a trace, a help-first steal of a step that its phase pushed before one already stolen from it */
+    FRAME_REFUSED_FULL = 17          /* 65,535 traces have been added to the histogram */
 } FrameRefusal;
 
 /* What an event did. */
@@ -217,8 +215,7 @@ FrameRecord frame_record(const uint8_t *tree, size_t tree_len, uint8_t policy, u
 /* Reads a trace of a run of so many workers back into phases. The list gets a record for each of the n steps, phase 0 first, each
  * phase in the order in which it runs; the bytes beyond keep what they held. Phase 0 is worker 0's, phase k the thief's of trace
  * record k - 1. trace_len is 4 bytes for each record, not all that was lent to frame_record; list_len must be at least
- * FRAME_LIST_BYTES(n). What frame_record wrote for the same tree, policy and count is accepted. Refuses with 1, 16, 2 to 8, 13 to
- * 15 and 18. */
+ * FRAME_LIST_BYTES(n). Refuses with 1, 16, 2 to 8 and 13 to 15. */
 FrameReplay frame_replay(const uint8_t *tree, size_t tree_len, uint8_t policy, uint8_t workers, const uint8_t *trace,
                          size_t trace_len, uint8_t *list, size_t list_len);
 

@@ -684,9 +684,8 @@ pub fn trace_record(thief: u8, victim: u8, number: u16) -> [u8; 4] {
 }
 
 /// A trace of up to `most` records. Each is chosen to be accepted where a few
-/// tries find such a record, and `bad` of a hundred are any record, under
-/// help-first often one that is out of order. With `bad` = 0 the whole trace is
-/// accepted; one worker alone has none to steal from.
+/// tries find such a record, and `bad` of a hundred are any record. With
+/// `bad` = 0 the whole trace is accepted; one worker alone has none to steal from.
 pub fn trace(
     rng: &mut Rng,
     policy: Policy,
@@ -700,18 +699,15 @@ pub fn trace(
     let workers = rng.between(2.min(count), count);
     for _ in 0..most.min(MAX_TRACE) {
         if rng.percent(bad) {
-            let late = if rng.percent(50) { late_record(rng, &replay, workers) } else { None };
             let [thief, victim] = any_event(rng, workers, count);
             let number = match rng.below(4) {
                 0 => rng.next() as u16,
                 1 => rng.below(4) as u16,
                 _ => rng.between(0, tree.count() + 1) as u16,
             };
-            let record = late.unwrap_or(trace_record(thief, victim, number));
             // Accepted or not, the record goes into the trace.
-            let number = u16::from_le_bytes([record[2], record[3]]);
-            let _ = replay.steal(record[0], record[1], number);
-            bytes.extend_from_slice(&record);
+            let _ = replay.steal(thief, victim, number);
+            bytes.extend_from_slice(&trace_record(thief, victim, number));
             continue;
         }
         let tries = if workers == 1 { 0 } else { 12 };
@@ -723,10 +719,6 @@ pub fn trace(
             let phase = replay.latest[victim].expect("the victim has had a phase");
             let number = match policy {
                 Policy::WorkFirst => rng.between(0, tree.child_count(replay.frontier(phase))),
-                // The oldest step, so that there are more to come.
-                Policy::HelpFirst if rng.percent(30) => {
-                    numbers_left(&replay, phase).first().map_or(0, |&number| number.into())
-                }
                 Policy::HelpFirst => {
                     // A step of the phase's stretch, or a near one after it.
                     let first = replay.phases[phase].first;
@@ -760,64 +752,21 @@ fn ranges(replay: &Replay, phase: usize) -> Vec<(usize, usize)> {
     steps.map(|step| (step, gone[tree.end_of(tree.task_of(step)) + 1] - gone[step])).collect()
 }
 
-/// Help-first: the steps of whose range nothing is gone, in the order in which
-/// the phase pushes them. First those that it pushed before the step last stolen,
-/// then those that may be stolen now.
-fn late_and_left(replay: &Replay, phase: usize) -> (Vec<u16>, Vec<u16>) {
-    let mut whole = vec![false; replay.tree.count()];
-    for (step, gone) in ranges(replay, phase) {
-        whole[step] = gone == 0;
-    }
-    let pushed = replay.pushes(phase);
-    // What an accepted trace has stolen before was pushed before that one.
-    let last = replay.phases[phase].stolen.last();
-    let last = last.and_then(|last| pushed.iter().position(|step| step == last));
-    let (late, left) = pushed.split_at(last.map_or(0, |last| last + 1));
-    let numbers = |steps: &[usize]| {
-        steps.iter().filter(|&&step| whole[step]).map(|&step| step as u16).collect()
-    };
-    (numbers(late), numbers(left))
-}
-
-/// The numbers that a steal from this phase may have now, that of the oldest step
-/// first.
+/// The numbers that a steal from this phase may have now.
 pub fn numbers_left(replay: &Replay, phase: usize) -> Vec<u16> {
     let tree = &replay.tree;
     let from = &replay.phases[phase];
-    match replay.policy {
+    let numbers: Vec<usize> = match replay.policy {
         Policy::WorkFirst => {
             let above = if from.stolen.is_empty() { tree.ordinal(from.first) } else { 0 };
-            (above + 1..=tree.child_count(replay.frontier(phase)))
-                .map(|number| number as u16)
-                .collect()
+            (above + 1..=tree.child_count(replay.frontier(phase))).collect()
         }
-        Policy::HelpFirst => late_and_left(replay, phase).1,
-    }
-}
-
-/// The numbers with which a steal from this phase is out of order now: under
-/// help-first those of steps that were passed over.
-pub fn late_numbers(replay: &Replay, phase: usize) -> Vec<u16> {
-    match replay.policy {
-        Policy::WorkFirst => Vec::new(),
-        Policy::HelpFirst => late_and_left(replay, phase).0,
-    }
-}
-
-/// A record of these workers that is out of order now, if there is one.
-pub fn late_record(rng: &mut Rng, replay: &Replay, workers: usize) -> Option<[u8; 4]> {
-    let mut records = Vec::new();
-    for victim in 0..workers {
-        for number in replay.latest[victim].map_or(vec![], |phase| late_numbers(replay, phase)) {
-            records.push((victim, number));
+        Policy::HelpFirst => {
+            let whole = ranges(replay, phase).into_iter().filter(|&(_, gone)| gone == 0);
+            whole.map(|(step, _)| step).collect()
         }
-    }
-    if workers < 2 || records.is_empty() {
-        return None;
-    }
-    let (victim, number) = rng.pick(&records);
-    let thief = (victim + rng.between(1, workers - 1)) % workers;
-    Some(trace_record(thief as u8, victim as u8, number))
+    };
+    numbers.into_iter().map(|number| number as u16).collect()
 }
 
 /// How an accepted trace is made.
@@ -831,10 +780,9 @@ pub struct Steals {
     /// to steal, and so is the thief, whose latest phase is out of reach from
     /// then on: so there are many steals.
     pub careful: usize,
-    /// In so many of a hundred cases the step is the oldest there is: under
-    /// work-first that of the lowest number, under help-first the one that was
-    /// pushed first, often with the longest range.
-    pub oldest: usize,
+    /// In so many of a hundred cases the number is the lowest there is,
+    /// under help-first often the longest range.
+    pub lowest: usize,
 }
 
 impl Steals {
@@ -844,7 +792,7 @@ impl Steals {
             workers: if rng.percent(60) { count } else { rng.between(2.min(count), count) },
             most: MAX_TRACE,
             careful: rng.pick(&[0, 50, 90, 100]),
-            oldest: rng.pick(&[0, 50, 90, 100]),
+            lowest: rng.pick(&[0, 50, 90, 100]),
         }
     }
 }
@@ -875,7 +823,7 @@ pub fn accepted_trace(rng: &mut Rng, policy: Policy, tree: &Tree, plan: &Steals)
             break;
         };
         let number =
-            if rng.percent(plan.oldest) { left[victim][0] } else { rng.pick(&left[victim]) };
+            if rng.percent(plan.lowest) { left[victim][0] } else { rng.pick(&left[victim]) };
         replay.steal(thief as u8, victim as u8, number).expect("the number is left");
         bytes.extend_from_slice(&trace_record(thief as u8, victim as u8, number));
         for worker in [thief, victim] {
@@ -911,12 +859,6 @@ pub fn doubtful_record(
         let number = u16::from_le_bytes([record[2], record[3]]);
         replay.steal(record[0], record[1], number).expect("the record is accepted");
     }
-    // A step that was passed over, if there is one.
-    if rng.percent(20) {
-        if let Some(late) = late_record(rng, &replay, count) {
-            return late;
-        }
-    }
     let victims: Vec<usize> = (0..count).filter(|&w| replay.latest[w].is_some()).collect();
     let victim = rng.pick(&victims);
     let workers = count.max(2);
@@ -930,13 +872,10 @@ pub fn doubtful_record(
         (Policy::WorkFirst, _) => rng.between(0, tree.child_count(replay.frontier(phase)) + 2),
         (Policy::HelpFirst, 1) => from.first,
         (Policy::HelpFirst, 2) => tree.count() + rng.below(2),
-        // A range of which something is gone, with its first step or without it,
-        // if there is one.
-        (Policy::HelpFirst, kind @ (3 | 4)) => {
-            let covered = from.covers(tree);
-            let part = |&(step, gone): &(usize, usize)| gone > 0 && (kind == 3 || covered[step]);
+        // A range of which something is gone, if there is one.
+        (Policy::HelpFirst, 3 | 4) => {
             let parts: Vec<(usize, usize)> =
-                ranges(&replay, phase).into_iter().filter(part).collect();
+                ranges(&replay, phase).into_iter().filter(|&(_, gone)| gone > 0).collect();
             if parts.is_empty() {
                 from.first
             } else {
@@ -1034,18 +973,10 @@ pub fn trace_to_replay(rng: &mut Rng, policy: Policy, count: usize, tree: &Tree)
             }
             list[at] = damaged_record(rng, count, &list[..at], list[at]);
         }
-        // Two records exchanged, or two neighbours with one victim.
-        15 if list.len() > 1 => {
+        // Two records exchanged.
+        15 | 16 if list.len() > 1 => {
             let (a, b) = (rng.below(list.len()), rng.below(list.len()));
             list.swap(a, b);
-        }
-        16 if list.len() > 1 => {
-            let pairs = (1..list.len()).filter(|&k| list[k - 1][1] == list[k][1]);
-            let pairs: Vec<usize> = pairs.collect();
-            if !pairs.is_empty() {
-                let second = rng.pick(&pairs);
-                list.swap(second - 1, second);
-            }
         }
         // A record twice, or one less.
         17 if at < list.len() => list.insert(at, list[at]),

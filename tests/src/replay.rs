@@ -62,19 +62,6 @@ impl Replay {
         }
     }
 
-    /// The step that the number takes from this phase, or the number of the
-    /// refusal: 15, then 18.
-    pub fn taken_step(&self, phase: usize, number: usize) -> Result<usize, u32> {
-        let step = match self.named_step(phase, number) {
-            None => return Err(15),
-            Some(step) => step,
-        };
-        if self.policy == Policy::HelpFirst && self.passed_over(phase, step) {
-            return Err(18);
-        }
-        Ok(step)
-    }
-
     /// The step that the number names in this phase; none if it breaks the
     /// rule (15).
     pub fn named_step(&self, phase: usize, number: usize) -> Option<usize> {
@@ -116,23 +103,6 @@ impl Replay {
         }
     }
 
-    /// Whether the phase pushed the step earlier than one that is already stolen
-    /// from it.
-    // Reading: by the records before this one, from this very phase. Neither a
-    // worker's earlier phase counts, nor a step that nobody has stolen.
-    pub fn passed_over(&self, phase: usize, step: usize) -> bool {
-        let stolen = &self.phases[phase].stolen;
-        if stolen.is_empty() {
-            return false;
-        }
-        let mut places = vec![None; self.tree.count()];
-        for (place, pushed) in self.pushes(phase).into_iter().enumerate() {
-            places[pushed] = Some(place);
-        }
-        let place = |step: usize| places[step].expect("a phase pushes what is stolen from it");
-        stolen.iter().any(|&stolen| place(step) < place(stolen))
-    }
-
     /// One trace record, or the number of its refusal. A refused record
     /// changes nothing.
     pub fn steal(&mut self, thief: u8, victim: u8, number: u16) -> Result<usize, u32> {
@@ -147,7 +117,10 @@ impl Replay {
             None => return Err(14),
             Some(phase) => phase,
         };
-        let step = self.taken_step(from, usize::from(number))?;
+        let step = match self.named_step(from, usize::from(number)) {
+            None => return Err(15),
+            Some(step) => step,
+        };
         // Reading: the thief may have a phase that would still be running;
         // whether a schedule could do this is not judged.
         self.phases[from].stolen.push(step);
@@ -156,22 +129,18 @@ impl Replay {
         Ok(step)
     }
 
-    /// The phase run alone: each stolen step dropped when pushed, no step
-    /// waiting for a finish child. Its steps in running order, and what they
-    /// push in the order of the pushes.
-    // Reading: a stolen step was pushed before it is dropped, so it has its place
-    // among the pushes.
-    fn run_alone(&self, phase: usize) -> (Vec<usize>, Vec<usize>) {
+    /// The phase's steps in the order of running it alone: each stolen step
+    /// dropped when pushed, no step waiting for a finish child.
+    pub fn running_order(&self, phase: usize) -> Vec<usize> {
         let phase = &self.phases[phase];
         let stolen: HashSet<usize> = phase.stolen.iter().copied().collect();
-        let (mut order, mut pushes) = (Vec::new(), Vec::new());
+        let mut order = Vec::new();
         let mut deque: Vec<usize> = Vec::new();
         let mut held = Some(phase.first);
         while let Some(step) = held {
             order.push(step);
             held = match self.policy.push_and_hold(&self.tree, step) {
                 Some((pushed, next)) => {
-                    pushes.push(pushed);
                     if !stolen.contains(&pushed) {
                         deque.push(pushed);
                     }
@@ -180,18 +149,7 @@ impl Replay {
                 None => deque.pop(),
             };
         }
-        (order, pushes)
-    }
-
-    /// The phase's steps in the order of running it alone.
-    pub fn running_order(&self, phase: usize) -> Vec<usize> {
-        self.run_alone(phase).0
-    }
-
-    /// What the phase pushes when it is run alone, the oldest first. It is run
-    /// as it stands, with what is stolen so far.
-    pub fn pushes(&self, phase: usize) -> Vec<usize> {
-        self.run_alone(phase).1
+        order
     }
 
     /// Writes the run list of a trace read to its end, and answers.

@@ -151,12 +151,10 @@ fn statements(whole: &str) -> Vec<String> {
 // ---- Pages ----
 
 /// The pages with several theorems: demand 3, the worker count and the classes; one addition to a histogram, and a list of them;
-/// how an accepted trace splits the tree, and that help-first steals are oldest first; progress of a state with the invariant, and
-/// of one that events lead to. Every other has one.
-const SEVERAL: [(&str, usize); 5] = [
+/// progress of a state with the invariant, and of one that events lead to. Every other has one.
+const SEVERAL: [(&str, usize); 4] = [
     ("crates/agreement/specs/Theorem.antt", 3),
     ("crates/histogram_invariant/specs/Theorem.antt", 2),
-    ("crates/replay_invariant/specs/Theorem.antt", 2),
     ("crates/run_progress/specs/Theorem.antt", 2),
     ("crates/run_refinement/specs/Theorem.antt", 2),
 ];

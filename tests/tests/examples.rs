@@ -1,6 +1,6 @@
 //! The examples of document 01, and worked cases of a run's own worker count,
 //! of the schedule maker, of the classes, of the awaited step, of work and span,
-//! of the histogram, and of help-first steals that are oldest first.
+//! and of the histogram.
 
 #[path = "library/awaited.rs"]
 mod awaited;
@@ -10,8 +10,6 @@ mod classes;
 mod counts;
 #[path = "library/histograms.rs"]
 mod histograms;
-#[path = "library/oldest.rs"]
-mod oldest;
 #[path = "library/schedules.rs"]
 mod schedules;
 #[path = "library/spans.rs"]
@@ -390,20 +388,6 @@ fn the_chain_of_the_format() {
     assert_eq!(chain, [&bytes[..], &[0xEE; 4]].concat());
 }
 
-/// The records that docs/FORMAT.md reads by hand are document 02's, and it gives
-/// the refusal.
-#[test]
-fn the_refusal_of_the_format() {
-    let lines = shown_by_the_format("A refusal by hand");
-    let bytes = lines.iter().flat_map(|line| line.split(' ').take(4));
-    let bytes: Vec<u8> = bytes.map(|byte| u8::from_str_radix(byte, 16).unwrap()).collect();
-    let (policy, _, trace, _, says) = oldest::EXAMPLE;
-    assert_eq!((bytes, says), (trace.to_vec(), Err((18, 1))));
-    let mut list = [0xEE; 28];
-    assert_eq!(replay(policy, 16, &s(), trace, &mut list), refused_replay(18, 1));
-    assert_eq!(list, [0xEE; 28]);
-}
-
 /// The limits with which docs/FORMAT.md begins are the simulator's.
 #[test]
 fn the_first_limits_of_the_format() {
@@ -591,60 +575,4 @@ fn worked_cases_of_the_histogram() {
         let full = Histogram { traces: MAX_TRACES, counts: histograms::counts(case.7) };
         assert_eq!(worked_addition(&full, case).histogram, full, "{case:?}");
     }
-}
-
-/// What a replay says: the steps of each phase, or its refusal.
-fn says(answer: ReplayAnswer, phases: Vec<Vec<usize>>) -> Result<Vec<Vec<usize>>, (usize, usize)> {
-    match answer.number {
-        0 => Ok(phases),
-        number => Err(refusal(number, answer.position)),
-    }
-}
-
-#[test]
-fn worked_cases_of_oldest_first() {
-    for case in oldest::CASES {
-        let (policy, kinds, trace, _, want) = case;
-        let tree = tree_of_kinds(kinds);
-        let (answer, phases) = replay_to_vecs(policy, 16, &tree, trace);
-        let want = want.map(|phases| phases.iter().map(|steps| steps.to_vec()).collect());
-        assert_eq!(says(answer, phases), want, "{case:?}");
-        if let Err((number, position)) = want {
-            assert_eq!(answer, refused_replay(number as u32, position), "{case:?}");
-        }
-        // In the histogram a refusal of the replay itself, so it goes before 17.
-        for traces in [0, MAX_TRACES] {
-            let histogram = Histogram { traces, ..Histogram::start() };
-            let mut list = vec![0xEE; tree.len() / 2];
-            let added = add(&histogram, policy, 16, &tree, trace, &mut list);
-            match want {
-                Ok(_) if traces == 0 => assert_eq!(added.replay, answer, "{case:?}"),
-                Ok(_) => assert_eq!(added.replay, refused_replay(17, 0), "{case:?}"),
-                Err(_) => {
-                    assert_eq!(added, Added { replay: answer, histogram }, "{case:?}");
-                    assert!(list.iter().all(|&byte| byte == 0xEE), "{case:?}");
-                }
-            }
-        }
-    }
-}
-
-/// What the phases push, and when: step 1 of the second tree runs behind step 4.
-#[test]
-fn pushes_of_tree_s() {
-    let pushes = |kinds: &[u8], trace: &[u8], phase: usize| {
-        let read = judge_and_replay(2, 16, &tree_of_kinds(kinds), trace, usize::MAX).unwrap();
-        (read.running_order(phase), read.pushes(phase))
-    };
-    let s = [1, 3, 2, 1, 3, 3, 3];
-    assert_eq!(pushes(&s, &[], 0), (vec![0, 2, 3, 5, 4, 6, 1], vec![1, 6, 4]));
-    // What is stolen was pushed all the same.
-    let trace = [1, 0, 1, 0, 2, 0, 6, 0, 3, 0, 4, 0];
-    assert_eq!(pushes(&s, &trace, 0), (vec![0, 2, 3, 5], vec![1, 6, 4]));
-    assert_eq!(pushes(&s, &trace, 2), (vec![6], vec![]));
-    assert_eq!(pushes(&[1, 1, 3, 3, 1, 3, 3], &[], 0), (vec![0, 4, 6, 5, 1, 3, 2], vec![1, 5, 2]));
-    assert_eq!(pushes(&[2, 1, 3, 3, 1, 3, 3], &[], 0), (vec![0, 1, 3, 2, 4, 6, 5], vec![4, 2, 5]));
-    // Work-first too.
-    let read = judge_and_replay(1, 16, &tree_of_kinds(&s), &[1, 0, 2, 0], usize::MAX).unwrap();
-    assert_eq!(read.pushes(0), [2, 6, 5]);
 }

@@ -303,7 +303,7 @@ fn versions() -> Vec<usize> {
 
 #[test]
 fn the_versions_of_the_format() {
-    assert_eq!(versions(), [1, 2, 3, 4, 5, 6, 7]);
+    assert_eq!(versions(), [1, 2, 3, 4, 5, 6]);
 }
 
 /// What a name of the header stands for, apart from the refusals.
@@ -368,7 +368,7 @@ fn header_refusals() -> Vec<(usize, String, String)> {
 fn the_refusals_of_the_format() {
     let refusal = |row: Vec<String>| (row[0].parse().expect("it is a number"), row[1].clone());
     let rows: Vec<(usize, String)> = format_rows("| number | condition | position |").into_iter().map(refusal).collect();
-    assert_eq!(rows.iter().map(|row| row.0).collect::<Vec<_>>(), (1..=18).collect::<Vec<_>>());
+    assert_eq!(rows.iter().map(|row| row.0).collect::<Vec<_>>(), (1..=17).collect::<Vec<_>>());
     let named = header_refusals().into_iter().map(|(number, _, condition)| (number, condition));
     assert_eq!(named.collect::<Vec<_>>(), rows);
 }

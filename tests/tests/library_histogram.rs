@@ -96,7 +96,7 @@ fn same_histogram(got: &Histogram, want: &Histogram, case: fmt::Arguments) {
 #[derive(Debug)]
 struct Seen {
     /// By number; 0 is accepted.
-    numbers: [usize; 19],
+    numbers: [usize; 18],
     /// By bucket, the phases of accepted calls.
     buckets: [usize; BUCKETS],
 }
@@ -109,7 +109,7 @@ struct Both {
 
 impl Both {
     fn new() -> Both {
-        Both { rooms: [(); 3].map(|()| Guarded::new(45_000)), seen: Seen { numbers: [0; 19], buckets: [0; BUCKETS] } }
+        Both { rooms: [(); 3].map(|()| Guarded::new(45_000)), seen: Seen { numbers: [0; 18], buckets: [0; BUCKETS] } }
     }
 
     /// Both sides give the same answer and histogram and leave the same bytes.
@@ -278,7 +278,7 @@ fn lists_of_calls() {
         }
     }
     let seen = both.seen;
-    assert!((0..9).chain(13..17).chain([18]).all(|number| seen.numbers[number] > 100), "{seen:?}");
+    assert!((0..9).chain(13..17).all(|number| seen.numbers[number] > 100), "{seen:?}");
     let filled = seen.buckets.iter().filter(|&&times| times > 0).count();
     assert!(seen.numbers[0] > 15_000 && filled > 140, "{filled} buckets: {seen:?}");
 }
@@ -296,7 +296,7 @@ fn lists_of_calls_until_full() {
         }
     }
     let seen = both.seen.numbers;
-    assert!((0..9).chain(13..19).all(|number| seen[number] > 50) && seen[17] > 3_000, "{seen:?}");
+    assert!((0..9).chain(13..18).all(|number| seen[number] > 50) && seen[17] > 3_000, "{seen:?}");
 }
 
 #[test]
@@ -311,7 +311,7 @@ fn large_traces() {
         let trace = if seed % 3 == 0 {
             recorded_trace(&mut rng, policy_of(policy), workers.into(), &read(&bytes))
         } else {
-            let plan = Steals { careful: 100, oldest: rng.pick(&[98, 100]), ..Steals::any(&mut rng, workers.into()) };
+            let plan = Steals { careful: 100, lowest: rng.pick(&[98, 100]), ..Steals::any(&mut rng, workers.into()) };
             accepted_trace(&mut rng, policy_of(policy), &read(&bytes), &plan)
         };
         let length = needed(&bytes) + rng.pick(&[0, 0, 1, 100]);
@@ -446,7 +446,7 @@ fn the_lower_number_wins() {
         }
     });
     let seen = both.seen.numbers;
-    assert!([0, 1, 2, 3, 4, 5, 6, 7, 8, 13, 14, 15, 16, 17, 18].iter().all(|&number| seen[number] > 0), "{seen:?}");
+    assert!([0, 1, 2, 3, 4, 5, 6, 7, 8, 13, 14, 15, 16, 17].iter().all(|&number| seen[number] > 0), "{seen:?}");
 }
 
 /// Every number of traces near 65,535 and near the ends of its bytes.
@@ -489,7 +489,7 @@ fn damaged_histograms() {
         }
     }
     let seen = both.seen.numbers;
-    assert!((0..9).chain(13..19).all(|number| seen[number] > 100), "{seen:?}");
+    assert!((0..9).chain(13..18).all(|number| seen[number] > 100), "{seen:?}");
 }
 
 /// The greatest trees and traces, on histograms of the greatest counts.

@@ -77,7 +77,7 @@ fn why(call: &Call, position: usize) -> &'static str {
 #[derive(Default, Debug)]
 struct Seen {
     /// By number; 0 is accepted.
-    numbers: [usize; 19],
+    numbers: [usize; 17],
     /// By reason, where the number is 15 and the tree is small.
     why: BTreeMap<&'static str, usize>,
     /// Of accepted calls.
@@ -137,7 +137,7 @@ impl Both {
     fn count(&mut self, call: &Call, got: &FrameReplay) {
         let seen = &mut self.seen;
         seen.numbers[got.number] += 1;
-        seen.later += usize::from([8, 13, 14, 15, 18].contains(&got.number) && got.position > 0);
+        seen.later += usize::from((8..16).contains(&got.number) && got.position > 0);
         if got.number == 15 && call.tree.len() < 1_000 {
             *seen.why.entry(why(call, got.position)).or_default() += 1;
         }
@@ -165,7 +165,7 @@ fn small_calls() {
     }
     let seen = both.seen;
     assert!(seen.numbers[0] > 30_000 && seen.steals > 200_000, "{seen:?}");
-    assert!([6, 7, 8, 13, 14, 15, 16, 18].iter().all(|&number| seen.numbers[number] > 1_000), "{seen:?}");
+    assert!([6, 7, 8, 13, 14, 15, 16].iter().all(|&number| seen.numbers[number] > 1_000), "{seen:?}");
     all_reasons(&seen, 300);
     assert!(seen.later > 10_000 && seen.other_heaviest > 5_000 && seen.equals > 5_000, "{seen:?}");
     assert!(seen.other_classes > 15_000 && seen.class_0_alone > 5_000, "{seen:?}");
@@ -236,15 +236,13 @@ fn all_traces_of_small_trees() {
         all_traces(&mut both, tasks, 4);
     }
     all_reasons(&both.seen, 300);
-    assert!(both.seen.numbers[18] > 200, "{:?}", both.seen);
 }
 
 #[test]
 fn all_traces_of_trees_with_four_tasks() {
     let mut both = Both::new();
     all_traces(&mut both, 4, 3);
-    all_reasons(&both.seen, 5_000);
-    assert!(both.seen.numbers[18] > 5_000, "{:?}", both.seen);
+    all_reasons(&both.seen, 10_000);
 }
 
 /// An accepted trace whole, cut short, and with a record in between that is refused or read in another way.
@@ -284,7 +282,7 @@ fn large_traces_that_no_scheduler_makes() {
         let mut plan = Steals::any(&mut rng, workers.into());
         // In every other round as many steals as can be had.
         if seed / 16 % 2 == 0 {
-            plan = Steals { careful: 100, oldest: rng.pick(&[98, 100]), ..plan };
+            plan = Steals { careful: 100, lowest: rng.pick(&[98, 100]), ..plan };
         }
         let trace = accepted_trace(&mut rng, policy_of(policy), &read(&bytes), &plan);
         with_its_parts(&mut both, &mut rng, &bytes, policy, workers, &trace, seed);
@@ -483,7 +481,7 @@ fn the_lower_number_wins() {
     let mut both = Both::new();
     each_with_its_refusal(|call, want, case| both.numbered(call, want, case));
     let seen = both.seen.numbers;
-    assert!([0, 1, 2, 3, 4, 5, 6, 7, 8, 13, 14, 15, 16, 18].iter().all(|&number| seen[number] > 0), "{seen:?}");
+    assert!([0, 1, 2, 3, 4, 5, 6, 7, 8, 13, 14, 15, 16].iter().all(|&number| seen[number] > 0), "{seen:?}");
 }
 
 // ---- Document 01's cases ----
@@ -613,21 +611,18 @@ fn a_partly_stolen_range() {
     // Behind a finish child the range goes to the end of the root; what is stolen inside the child is not in it.
     let kinds = [2, 1, 3, 3, 1, 3, 3];
     assert_eq!(replayed(&kinds, 2, 16, &[1, 0, 5, 0, 2, 0, 4, 0]), (refused(15, 1), vec![]));
-    // So that is no 15, but what follows the child is older, and goes first.
-    assert_eq!(replayed(&kinds, 2, 16, &[1, 0, 2, 0, 2, 0, 4, 0]), (refused(18, 1), vec![]));
-    let phases = vec![vec![0, 1, 3], vec![4, 6, 5], vec![2]];
-    assert_eq!(replayed(&kinds, 2, 16, &[2, 0, 4, 0, 1, 0, 2, 0]), (accepted(3, [3, 1, 3], 0), phases));
+    let phases = vec![vec![0, 1, 3], vec![2], vec![4, 6, 5]];
+    assert_eq!(replayed(&kinds, 2, 16, &[1, 0, 2, 0, 2, 0, 4, 0]), (accepted(3, [3, 1, 3], 0), phases));
 }
 
-/// Replay waits for no finish child, and of the order of steals it asks only that none is older than one before it.
+/// Replay waits for no finish child, and any order of steals is read.
 #[test]
 fn what_no_scheduler_makes() {
     // Worker 0 keeps what follows the finish child though its inside is another's.
     assert_eq!(replayed(&[2, 1, 3, 3, 3], 2, 16, &[1, 0, 2, 0]), (accepted(2, [4, 1, 0], 0), vec![vec![0, 1, 3, 4], vec![2]]));
-    // The newest alone, then two of which the oldest is not one.
-    assert_eq!(replayed(&S, 2, 16, &[1, 0, 4, 0]), (accepted(2, [6, 1, 0], 0), vec![vec![0, 2, 3, 5, 6, 1], vec![4]]));
-    let phases = vec![vec![0, 2, 3, 5, 1], vec![6], vec![4]];
-    assert_eq!(replayed(&S, 2, 16, &[1, 0, 6, 0, 1, 0, 4, 0]), (accepted(3, [5, 2, 0], 0), phases));
+    // The newest first.
+    let phases = vec![vec![0, 2, 3, 5], vec![6], vec![4], vec![1]];
+    assert_eq!(replayed(&S, 2, 16, &[1, 0, 6, 0, 2, 0, 4, 0, 1, 0, 1, 0]), (accepted(4, [4, 2, 1], 0), phases));
     // Worker 1 steals twice, and what its phase 1 has is never run by phase 2.
     let phases = vec![vec![0, 1, 2, 3, 4], vec![6], vec![5]];
     assert_eq!(replayed(&S, 1, 16, &[1, 0, 2, 0, 1, 0, 1, 0]), (accepted(3, [5, 2, 0], 0), phases));
@@ -647,10 +642,10 @@ fn loads_and_heaviest() {
         let weight = u8::from(step == 1 || step == 4);
         bytes[8 * step + 4..8 * step + 8].copy_from_slice(&[weight, 0, 0, 0]);
     }
-    let got = library::replay(&bytes, 2, 16, &[9, 0, 1, 0, 3, 0, 4, 0], &mut list);
+    let got = library::replay(&bytes, 2, 16, &[9, 0, 4, 0, 3, 0, 1, 0], &mut list);
     assert_eq!((got.loads[0], got.loads[3], got.loads[9], got.heaviest), (0, 1, 1, 3));
     bytes.chunks_mut(8).for_each(|record| record[4] = 0);
-    assert_eq!(library::replay(&bytes, 2, 16, &[9, 0, 1, 0, 3, 0, 4, 0], &mut list), accepted(3, [0; 3], 0));
+    assert_eq!(library::replay(&bytes, 2, 16, &[9, 0, 4, 0, 3, 0, 1, 0], &mut list), accepted(3, [0; 3], 0));
 }
 
 /// The tree of one end has nothing to steal.

@@ -1,14 +1,11 @@
 //! Each misreading named in document 01, and those that a run's own worker
-//! count, the schedule maker, the classes, the awaited step, work and span, the
-//! histogram, and help-first steals that are oldest first invite, each with a
-//! case it would fail.
+//! count, the schedule maker, the classes, the awaited step, work and span, and
+//! the histogram invite, each with a case it would fail.
 
 #[path = "library/awaited.rs"]
 mod awaited;
 #[path = "library/histograms.rs"]
 mod histograms;
-#[path = "library/oldest.rs"]
-mod oldest;
 #[path = "library/schedules.rs"]
 mod schedules;
 #[path = "library/spans.rs"]
@@ -17,12 +14,11 @@ mod spans;
 use std::cmp::Ordering;
 use std::collections::BTreeMap;
 
-use frame_tests::cover::Phase;
 use frame_tests::histogram::{bucket, limits, BUCKETS, LIMITS};
 use frame_tests::random::{tree_of_kinds, tree_of_weights, tree_record};
 use frame_tests::record::record_to_vecs;
 use frame_tests::replay::{judge_and_replay, replay_to_vecs, Replay};
-use frame_tests::run::{Policy, Run};
+use frame_tests::run::Run;
 use frame_tests::schedule::{schedule, schedule_to_vec};
 use frame_tests::span::{span, span_to_vec};
 use frame_tests::tree::{Refusal, TaskKind, Tree};
@@ -264,14 +260,11 @@ fn partly_stolen_range() {
     let (answer, phases) = replay_to_vecs(2, 16, &tree, &[1, 0, 2, 0, 2, 1, 3, 0]);
     assert_eq!(answer.number, 0);
     assert_eq!(phases, [vec![0, 1], vec![2, 4], vec![3]]);
-    // But a step taken inside the finish child does not touch it: it is only
-    // younger, and may go second.
+    // But a step taken inside the finish child does not touch it.
     let tree = s();
-    let (answer, _) = replay_to_vecs(2, 16, &tree, &[1, 0, 4, 0, 2, 0, 6, 0]);
-    assert_eq!((answer.number, answer.position), (18, 1));
-    let (answer, phases) = replay_to_vecs(2, 16, &tree, &[2, 0, 6, 0, 1, 0, 4, 0]);
+    let (answer, phases) = replay_to_vecs(2, 16, &tree, &[1, 0, 4, 0, 2, 0, 6, 0]);
     assert_eq!(answer.number, 0);
-    assert_eq!(phases, [vec![0, 2, 3, 5, 1], vec![6], vec![4]]);
+    assert_eq!(phases, [vec![0, 2, 3, 5, 1], vec![4], vec![6]]);
 }
 
 /// Replay does not wait for a finish child.
@@ -306,16 +299,16 @@ fn loads_and_heaviest() {
     for step in 0..7 {
         tree[8 * step + 4] = u8::from(step == 1 || step == 4);
     }
-    let (answer, phases) = replay_to_vecs(2, 16, &tree, &[9, 0, 1, 0, 3, 0, 4, 0]);
-    assert_eq!(phases, [vec![0, 2, 3, 5, 6], vec![1], vec![4]]);
+    let (answer, phases) = replay_to_vecs(2, 16, &tree, &[9, 0, 4, 0, 3, 0, 1, 0]);
+    assert_eq!(phases, [vec![0, 2, 3, 5, 6], vec![4], vec![1]]);
     assert_eq!((answer.loads[0], answer.loads[9], answer.loads[3]), (0, 1, 1));
     assert_eq!(answer.heaviest, 3);
     // All weights 0: worker 0.
     for step in 0..7 {
         tree[8 * step + 4] = 0;
     }
-    let (answer, _) = replay_to_vecs(2, 16, &tree, &[9, 0, 1, 0, 3, 0, 4, 0]);
-    assert_eq!((answer.number, answer.heaviest), (0, 0));
+    let (answer, _) = replay_to_vecs(2, 16, &tree, &[9, 0, 4, 0, 3, 0, 1, 0]);
+    assert_eq!(answer.heaviest, 0);
     // Sums above four bytes.
     let mut tree = s();
     for step in 0..7 {
@@ -801,7 +794,7 @@ fn counted_by(reading: Counting) -> Vec<(u32, [u32; BUCKETS])> {
 fn misread_histograms() {
     let want: Vec<_> = histograms::IN_TURN
         .iter()
-        .zip([1, 2, 3, 3, 3, 4, 5])
+        .zip([1, 2, 3, 3, 4, 5])
         .map(|(case, traces)| (traces, histograms::counts(case.7)))
         .collect();
     assert_eq!(counted_by(COUNTING), want);
@@ -851,138 +844,5 @@ fn misread_histograms() {
     ];
     for (misread, reading) in misreadings {
         assert_ne!(counted_by(reading), want, "{}", misread);
-    }
-}
-
-/// A steal that is to be judged by its age: the phases so far, the thief, the
-/// phase that it robs, and the step that it names.
-type Judged<'a> = (&'a Replay, usize, usize, usize);
-
-/// A reading of document 02's words about help-first steals.
-#[derive(Clone, Copy)]
-struct Stealing {
-    /// The steps stolen before with which the step is compared.
-    stolen: fn(Judged) -> Vec<usize>,
-    /// The steps by their age, the oldest first.
-    by_age: fn(Judged) -> Vec<usize>,
-    /// Whether a step at the first place is refused for one at the second.
-    late: fn(usize, usize) -> bool,
-    /// Whether 15 is judged first.
-    after_15: bool,
-}
-
-const STEALING: Stealing = Stealing {
-    stolen: |(replay, _, from, _)| replay.phases[from].stolen.clone(),
-    by_age: |(replay, _, from, _)| replay.pushes(from),
-    late: |step, stolen| step < stolen,
-    after_15: true,
-};
-
-/// What replay says of a worked case, read so.
-fn stolen_by(
-    reading: Stealing,
-    (policy, kinds, trace, ..): oldest::Case,
-) -> Result<Vec<Vec<usize>>, (usize, usize)> {
-    let tree = Tree::parse(&tree_of_kinds(kinds)).unwrap();
-    let policy = Policy::parse(policy).unwrap();
-    let mut replay = Replay::new(policy, 16, tree);
-    for (position, record) in trace.chunks(4).enumerate() {
-        let [thief, victim, number] = [0, 1, 2].map(|k| usize::from(record[k]));
-        // 8, 13 and 14 go first in every reading.
-        let from = match (thief.max(victim) < 16).then(|| replay.latest[victim]) {
-            None => return Err((8, position)),
-            Some(_) if thief == victim => return Err((13, position)),
-            Some(None) => return Err((14, position)),
-            Some(Some(from)) => from,
-        };
-        let named = replay.named_step(from, number);
-        let step = named.unwrap_or(number);
-        let judged = (&replay, thief, from, step);
-        let ages = (reading.by_age)(judged);
-        let age = |step: usize| ages.iter().position(|&other| other == step);
-        let late = (reading.stolen)(judged).into_iter().any(|stolen| {
-            age(step).zip(age(stolen)).is_some_and(|(step, stolen)| (reading.late)(step, stolen))
-        });
-        let late = late && policy == Policy::HelpFirst;
-        match named {
-            None if reading.after_15 || !late => return Err((15, position)),
-            _ if late => return Err((18, position)),
-            _ => {}
-        }
-        replay.phases[from].stolen.push(step);
-        replay.latest[thief] = Some(replay.phases.len());
-        replay.phases.push(Phase::new(thief, step));
-    }
-    Ok((0..replay.phases.len()).map(|phase| replay.running_order(phase)).collect())
-}
-
-/// Each misreading of the oldest step, which the worked cases tell from it.
-#[test]
-fn misread_steals() {
-    let said = |says: oldest::Says| -> Result<Vec<Vec<usize>>, (usize, usize)> {
-        says.map(|phases| phases.iter().map(|steps| steps.to_vec()).collect())
-    };
-    for case in oldest::CASES {
-        assert_eq!(stolen_by(STEALING, case), said(case.4), "{:?}", case);
-        // Without the request any order was read.
-        let before = Stealing { stolen: |_| vec![], ..STEALING };
-        assert_eq!(stolen_by(before, case), said(case.3), "{:?}", case);
-    }
-    let first: fn(Judged) -> Vec<usize> =
-        |(replay, _, from, _)| replay.phases[from].stolen.iter().copied().take(1).collect();
-    let by_worker: fn(Judged) -> Vec<usize> = |(replay, _, from, _)| {
-        let worker = replay.phases[from].worker;
-        let own = replay.phases.iter().filter(|phase| phase.worker == worker);
-        own.flat_map(|phase| phase.stolen.clone()).collect()
-    };
-    let by_thief: fn(Judged) -> Vec<usize> = |(replay, thief, from, _)| {
-        let own = replay.phases.iter().filter(|phase| phase.worker == thief);
-        own.map(|phase| phase.first).filter(|f| replay.phases[from].stolen.contains(f)).collect()
-    };
-    let of_thief: fn(Judged) -> Vec<usize> = |(replay, thief, ..)| {
-        let own = replay.phases.iter().skip(1).filter(|phase| phase.worker == thief);
-        own.map(|phase| phase.first).collect()
-    };
-    let of_all: fn(Judged) -> Vec<usize> =
-        |(replay, ..)| replay.phases.iter().flat_map(|phase| phase.stolen.clone()).collect();
-    let not_dropped: fn(Judged) -> Vec<usize> = |(replay, _, from, _)| {
-        let stolen = &replay.phases[from].stolen;
-        replay.pushes(from).into_iter().filter(|step| !stolen.contains(step)).collect()
-    };
-    // What is older than the step and was not stolen.
-    let skipped: fn(Judged) -> Vec<usize> = |(replay, _, from, step)| {
-        let stolen = &replay.phases[from].stolen;
-        let older = replay.pushes(from).into_iter().take_while(|&pushed| pushed != step);
-        older.filter(|pushed| !stolen.contains(pushed)).collect()
-    };
-    let serial: fn(Judged) -> Vec<usize> = |(replay, ..)| (0..replay.tree.count()).collect();
-    let run: fn(Judged) -> Vec<usize> = |(replay, _, from, _)| {
-        let mut own = Replay::new(replay.policy, 16, replay.tree.clone());
-        own.phases[0] = Phase::new(0, replay.phases[from].first);
-        own.running_order(0)
-    };
-    let whole: fn(Judged) -> Vec<usize> =
-        |(replay, ..)| Replay::new(replay.policy, 16, replay.tree.clone()).pushes(0);
-    // No misreading: a phase's pushes stand so among those of the whole tree.
-    for case in oldest::CASES {
-        let by_tree = Stealing { by_age: whole, ..STEALING };
-        assert_eq!(stolen_by(by_tree, case), said(case.4), "{:?}", case);
-    }
-    let misreadings = [
-        ("the newest first", Stealing { late: |step, stolen| step > stolen, ..STEALING }),
-        ("the first stolen step alone", Stealing { stolen: first, ..STEALING }),
-        ("all phases of the worker", Stealing { stolen: by_worker, by_age: whole, ..STEALING }),
-        ("all phases", Stealing { stolen: of_all, by_age: whole, ..STEALING }),
-        ("what the thief stole from the phase", Stealing { stolen: by_thief, ..STEALING }),
-        ("what the thief stole", Stealing { stolen: of_thief, by_age: whole, ..STEALING }),
-        ("what was dropped was not pushed", Stealing { by_age: not_dropped, ..STEALING }),
-        ("nothing older may stay", Stealing { stolen: skipped, late: |a, b| a > b, ..STEALING }),
-        ("by serial number", Stealing { by_age: serial, ..STEALING }),
-        ("by when the step itself runs", Stealing { by_age: run, ..STEALING }),
-        ("before 15", Stealing { after_15: false, ..STEALING }),
-    ];
-    for (misread, reading) in misreadings {
-        let other = |case: &oldest::Case| stolen_by(reading, *case) != said(case.4);
-        assert!(oldest::CASES.iter().any(other), "{}", misread);
     }
 }

@@ -109,7 +109,7 @@ fn greatest_input(policy: u8) -> Vec<u8> {
 
 // ---- The stored examples ----
 
-/// Name, standard input and what is printed, written down from documents 01 and 02.
+/// Name, standard input and what is printed, written down from document 01.
 type Stored = (&'static str, Vec<u8>, &'static str);
 
 fn listings() -> Vec<Stored> {
@@ -134,8 +134,7 @@ fn listings() -> Vec<Stored> {
     ]
 }
 
-/// 7 is not among them: the program's own list is never short. Nor are 9 to 12, which are of events, 16, since the program has 16
-/// workers, and 17, which is of a histogram.
+/// 7 is not among them: the program's own list is never short. Nor are 9 to 12, which are of events.
 fn refusals() -> Vec<Stored> {
     let mut wrong_kind = s();
     wrong_kind[8 * 4] = 4;
@@ -154,8 +153,6 @@ fn refusals() -> Vec<Stored> {
         ("refused-14", input(2, 7, &s(), &[0, 1, 1, 0]), "refused 14 0\n"),
         ("refused-15-work-first", traced(1, [2, 1, 1, 0]), "refused 15 1\n"),
         ("refused-15-help-first", input(2, 7, &s(), &[1, 0, 3, 0]), "refused 15 0\n"),
-        // Document 02's records.
-        ("refused-18", input(2, 7, &s(), &[2, 0, 6, 0, 1, 0, 1, 0]), "refused 18 1\n"),
     ]
 }
 
@@ -598,5 +595,5 @@ fn random_inputs() {
         print_this(&bytes, &text, &format!("seed {seed}"));
     }
     assert!(listed > 200, "{listed}");
-    assert_eq!(refused.into_iter().collect::<Vec<_>>(), [1, 2, 3, 4, 5, 6, 8, 13, 14, 15, 18]);
+    assert_eq!(refused.into_iter().collect::<Vec<_>>(), [1, 2, 3, 4, 5, 6, 8, 13, 14, 15]);
 }

@@ -648,77 +648,10 @@ fn refusal_15_help_first() {
     assert_eq!(replay_refusal(2, &s(), &[1, 0, 1, 0, 2, 1, 4, 0]), (15, 1));
     assert_eq!(replay_refusal(2, &s(), &[1, 0, 1, 0, 2, 1, 1, 0]), (15, 1));
     assert_eq!(replay_refusal(2, &s(), &[1, 0, 6, 0, 2, 1, 6, 0]), (15, 1));
-    // No schedule is asked for: step 1 stays behind, and worker 1 steals twice
-    // without running what it has.
-    assert_eq!(replay_refusal(2, &s(), &[1, 0, 6, 0, 1, 0, 4, 0]), (0, 0));
+    // Any order of the three is read; no schedule is asked for.
+    assert_eq!(replay_refusal(2, &s(), &[1, 0, 6, 0, 2, 0, 4, 0, 3, 0, 1, 0]), (0, 0));
     // The tree of one end has nothing to steal.
     assert_eq!(replay_refusal(2, &tree_of_kinds(&[3]), &[1, 0, 0, 0]), (15, 0));
-}
-
-/// All orders of some of S's three steps that can be stolen: 1 was pushed first,
-/// then 6, then 4.
-#[test]
-fn refusal_18_by_every_order() {
-    let age = |step: u8| [1, 6, 4].iter().position(|&pushed| pushed == step).unwrap();
-    let steal = |thief: usize, step: u8| [thief as u8 + 1, 0, step, 0];
-    for first in [1, 6, 4] {
-        for second in [1, 6, 4] {
-            for third in [1, 6, 4] {
-                let steps = [first, second, third];
-                // What is stolen already breaks the rule, whatever its age.
-                let late = |k: usize| match &steps[..k] {
-                    before if before.contains(&steps[k]) => 15,
-                    before if before.iter().any(|&stolen| age(steps[k]) < age(stolen)) => 18,
-                    _ => 0,
-                };
-                let first_late = (0..3).find(|&k| late(k) != 0);
-                let want = first_late.map_or((0, 0), |k| (late(k), k));
-                let trace: Vec<u8> = (0..3).flat_map(|k| steal(k, steps[k])).collect();
-                assert_eq!(replay_refusal(2, &s(), &trace), want, "{:?}", steps);
-            }
-        }
-    }
-}
-
-#[test]
-fn refusal_18() {
-    let late = [2, 0, 6, 0, 1, 0, 1, 0];
-    assert_eq!(replay_refusal(2, &s(), &late), (18, 1));
-    assert_eq!(replay_refusal(2, &s(), &[1, 0, 4, 0, 2, 0, 6, 0]), (18, 1));
-    assert_eq!(replay_refusal(2, &s(), &[1, 0, 1, 0, 2, 0, 4, 0, 3, 0, 6, 0]), (18, 2));
-    // The lists lent and the counts of workers change nothing.
-    for workers in 3..=16 {
-        assert_eq!(replay_refusal_with(2, workers, &s(), &late, 28), (18, 1));
-    }
-    // 1, 16, 2, 6 and 7 before 18.
-    assert_eq!(replay_refusal(3, &s(), &late), (1, 0));
-    assert_eq!(replay_refusal_of(2, 17, &s(), &late), (16, 0));
-    assert_eq!(replay_refusal(2, &s()[..55], &late), (2, 0));
-    assert_eq!(replay_refusal(2, &s(), &late[..7]), (6, 0));
-    assert_eq!(replay_refusal_with(2, 16, &s(), &late, 27), (7, 0));
-    // 8, 13, 14 and 15 before 18 in one record.
-    let behind_6 = |record: [u8; 4]| replay_refusal(2, &s(), &[[2, 0, 6, 0], record].concat());
-    assert_eq!(behind_6([16, 0, 1, 0]), (8, 1));
-    assert_eq!(behind_6([0, 0, 1, 0]), (13, 1));
-    assert_eq!(behind_6([0, 1, 1, 0]), (14, 1));
-    assert_eq!(behind_6([1, 0, 2, 0]), (15, 1));
-    // 18 earlier, the others later: 18. One of them earlier, 18 later: that one.
-    for (record, number) in
-        [([16, 0, 1, 0], 8), ([1, 1, 4, 0], 13), ([1, 5, 4, 0], 14), ([1, 0, 5, 0], 15)]
-    {
-        let after = [&late[..], &record].concat();
-        assert_eq!(replay_refusal(2, &s(), &after), (18, 1));
-        let before = [&late[..4], &record, &late[4..]].concat();
-        assert_eq!(replay_refusal(2, &s(), &before), (number, 1));
-    }
-    // 18 before 17, and in replay alone too.
-    assert_eq!(add_refusal_with(65_535, 2, 16, &s(), &late, 28), (18, 1));
-    assert_eq!(add_refusal_with(65_535, 2, 16, &s(), &late[..4], 28), (17, 0));
-    assert_eq!(add_refusal_with(65_534, 2, 16, &s(), &late, 28), (18, 1));
-    // Recording has no such refusal: it steals the oldest.
-    assert_eq!(record_refusal(2, &s(), &[0, 0, 0, 0, 2, 0, 1, 0]), (0, 0));
-    // Nor has work-first.
-    assert_eq!(replay_refusal(1, &s(), &[2, 0, 2, 0, 1, 0, 1, 0]), (0, 0));
 }
 
 #[test]

@@ -38,7 +38,7 @@ impl Histogram {
         }
     }
 
-    // Replays a trace and adds all its phases: refusals 1 to 8 and 13 to 18, or the run list at the front of the lent buffer and the
+    // Replays a trace and adds all its phases: refusals 1 to 8 and 13 to 17, or the run list at the front of the lent buffer and the
     // next histogram. A refusal hands back the very histogram.
     pub fn add(self, tree: &[u8], setup: Setup, trace: &[u8], list: &mut [u8]) -> Added
         ensures answers { let call = add_call wrapping setup.workers setup.policy tree.now trace.now in

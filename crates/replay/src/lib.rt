@@ -43,7 +43,7 @@ pub fn replay_unless(
     )
 }
 
-// Replays a trace: refusals 1 to 8, 13 to 16 and 18, or the run list at the front of the lent buffer.
+// Replays a trace: refusals 1 to 8 and 13 to 16, or the run list at the front of the lent buffer.
 pub fn replay(tree: &[u8], setup: Setup, trace: &[u8], list: &mut [u8]) -> Replayed
     ensures answers { let call = replay_call setup.workers setup.policy tree.now trace.now list.old in
         result ≡ answers call }

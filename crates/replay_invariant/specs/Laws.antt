@@ -6,10 +6,7 @@
 --     Verdicts       the call by its verdict
 --     Order          running a phase alone: each step that it covers once; work-first, an interval
 --     Labels         a table of labels that tells the phase of each step that can be stolen
---     Ranks          where each step stands when the whole tree is run alone
---     PushOrder      the order in which a phase pushes, by ranks; refusal 18 by the ranks of pushers
 --     Traces         the trace of a run replays to the run's own phases
---     OldestFirst    the sentences of #107
 --     Consequences   what follows: the run list, phase by phase and in all; every accepted trace splits the tree
 --     Entries        the entries of an accepted trace's run list, and that they are read again from their bytes
 pub mod Tasks
@@ -19,9 +16,6 @@ pub mod Always
 pub mod Verdicts
 pub mod Order
 pub mod Labels
-pub mod Ranks
-pub mod PushOrder
 pub mod Traces
-pub mod OldestFirst
 pub mod Consequences
 pub mod Entries

@@ -4,18 +4,17 @@
 ghost use Rattle.std.specs.Prelude.{◌≡◌, not, ◌≤◌, ◌<◌, length};
 ghost use Rattle.replay_invariant.specs.Terms.{free, label_of};
 ghost use Rattle.policy.specs.Contract.{most_phases};
-ghost use Rattle.replay_spec.specs.Labels.{Upward, Claimed, dropped};
+ghost use Rattle.replay_spec.specs.Labels.{Upward, Claimed, Taking, dropped};
 
-use replay_spec::{Above, FREE};
+use replay_spec::FREE;
 use tree::{Phase, Step};
 use tree_tables::wide;
 
-// Labels the free steps above a step with a phase, from opener to opener, up to the first labelled one. Gives that one.
-pub fn claim(openers: &[u16], labels: &mut [u16], step: Step, phase: Phase) -> Above
+// Labels the free steps above a step with a phase, from opener to opener, up to the first labelled one. Gives that one's label.
+fn claim(openers: &[u16], labels: &mut [u16], step: Step, phase: Phase) -> Phase
     requires step_nonzero { (0 < step.0) × (step.0 < length openers.now) × (length openers.now ≤ length labels.old) × Upward openers.now }
     requires phase_lt_most_phases { (phase.0 < most_phases) × (label_of labels.old 0 ≡ free → ⊥) }
-    ensures { let claimed = Claimed openers.now labels.old step.0 phase.0 labels.new in
-        claimed result.step.0 result.phase.0 }
+    ensures { Claimed openers.now labels.old step.0 phase.0 labels.new result.0 }
 {
     let label = phase.0 as u16;
     let from = step.0;
@@ -24,10 +23,22 @@ pub fn claim(openers: &[u16], labels: &mut [u16], step: Step, phase: Phase) -> A
         labels[j] = label;
         j = wide(openers[j]);
     }
-    Above {
-        step: Step(j),
-        phase: Phase(wide(labels[j])),
+    Phase(wide(labels[j]))
+}
+
+// Takes a step from a phase: whether all from it to the end of its task is still the phase's. The steps above it are labelled
+// then.
+pub fn take(openers: &[u16], labels: &mut [u16], step: Step, phase: Phase) -> bool
+    requires step_in_bounds { (step.0 < length openers.now) × (length openers.now ≤ length labels.old) × Upward openers.now }
+    requires phase_lt_most_phases { (phase.0 < most_phases) × (label_of labels.old 0 ≡ free → ⊥) }
+    ensures { Taking openers.now labels.old step.0 phase.0 result labels.new }
+{
+    let at = step.0;
+    if labels[at] != FREE {
+        return false;
     }
+    let found = claim(openers, labels, step, phase);
+    found.0 == phase.0
 }
 
 // Whether a step that a phase pushes stays with it: it has no label, or the phase's.

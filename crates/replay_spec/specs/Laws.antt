@@ -5,7 +5,6 @@
 --     Dropping   the pushed steps that a phase drops
 --     Taking     what a reading comes to, case by case
 --     Reading    reading a steal by labels and continuations is the rules' way
---     Lateness   a steal is late by the tables where the rules say that it is out of order
 --     Begins     the tables of phases are right once one begins
 --     Orders     running a phase alone by labels is the rules' running order
 --     Stacks     the loop that writes one phase, turn by turn
@@ -17,7 +16,6 @@ pub mod Claims
 pub mod Dropping
 pub mod Taking
 pub mod Reading
-pub mod Lateness
 pub mod Begins
 pub mod Orders
 pub mod Stacks

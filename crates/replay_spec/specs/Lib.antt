@@ -2,7 +2,6 @@
 --     Workers   the refusals that the workers of a trace record decide
 --     Naming    the step that a trace number names
 --     Labels    which phase has a step
---     Lateness  whether a steal is out of order
 --     Reading   what reading a steal comes to
 --     Begins    what beginning a phase stores
 --     Orders    what is written of one phase
@@ -11,7 +10,6 @@
 pub mod Workers
 pub mod Naming
 pub mod Labels
-pub mod Lateness
 pub mod Reading
 pub mod Begins
 pub mod Orders

@@ -16,20 +16,6 @@ pub enum Named {
     Nothing,
 }
 
-// The nearest labelled step above another, and its label.
-#[derive(Drop)]
-pub struct Above {
-    pub step: Step,
-    pub phase: Phase,
-}
-
-// What reading a steal comes to: the step stolen, or a refusal.
-#[derive(Drop)]
-pub enum Stolen {
-    At(Step),
-    Refused(u8),
-}
-
 // A phase that begins: its worker `thief` steals `step` from phase `from`. The step's ordinal is that of a work-first trace; from
 // a help-first one it is 0, and not asked for.
 #[derive(Drop)]

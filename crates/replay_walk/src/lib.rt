@@ -12,7 +12,7 @@ ghost use Rattle.policy.specs.Contract.{most_phases};
 ghost use Rattle.replay_walk.specs.Terms.{Retraced};
 
 use policy::{MOST_PHASES, Setup, WORKERS};
-use replay_spec::{Begun, NO_PHASE, Stolen};
+use replay_spec::{Begun, NO_PHASE, Named};
 use tree::Phase;
 use tree_tables::wide;
 
@@ -87,17 +87,9 @@ pub fn walk(
         let phase = Phase(wide(latest[victim]));
         let number = trace::number::decode_number(setup.policy, steal.number);
         match replay_steal::read_steal(
-            tree,
-            ends,
-            openers,
-            labels,
-            &bases,
-            &ordinals,
-            phase,
-            number,
-            setup.policy,
+            tree, ends, openers, labels, &bases, &ordinals, phase, number,
         ) {
-            Stolen::At(step) => {
+            Named::At(step) => {
                 replay_steal::phase::begin(
                     openers,
                     labels,
@@ -115,8 +107,8 @@ pub fn walk(
                 );
                 loads::move_part(ends, sums, &mut loads, thief, victim, step);
             }
-            Stolen::Refused(number) => {
-                return refused(number, at);
+            Named::Nothing => {
+                return refused(15, at);
             }
         }
     }

@@ -48,11 +48,6 @@ module _ {A : Type 0} where
   sum f [] = 0
   sum f (x ∷ xs) = f x + sum f xs
 
--- Where x stands first, counted from i.
-unfoldable pub first_at : ℕ → ℕ → List ℕ → ℕ
-first_at x i [] = i
-first_at x i (y ∷ ys) = cond (eqb y x) i (first_at x (suc i) ys)
-
 -- The highest number from `low` to before `end` that passes a test: the first that a walk backwards finds.
 unfoldable pub highest : (ℕ → Bool) → ℕ → ℕ → Option ℕ
 highest p low end = find p (reverse (count low (end - low)))

@@ -143,7 +143,7 @@ pub record Replayed : Type 0 where
 
 --     6  as for record, here the trace.
 --     7  as for record, here the run list.
---     8, 13 to 15, 18  by the trace, in one walk.
+--     8, 13 to 15  by the trace, in one walk.
 unfoldable pub replay_verdict : ℕ → ℕ → List ℕ → List ℕ → List ℕ → Verdict
 replay_verdict w p tree trace list =
     first_refused

@@ -3,7 +3,7 @@
 -- policy, the case stands for both.
 use Rattle.std.specs.Prelude.{ℕ, zero, suc, ◌-◌, ◌*◌, ◌/◌, ◌%◌, ◌≡◌, refl, Bool, true, false, cond, length, take, drop, replicate, eqb}
 use mathlib.Core.List.{List, [], ◌∷◌, ◌++◌, map, flatten, zip_with}
-use Rattle.rules.specs.Bytes.{little_endian, two_bytes, cut, records, whole_records, count, all, any, sum, first_at, Verdict, accepted}
+use Rattle.rules.specs.Bytes.{little_endian, two_bytes, cut, records, whole_records, count, all, any, sum, Verdict, accepted}
 use Rattle.rules.specs.Bytes.{refused_if, first_refused, walk}
 use Rattle.rules.specs.Tree.{tree_records, kind, is_async, is_finish, is_end, class, weight, kinds, classes, weights, kind_at}
 use Rattle.rules.specs.Tree.{root, innermost, leave, enter, open_tasks, task_at, task, ordinal, open_after, after_ends, task_end}
@@ -15,9 +15,9 @@ use Rattle.rules.specs.Scheduling.{judge_run, run_step, holds_step, judge_steal,
 use Rattle.rules.specs.Scheduling.{idle_count, idle_lowest}
 use Rattle.rules.specs.Traces.{trace_number, trace_bytes, entry_bytes, from_step, covers, latest_phase, last_stolen, frontier}
 use Rattle.rules.specs.Traces.{child_count, task_step, ordinal_allowed, starts_async, follows_finish, serial_allowed}
-use Rattle.rules.specs.Traces.{number_allowed, stolen_step, run_alone, running_order, pushed_by, push_order, passed_over, out_of_order}
-use Rattle.rules.specs.Traces.{record_number, judge_number, judge_read, judge_trace_record, next_phases, replay_walk, run_list}
-use Rattle.rules.specs.Traces.{phase_load, worker_load, loads, largest, heaviest, of_class, class_load, class_loads}
+use Rattle.rules.specs.Traces.{number_allowed, stolen_step, record_number, judge_read, judge_trace_record, next_phases, replay_walk}
+use Rattle.rules.specs.Traces.{run_alone, running_order, run_list, phase_load, worker_load, loads, largest, first_at, heaviest}
+use Rattle.rules.specs.Traces.{of_class, class_load, class_loads}
 use Rattle.rules.specs.Calls.{policy_verdict, count_verdict, start_verdict, event_call, written, Recorded, record_walk}
 use Rattle.rules.specs.Calls.{record_verdict, finished, record_of, record_refused, record_call, Replayed, replay_verdict}
 use Rattle.rules.specs.Calls.{replay_of, replay_refused, replay_call}
@@ -66,10 +66,9 @@ unfolding idle_answer replay_answer record_answer steps_of if_accepted little_en
     has_kind well_formed judge_tree_record next_open tree_walk wrong_length tree_verdict pushes_child holds pushes pop after_run
     first_phases phase_at begin idle_worker start worker_at has_run waits is_run judge_run run_step holds_step judge_steal oldest steal
     judge_event next_run idle_set idle_count idle_lowest trace_number trace_bytes entry_bytes from_step covers latest_phase last_stolen
-    frontier child_count task_step ordinal_allowed starts_async follows_finish serial_allowed number_allowed stolen_step run_alone
-    running_order pushed_by push_order passed_over out_of_order record_number judge_number judge_read judge_trace_record next_phases
-    replay_walk run_list phase_load worker_load loads largest first_at heaviest of_class class_load class_loads policy_verdict
-    count_verdict start_verdict event_call written record_walk record_verdict
+    frontier child_count task_step ordinal_allowed starts_async follows_finish serial_allowed number_allowed stolen_step record_number
+    judge_read judge_trace_record next_phases replay_walk run_alone running_order run_list phase_load worker_load loads largest first_at
+    heaviest of_class class_load class_loads policy_verdict count_verdict start_verdict event_call written record_walk record_verdict
     finished record_of record_refused record_call replay_verdict replay_of replay_refused replay_call flatten zip_with
 answer_with w (recording p tree events) =
     record_answer

@@ -11,7 +11,6 @@
 --     Counts       cases of the run's own count of workers
 --     Classes      cases of the classes
 --     Awaited      cases of what a step waits for
---     OldestFirst  cases of help-first steals that are not oldest first
 --     Listing      the worked example of program `phases`, and refusals and numbers that it prints
 pub mod Bytes
 pub mod Tree
@@ -24,5 +23,4 @@ pub mod NearMisses
 pub mod Counts
 pub mod Classes
 pub mod Awaited
-pub mod OldestFirst
 pub mod Listing

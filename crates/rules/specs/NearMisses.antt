@@ -144,8 +144,8 @@ serials =
     -- a phase's first step is not its own steal, whoever's phase it is
     ∷ row (replaying help_first S (bytes 8 0x0100_0100_0201_0100)) (refused 15 1)
     ∷ row (replaying help_first S (bytes 8 0x0300_0100_0203_0100)) (refused 15 1)
-    -- 4 is still in the phase when 6 is not, 3 when 4 is not; 3 is in worker 3's phase, which begins with 1
-    ∷ row (replaying help_first S (bytes 8 0x0100_0600_0200_0400)) (phases ((0 ∷ 2 ∷ 3 ∷ 5 ∷ 1 ∷ []) ∷ (6 ∷ []) ∷ (4 ∷ []) ∷ []))
+    -- 1 is still in the phase when 6 is not, 3 when 4 is not; 3 is in worker 3's phase, which begins with 1
+    ∷ row (replaying help_first S (bytes 8 0x0100_0600_0200_0100)) (phases ((0 ∷ 2 ∷ 3 ∷ 5 ∷ 4 ∷ []) ∷ (6 ∷ []) ∷ (1 ∷ []) ∷ []))
     ∷ row (replaying help_first nested (bytes 8 0x0100_0400_0200_0300)) (phases ((0 ∷ 1 ∷ 2 ∷ []) ∷ (4 ∷ []) ∷ (3 ∷ []) ∷ []))
     ∷ row (replaying help_first deep_asyncs (bytes 8 0x0300_0100_0203_0300))
     (phases ((0 ∷ 8 ∷ []) ∷ (1 ∷ 7 ∷ 2 ∷ 6 ∷ []) ∷ (3 ∷ 5 ∷ 4 ∷ []) ∷ []))

@@ -1,13 +1,12 @@
 -- Document 01, "Trace, log, run list": trace and log records, how replay reads a steal, what a phase covers, its running
--- order, the run list, loads. Document 02, #103: the loads of the classes; #107: help-first steals are oldest first. `p` is the
--- policy, `ks` the tree's kinds, `cs` its classes and `ws` its weights.
+-- order, the run list, loads. Document 02, #103: the loads of the classes. `p` is the policy, `ks` the tree's kinds, `cs` its
+-- classes and `ws` its weights.
 use Rattle.std.specs.Prelude.{ℕ, zero, suc, pred, ◌-◌, max, Bool, true, false, cond, ◌&&◌, ◌||◌, not, length, get_or, drop, eqb, ltb, leb}
 use mathlib.Core.List.{List, [], ◌∷◌, ◌++◌, map, flatten, zip_with}
 use Rattle.std.proofs.Math.Option.{Option, none, some}
-use Rattle.rules.specs.Bytes.{little_endian, two_bytes, count, all, any, first_at, sum, Walked, walk}
-use Rattle.rules.specs.Tree.{class_count, kind_at, is_async, is_end, task, ordinal, task_end, cont, finish_before}
-use Rattle.rules.specs.Scheduling.{work_first, help_first, Hand, pushes, after_run, Phase, first_phases, phase_at, begin}
-use Rattle.rules.specs.Scheduling.{Entry, Steal}
+use Rattle.rules.specs.Bytes.{little_endian, two_bytes, count, all, any, sum, Walked, walk}
+use Rattle.rules.specs.Tree.{class_count, kind_at, is_async, task, ordinal, task_end, cont, finish_before}
+use Rattle.rules.specs.Scheduling.{work_first, Hand, after_run, Phase, first_phases, phase_at, begin, Entry, Steal}
 
 -- ---- trace and log
 
@@ -91,59 +90,16 @@ number_allowed p ks ph number = cond (eqb p work_first) (ordinal_allowed ks ph n
 unfoldable pub stolen_step : ℕ → List ℕ → Phase → ℕ → ℕ
 stolen_step p ks ph number = cond (eqb p work_first) (task_step ks (frontier ks ph) number) number
 
--- ---- running order
-
--- Running alone from a held step and a deque, for at most `fuel` steps: each step that is `gone` is dropped when pushed, and
--- no step waits.
-unfoldable pub run_alone : (ℕ → Bool) → ℕ → List ℕ → ℕ → Hand → List ℕ
-run_alone gone p ks zero h = []
-run_alone gone p ks (suc fuel) h =
-    elim h.held [ none ↦ [] | some i ↦ i ∷ run_alone gone p ks fuel (after_run gone p ks i h.deque) ]
-
--- "The phase's running order is that of running it alone, each stolen step dropped when pushed and no step waiting for a
--- finish child." A phase has at most the tree's steps.
-unfoldable pub running_order : ℕ → List ℕ → Phase → List ℕ
-running_order p ks ph =
-    run_alone (λ x. any (eqb x) ph.stolen) p ks (length ks) (record { held = some ph.first; deque = [] })
-
--- ---- oldest first (document 02, #107)
-
--- What running a step pushes: an end nothing.
-unfoldable pub pushed_by : ℕ → List ℕ → ℕ → List ℕ
-pushed_by p ks i = cond (is_end (kind_at ks i)) [] (pushes p ks i ∷ [])
-
--- The steps that a phase pushes, in the order of its pushes. A step that is stolen was pushed too.
-unfoldable pub push_order : ℕ → List ℕ → Phase → List ℕ
-push_order p ks ph = flatten (map (pushed_by p ks) (running_order p ks ph))
-
--- Whether the phase pushed step s "earlier than a step already stolen from that phase".
-unfoldable pub passed_over : ℕ → List ℕ → Phase → ℕ → Bool
-passed_over p ks ph s =
-    let order = push_order p ks ph in
-    any (λ t. ltb (first_at s 0 order) (first_at t 0 order)) ph.stolen
-
--- "A help-first steal whose step the phase pushed earlier than a step already stolen from that phase": whether that of step s is one.
-unfoldable pub out_of_order : ℕ → List ℕ → Phase → ℕ → Bool
-out_of_order p ks ph s = eqb p help_first && passed_over p ks ph s
-
--- ---- the walk over a trace
-
 -- The two-byte number of a trace record.
 unfoldable pub record_number : List ℕ → ℕ
 record_number r = little_endian (drop 2 r)
 
--- A number read against a phase.
---    15  "In a trace, the number breaks the rule above."
---    18  "This steal, after 15 in the same record."
-unfoldable pub judge_number : ℕ → List ℕ → Phase → ℕ → ℕ
-judge_number p ks ph number =
-    cond (number_allowed p ks ph number) (cond (out_of_order p ks ph (stolen_step p ks ph number)) 18 0) 15
-
 -- "Replay reads a steal against the victim's latest phase."
 --    14  "In a trace, the victim has had no phase."
+--    15  "In a trace, the number breaks the rule above."
 unfoldable pub judge_read : ℕ → List ℕ → List Phase → ℕ → ℕ → ℕ
 judge_read p ks phs victim number =
-    elim (latest_phase victim 0 phs) [ none ↦ 14 | some k ↦ judge_number p ks (phase_at phs k) number ]
+    elim (latest_phase victim 0 phs) [ none ↦ 14 | some k ↦ cond (number_allowed p ks (phase_at phs k) number) 0 15 ]
 
 -- A trace record, where the run has w workers.
 --     8  "A record names worker 16 or higher", which "now means a worker at or above that count".
@@ -165,7 +121,20 @@ next_phases p ks phs r =
 unfoldable pub replay_walk : ℕ → ℕ → List ℕ → List (List ℕ) → Walked (List Phase)
 replay_walk w p ks rs = walk (judge_trace_record w p ks) (next_phases p ks) 0 first_phases rs
 
--- ---- run list
+-- ---- running order and run list
+
+-- Running alone from a held step and a deque, for at most `fuel` steps: each step that is `gone` is dropped when pushed, and
+-- no step waits.
+unfoldable pub run_alone : (ℕ → Bool) → ℕ → List ℕ → ℕ → Hand → List ℕ
+run_alone gone p ks zero h = []
+run_alone gone p ks (suc fuel) h =
+    elim h.held [ none ↦ [] | some i ↦ i ∷ run_alone gone p ks fuel (after_run gone p ks i h.deque) ]
+
+-- "The phase's running order is that of running it alone, each stolen step dropped when pushed and no step waiting for a
+-- finish child." A phase has at most the tree's steps.
+unfoldable pub running_order : ℕ → List ℕ → Phase → List ℕ
+running_order p ks ph =
+    run_alone (λ x. any (eqb x) ph.stolen) p ks (length ks) (record { held = some ph.first; deque = [] })
 
 -- "Phase 0 first, then phase 1 and so on, each phase in running order."
 unfoldable pub run_list : ℕ → List ℕ → List Phase → List Entry
@@ -189,6 +158,11 @@ loads w ks ws phs = map (worker_load ks ws phs) (count 0 w)
 unfoldable pub largest : List ℕ → ℕ
 largest [] = 0
 largest (x ∷ xs) = max x (largest xs)
+
+-- Where x stands first, counted from i.
+unfoldable pub first_at : ℕ → ℕ → List ℕ → ℕ
+first_at x i [] = i
+first_at x i (y ∷ ys) = cond (eqb y x) i (first_at x (suc i) ys)
 
 -- "The heaviest worker, the lowest numbered among equals."
 unfoldable pub heaviest : List ℕ → ℕ

@@ -1,7 +1,7 @@
 -- What is so of every state that a run's events lead to: the sentences of document 01, "Scheduling", as one record. `p` is the
 -- policy, `ks` the kinds of an accepted tree. The steps from i to the end of i's task, with all that they spawn, are "the part
 -- from i" here; it is what a phase that begins with i covers before anything is stolen from it.
-use Rattle.std.specs.Prelude.{ℕ, suc, ◌+◌, ◌-◌, ◌≤◌, ◌<◌, ◌≡◌, Bool, true, false, cond, List, [], ◌∷◌, ◌++◌, map, reverse, length, take, eqb}
+use Rattle.std.specs.Prelude.{ℕ, suc, ◌+◌, ◌-◌, ◌≤◌, ◌<◌, ◌≡◌, Bool, true, false, cond, List, [], ◌∷◌, ◌++◌, map, length, take, eqb}
 use Rattle.std.proofs.Math.Option.{none, some}
 use Rattle.rules.specs.Bytes.{all, any, sum}
 use Rattle.rules.specs.Tree.{kind_at, is_finish, is_end, task_end, cont}
@@ -82,9 +82,8 @@ pub record PhaseFacts (p : ℕ) (ks : List ℕ) (ph : Phase) (log stack : List �
   -- first step, each step once.
   pub cover : (whole each : ℕ → ℕ) → Weighs ks whole each
       → sum each log + sum whole stack + sum whole ph.stolen ≡ whole ph.first
-  -- Chain: the deque's order is that of the pushers; and steals are oldest first: so it is with what was stolen from the phase
-  -- behind the oldest step, the step last stolen next to it.
-  pub chain : Chained p ks (stack ++ reverse ph.stolen)
+  -- Chain: the deque's order is that of the pushers.
+  pub chain : Chained p ks stack
   -- Order: the log goes on as the phase would alone. `gone` is any set of steps that has all that is stolen from the phase,
   -- nothing that it has run and not the step that it holds: what will be stolen in the end is such a set.
   pub order : (gone : ℕ → Bool) → all gone ph.stolen ≡ true → any gone (log ++ take 1 stack) ≡ false

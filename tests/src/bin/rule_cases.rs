@@ -10,10 +10,9 @@ use frame_tests::cover::WORKERS;
 use frame_tests::histogram::{BUCKETS, MAX_TRACES};
 use frame_tests::phases::phases;
 use frame_tests::random::{
-    accepted_bytes, accepted_trace, any_count, any_event, any_seed, damaged_tree, drive, finish_tree, late_record, nearest_count,
-    run_all_but, set_classes, set_weights, trace, trace_record, tree, worker_at_the_edge, Classes, Plan, Rng, Steals, Weights,
+    accepted_bytes, any_count, any_seed, damaged_tree, drive, finish_tree, nearest_count, run_all_but, set_classes, set_weights, trace,
+    tree, worker_at_the_edge, Classes, Plan, Rng, Weights,
 };
-use frame_tests::replay::judge_and_replay;
 use frame_tests::tree::TREE_RECORD;
 use frame_tests::{add, record, replay, schedule, span, Histogram, Policy, ReplayAnswer, Run, Tree};
 
@@ -131,7 +130,6 @@ fn record_row(out: &mut String, seed: u64) {
 /// A few trace records between so many workers for the scene, some of them bad.
 fn steals(rng: &mut Rng, policy: u8, workers: usize, tree: &[u8]) -> Vec<u8> {
     match (Policy::parse(policy), Tree::parse(tree)) {
-        (Ok(Policy::HelpFirst), Ok(_)) if rng.percent(25) => late_steals(rng, workers as u8, tree),
         (Ok(policy), Ok(tree)) => {
             let (most, bad) = (rng.below(6), rng.pick(&[0, 0, 10, 40]));
             trace(rng, policy, workers, &tree, most, bad)
@@ -142,48 +140,14 @@ fn steals(rng: &mut Rng, policy: u8, workers: usize, tree: &[u8]) -> Vec<u8> {
 
 fn replay_row(out: &mut String, seed: u64) {
     let mut rng = Rng::new(seed);
-    let (policy, tree) = scene(&mut rng);
+    let (policy, bytes_of_tree) = scene(&mut rng);
     let workers = any_count(&mut rng);
-    let records = steals(&mut rng, policy, nearest_count(workers), &tree);
-    write_replay(out, &mut rng, policy, workers, &tree, &records);
-}
-
-/// The row of a replay with any list lent.
-fn write_replay(out: &mut String, rng: &mut Rng, policy: u8, workers: u8, tree: &[u8], records: &[u8]) {
-    let mut list = lent(rng, 4 * (tree.len() / 8));
-    let call = format!("replayCall {workers} {policy} {} {} {}", bytes(tree), bytes(records), bytes(&list));
-    let answer = replay(policy, workers, tree, records, &mut list);
+    let records = steals(&mut rng, policy, nearest_count(workers), &bytes_of_tree);
+    let n = bytes_of_tree.len() / 8;
+    let mut list = lent(&mut rng, 4 * n);
+    let call = format!("replayCall {workers} {policy} {} {} {}", bytes(&bytes_of_tree), bytes(&records), bytes(&list));
+    let answer = replay(policy, workers, &bytes_of_tree, &records, &mut list);
     write!(out, "record {{ got = {call}; says = {} }} ∷ ", replayed(&answer, &list)).expect("a string takes all");
-}
-
-/// A few help-first steals that are out of order where a few tries find some that can be, and mostly a record behind them.
-fn late_steals(rng: &mut Rng, workers: u8, tree: &[u8]) -> Vec<u8> {
-    let read = Tree::parse(tree).expect("the tree is accepted");
-    let mut records = vec![];
-    for _ in 0..20 {
-        let plan = Steals { most: rng.between(1, 4), ..Steals::any(rng, workers.into()) };
-        records = accepted_trace(rng, Policy::HelpFirst, &read, &plan);
-        let so_far = judge_and_replay(2, workers, tree, &records, usize::MAX).expect("the trace is accepted");
-        if let Some(late) = late_record(rng, &so_far, workers.into()) {
-            records.extend(late);
-            break;
-        }
-    }
-    if rng.percent(60) {
-        let [thief, victim] = any_event(rng, workers.into(), workers.into());
-        records.extend(trace_record(thief, victim, rng.between(0, read.count()) as u16));
-    }
-    records
-}
-
-/// A replay of help-first steals that are mostly not oldest first.
-fn late_row(out: &mut String, seed: u64) {
-    let mut rng = Rng::new(seed);
-    let tasks = rng.between(2, 5);
-    let tree = tree(&mut rng, tasks);
-    let workers = rng.between(2, 5) as u8;
-    let records = late_steals(&mut rng, workers, &tree);
-    write_replay(out, &mut rng, 2, workers, &tree, &records);
 }
 
 /// What a replay answers and writes, as the rules' record.
@@ -404,7 +368,6 @@ fn rules_page(from: u64, theorems: u64) -> String {
     let names = format!("answerWith bytes {PROGRAM} {MAKER} {WAITING}");
     tables(&mut out, "recorded", "RecordRow", &names, from, theorems, record_row);
     tables(&mut out, "replayed", "ReplayRow", &names, from, theorems, replay_row);
-    tables(&mut out, "late", "ReplayRow", &names, from, theorems, late_row);
     tables(&mut out, "scheduled", "ScheduleRow", &names, from, theorems, schedule_row);
     tables(&mut out, "idled", "IdleRow", &names, from, theorems, idle_row);
     tables(&mut out, "awaiting", "NumbersRow", &names, from, theorems, awaited_row);

@@ -71,19 +71,16 @@ const ONES: &[u32] = &[1; 7];
 const P1_TRACE: &[u8] = &[1, 0, 1, 0, 2, 1, 2, 0, 0, 1, 1, 0];
 const P4_TRACE: &[u8] = &[1, 0, 1, 0, 2, 0, 6, 0];
 const P8_TRACE: &[u8] = &[1, 0, 1, 0, 2, 1, 1, 0];
-const NOT_OLDEST_FIRST: &[u8] = &[2, 0, 6, 0, 1, 0, 1, 0];
 
 /// One histogram goes through these calls, from its start. Its count of traces is that of the accepted ones.
 #[rustfmt::skip]
-pub const IN_TURN: [Case; 7] = [
+pub const IN_TURN: [Case; 6] = [
     (1, S, ONES, P1_TRACE, 28, (0, 0), &[2, 3, 1, 1], &[(Some(3), 2), (Some(6), 1), (Some(7), 1)]),
     (2, S, ONES, P4_TRACE, 28, (0, 0), &[5, 1, 1], &[(Some(3), 4), (Some(6), 1), (Some(7), 1), (Some(10), 1)]),
     // Phases of load 0 count too.
     (1, S, &[0; 7], &[1, 0, 1, 0], 28, (0, 0), &[0, 0],
         &[(None, 2), (Some(3), 4), (Some(6), 1), (Some(7), 1), (Some(10), 1)]),
     (1, S, ONES, P8_TRACE, 28, (15, 1), &[], &[(None, 2), (Some(3), 4), (Some(6), 1), (Some(7), 1), (Some(10), 1)]),
-    (2, S, ONES, NOT_OLDEST_FIRST, 28, (18, 1), &[],
-        &[(None, 2), (Some(3), 4), (Some(6), 1), (Some(7), 1), (Some(10), 1)]),
     (1, &[3], &[u32::MAX], &[], 4, (0, 0), &[4_294_967_295],
         &[(None, 2), (Some(3), 4), (Some(6), 1), (Some(7), 1), (Some(10), 1), (Some(127), 1)]),
     (1, S, &[5, 0, 7, 0, 11, 13, 0], P1_TRACE, 28, (0, 0), &[5, 18, 0, 13],
@@ -91,7 +88,7 @@ pub const IN_TURN: [Case; 7] = [
 ];
 
 /// Each of these calls gets the full histogram, and hands it back: 17 is judged after all refusals of the replay itself.
-pub const WHERE_FULL: [Case; 15] = [
+pub const WHERE_FULL: [Case; 13] = [
     (1, S, ONES, &[1, 0, 1, 0], 28, (17, 0), &[], &FULL_COUNTS),
     (1, S, ONES, P1_TRACE, 28, (17, 0), &[], &FULL_COUNTS),
     (2, &[3], &[0], &[], 4, (17, 0), &[], &FULL_COUNTS),
@@ -105,8 +102,6 @@ pub const WHERE_FULL: [Case; 15] = [
     (1, S, ONES, &[2, 2, 1, 0], 28, (13, 0), &[], &FULL_COUNTS),
     (1, S, ONES, &[0, 1, 1, 0], 28, (14, 0), &[], &FULL_COUNTS),
     (1, S, ONES, &[1, 0, 3, 0], 28, (15, 0), &[], &FULL_COUNTS),
-    (2, S, ONES, NOT_OLDEST_FIRST, 28, (18, 1), &[], &FULL_COUNTS),
-    (2, S, ONES, P4_TRACE, 28, (17, 0), &[], &FULL_COUNTS),
 ];
 
 /// The counts when the tree of one end, of weight 1, was added as often as may be.

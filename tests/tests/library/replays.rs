@@ -184,12 +184,11 @@ pub fn longest_traces(policy: u8) -> Vec<(Vec<u8>, Vec<u8>)> {
 
 // ---- Which refusal wins ----
 
-/// The start of a trace of S, then records that are refused with 8, 13 to 15 and 18 there. Most have something of a higher number
-/// as well. The run has six workers or more; the one that is none is at its count. Help-first, the start passes over step 1, and
-/// work-first nothing is refused with 18.
+/// The start of a trace of S, then records that are refused with 8 and 13 to 15 there. Most have something of a higher number
+/// as well. The run has six workers or more; the one that is none is at its count.
 fn walked(policy: u8, none: u8) -> (Vec<[u8; 4]>, Vec<([u8; 4], usize)>) {
-    let start = if policy == 2 { vec![[1, 0, 6, 0], [2, 0, 4, 0]] } else { vec![[1, 0, 1, 0], [2, 1, 2, 0]] };
-    let mut refused = vec![
+    let start = if policy == 2 { vec![[1, 0, 1, 0], [2, 0, 6, 0]] } else { vec![[1, 0, 1, 0], [2, 1, 2, 0]] };
+    let refused = vec![
         ([none, 0, 4, 0], 8),
         ([0, none, 1, 0], 8),
         ([none, none, 1, 0], 8),
@@ -206,14 +205,10 @@ fn walked(policy: u8, none: u8) -> (Vec<[u8; 4]>, Vec<([u8; 4], usize)>) {
         ([3, 2, 6, 0], 15),
         ([3, 1, 0, 0], 15),
     ];
-    if policy == 2 {
-        // Step 6 is stolen already and was pushed before 4.
-        refused.extend([([3, 0, 6, 0], 15), ([3, 0, 1, 0], 18), ([1, 0, 1, 0], 18)]);
-    }
     (start, refused)
 }
 
-/// Traces of S with the number and the position of their refusal: whole or not, and with every two of 8, 13 to 15 and 18, in one
+/// Traces of S with the number and the position of their refusal: whole or not, and with every two of 8 and 13 to 15, in one
 /// record or in two.
 fn lists(policy: u8, none: u8) -> Vec<(Vec<u8>, (usize, usize))> {
     let (start, refused) = walked(policy, none);
@@ -237,13 +232,12 @@ fn lists(policy: u8, none: u8) -> Vec<(Vec<u8>, (usize, usize))> {
     lists
 }
 
-/// The number of such a record as the first of a trace: only worker 0 has had a phase, and nothing is stolen from it.
-fn early([_, victim, step, _]: [u8; 4], number: usize) -> usize {
-    match number {
-        15 if victim != 0 => 14,
-        15 if step == 6 => 0,
-        18 => 0,
-        _ => number,
+/// The number of such a record as the first of a trace: only worker 0 has had a phase.
+fn early([_, victim, ..]: [u8; 4], number: usize) -> usize {
+    if number == 15 && victim != 0 {
+        14
+    } else {
+        number
     }
 }
 

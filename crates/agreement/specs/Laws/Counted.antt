@@ -26,7 +26,7 @@ use Rattle.run_spec.specs.Moves.{fresh, refused}
 use Rattle.run_spec.specs.Laws.Idle.{lowest_set, set_below}
 use Rattle.run_state.specs.declared.RunState.{RunState}
 use Rattle.run_state.specs.Contract.{fields, start_answer, event_answer, idle_answer}
-use Rattle.run_refinement.specs.Laws.AnyState.{event_setup, far_move, near-move}
+use Rattle.run_refinement.specs.Laws.AnyState.{event_setup, far_move, near_move}
 use Rattle.replay_invariant.specs.Laws.Verdicts.{read_other}
 use Rattle.loads.specs.Laws.Loads.{loads-length}
 use Rattle.loads.specs.Laws.Unused.{Unused, unused_loads, recorded-unused, replayed-unused}
@@ -86,7 +86,7 @@ event_eight tree s a b = by (leb limit a || leb limit b) refl
     by : (far : Bool) → leb limit a || leb limit b ≡ far
         → eqb (refusal_of (event_answer s tree a b).outcome) 8 ≡ (leb limit a || leb limit b)
     by true far = rw (far_move (fields s) tree a b far, far) refl
-    by false near = not-refused _ (near-move (fields s) tree a b near) ∙ sym near
+    by false near = not-refused _ (near_move (fields s) tree a b near) ∙ sym near
 
 event_keeps : (tree : List ℕ) (s : RunState) (a b : ℕ) → (event_answer s tree a b).state.workers ≡ s.workers
 unfolding event_answer
@@ -118,7 +118,7 @@ record_walked : (p : ℕ) (ks : List ℕ) (w : ℕ) (phs : List Phase) (r : List
 unfolding judge_trace_record names_none
 record_walked p ks w phs r =
     number_by_lem 8 _ _ (neither 8 (eqb (get_or r 0 0) (get_or r 1 0)) 13 _ (omega arith)
-    (read_other 8 (omega arith) (omega arith) (omega arith) (omega arith) p ks phs (get_or r 1 0) (record_number r)))
+    (read_other 8 (omega arith) (omega arith) (omega arith) p ks phs (get_or r 1 0) (record_number r)))
 
 -- ---- the idle workers
 

@@ -2,7 +2,7 @@
 -- limits above it are the last three of the table, halved. Assumes nothing.
 use mathlib.Core.Path.{sym}
 use borrow.Author.Rules.{rules}
-use Rattle.histogram_limits.specs.Laws.Buckets.{place-near}
+use Rattle.histogram_limits.specs.Laws.Buckets.{place_near}
 use Rattle.histogram_bucket.proofs.near.Statement.{statement}
 use Rattle.histogram_bucket.proofs.near.Tie as tie
 
@@ -53,7 +53,7 @@ returns c =
     let read = c.before.before.before in
     let start = read.before in
     rw (c.before.before.passes.ensures.0, c.before.passes2.ensures.0, c.passes3.ensures.0, read.table.ensures)
-    (sym (place-near start.args.load start.args.bit start.requires))
+    (sym (place_near start.args.load start.args.bit start.requires))
 
 pub near-spec : {M : Type 1} → statement M
 near-spec =

@@ -68,7 +68,7 @@ unfolding judge_trace_record
 trace_record w p ks phs r =
     neither 17 (leb w (get_or r 0 0) || leb w (get_or r 1 0)) 8 _ (omega arith)
     (neither 17 (eqb (get_or r 0 0) (get_or r 1 0)) 13 _ (omega arith)
-    (read_other 17 (omega arith) (omega arith) (omega arith) (omega arith) p ks phs (get_or r 1 0) (record_number r)))
+    (read_other 17 (omega arith) (omega arith) (omega arith) p ks phs (get_or r 1 0) (record_number r)))
 
 pub replay_other : (w p : ℕ) (tree trace list : List ℕ) → (replay_verdict w p tree trace list).number ≡ 17 → ⊥
 unfolding replay_verdict replay_walk

@@ -124,8 +124,8 @@ module _ (load : ℕ) where
       (λ l. rw (next, fourths (suc b) (omega arith)) (n.last (omega arith)))
       ∙ ap some (rw (one, two, three) (omega arith))
 
-  pub place-near : (b : ℕ) → Near load b
+  pub place_near : (b : ℕ) → Near load b
       → place load ≡ 1 + 4 * b + passes load (halved_limit b 1) + passes load (halved_limit b 2) + passes load (halved_limit b 3)
-  place-near b n =
+  place_near b n =
       let at = halved b n.within in
       rw (← at 1 (omega arith), ← at 2 (omega arith), ← at 3 (omega arith)) (omega (arith, place-some load _ (near b n)))

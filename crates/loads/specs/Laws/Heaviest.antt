@@ -2,9 +2,8 @@
 use Rattle.std.specs.Prelude.{ℕ, zero, suc, ◌+◌, ◌≤◌, ◌<◌, ◌≡◌, List, [], ◌∷◌}
 use Rattle.std.proofs.Common.{arith, below_more, eq-eqb, ne_eqb}
 use Rattle.std.proofs.Math.ListN.{length, get_or}
-use Rattle.rules.specs.Bytes.{first_at}
 use Rattle.rules.specs.Scheduling.{most_workers}
-use Rattle.rules.specs.Traces.{largest, heaviest}
+use Rattle.rules.specs.Traces.{largest, first_at, heaviest}
 use Rattle.tree.specs.Laws.Largest.{largest_most, largest_least}
 
 -- ---- where a load stands first

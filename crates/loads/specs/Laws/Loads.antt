@@ -200,16 +200,16 @@ module _ (ks ws : List ℕ) where
       )
 
   -- Two workers' loads are within those of all phases.
-  two-loads : (t v : ℕ) → (t ≡ v → ⊥) → (phs : List Phase)
+  two_loads : (t v : ℕ) → (t ≡ v → ⊥) → (phs : List Phase)
       → worker_load ks ws phs t + worker_load ks ws phs v ≤ sum (phase_load ks ws) phs
   unfolding worker_load sum
-  two-loads t v n [] = omega arith
-  two-loads t v n (ph ∷ phs) =
+  two_loads t v n [] = omega arith
+  two_loads t v n (ph ∷ phs) =
       elim (ℕ_discrete ph.worker t) [
-        | yes e ↦ rw (eq-eqb ph.worker t e, ne_eqb ph.worker v (λ s. n (sym e ∙ s))) (omega (arith, two-loads t v n phs))
+        | yes e ↦ rw (eq-eqb ph.worker t e, ne_eqb ph.worker v (λ s. n (sym e ∙ s))) (omega (arith, two_loads t v n phs))
         | no m ↦ rw (ne_eqb ph.worker t m) (elim (ℕ_discrete ph.worker v) [
-          | yes e ↦ rw (eq-eqb ph.worker v e) (omega (arith, two-loads t v n phs))
-          | no k ↦ rw (ne_eqb ph.worker v k) (omega (arith, two-loads t v n phs))
+          | yes e ↦ rw (eq-eqb ph.worker v e) (omega (arith, two_loads t v n phs))
+          | no k ↦ rw (ne_eqb ph.worker v k) (omega (arith, two_loads t v n phs))
         ])
       ]
 
@@ -312,7 +312,7 @@ module _ (ks ws : List ℕ) (sh : Shape (length ks) (end_at ks) (size_at ks)) {p
       let inside = end_within ks sh o x.within in
       let weighs = part_between ks ws sh ends sums right added o x.within in
       let at = loads-at most_workers ks ws phs in
-      let room = two-loads ks ws t v x.other phs in
+      let room = two_loads ks ws t v x.other phs in
       record {
         in_table = omega arith;
         in_sums = (omega arith, omega (arith, right o x.within));

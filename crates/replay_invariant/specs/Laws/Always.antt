@@ -9,16 +9,15 @@ use Rattle.std.proofs.Math.Option.{Option, none, some}
 use Rattle.std.proofs.Math.Decide.{ℕ_discrete, dec_lt}
 use native.Mathlib.Omega.{arith}
 use borrow.Author.Tests.{eqb-true, eq-eqb, ne_eqb, le-leb, lt-leb}
-use Rattle.rules.specs.Bytes.{sum}
+use Rattle.rules.specs.Bytes.{sum, walk}
 use Rattle.rules.specs.Scheduling.{work_first, help_first, Phase, first_phases, phase_at, begin}
-use Rattle.rules.specs.Traces.{latest_phase, number_allowed, stolen_step, out_of_order, record_number, judge_number, judge_read}
-use Rattle.rules.specs.Traces.{judge_trace_record, next_phases, replay_walk}
-use Rattle.tree.specs.Laws.Walks.{walk_keeps}
+use Rattle.rules.specs.Traces.{latest_phase, number_allowed, stolen_step, record_number, judge_read, judge_trace_record, next_phases}
+use Rattle.rules.specs.Traces.{replay_walk}
 use Rattle.tree_scan.specs.Laws.Shape.{Shape}
 use Rattle.tree_scan.specs.Laws.Frames.{end_at, size_at}
 use Rattle.run_invariant.specs.Laws.Weights.{pushed_within}
 use Rattle.run_invariant.specs.Laws.Moves.{robbed, sum_one, sum_set, begin-length, begin_new, begin-robbed, begin_other}
-use Rattle.replay_invariant.specs.Invariant.{Cut, Taken, Split}
+use Rattle.replay_invariant.specs.Invariant.{Taken, Split}
 use Rattle.replay_invariant.specs.Laws.Reads.{allowed_taken, cut-robbed, cut-fresh}
 
 -- ---- latest phases
@@ -108,126 +107,74 @@ latest_begin w t k s phs h =
 
 -- ---- one record
 
--- A record of which none of 8, 13, 14 and 15 is said, and 18 where it is late.
-pub record ReadAs (late : Bool) (w p : ℕ) (ks : List ℕ) (phs : List Phase) (r : List ℕ) : Type 0 where
+-- A record that is not refused: what it says.
+pub record Read (w p : ℕ) (ks : List ℕ) (phs : List Phase) (r : List ℕ) : Type 0 where
   pub thief : get_or r 0 0 < w
   pub victim : get_or r 1 0 < w
   pub other : get_or r 0 0 ≡ get_or r 1 0 → ⊥
   pub from : ℕ
   pub latest : latest_phase (get_or r 1 0) 0 phs ≡ some from
   pub allowed : number_allowed p ks (phase_at phs from) (record_number r) ≡ true
-  pub ordered : out_of_order p ks (phase_at phs from) (stolen_step p ks (phase_at phs from) (record_number r)) ≡ late
 
--- A record that is not refused.
-abbrev pub Read : ℕ → ℕ → List ℕ → List Phase → List ℕ → Type 0
-Read = ReadAs false
+judge_allows : (p : ℕ) (ks : List ℕ) (phs : List Phase) (victim number : ℕ) → judge_read p ks phs victim number ≡ 0
+    → (k : ℕ) × (latest_phase victim 0 phs ≡ some k) × (number_allowed p ks (phase_at phs k) number ≡ true)
+unfolding judge_read
+judge_allows p ks phs victim number j = by (latest_phase victim 0 phs) refl
+  where
+    allowed : (k : ℕ) (b : Bool) → number_allowed p ks (phase_at phs k) number ≡ b → ◌≡◌ {A = ℕ} (cond b 0 15) 0
+        → number_allowed p ks (phase_at phs k) number ≡ true
+    allowed k true e z = e
+    allowed k false e z = absurd (omega arith)
 
--- The number that such a record gets.
-abbrev pub said : Bool → ℕ
-said late = cond late 18 0
-
-unsaid : (late : Bool) (m : ℕ) → (1 ≤ m) × (m < 18) → m ≡ said late → ⊥
-unsaid true m between e = omega arith
-unsaid false m between e = omega arith
-
-said_same : (a b : Bool) → said a ≡ said b → a ≡ b
-said_same true true e = refl
-said_same true false e = absurd (omega arith)
-said_same false true e = absurd (omega arith)
-said_same false false e = refl
-
-number_allowed_lem : (late a b : Bool) → cond a (said b) 15 ≡ said late → (a ≡ true) × (b ≡ late)
-number_allowed_lem late true b e = (refl, said_same b late e)
-number_allowed_lem late false b e = absurd (unsaid late 15 (omega arith) e)
-
-module _ (late : Bool) (w p : ℕ) (ks : List ℕ) (phs : List Phase) (r : List ℕ) where
-  -- It gets that number,
-  pub read-judged : ReadAs late w p ks phs r → judge_trace_record w p ks phs r ≡ said late
-  unfolding judge_trace_record judge_read judge_number
-  read-judged x =
-      rw (
-        lt-leb w (get_or r 0 0) x.thief,
-        lt-leb w (get_or r 1 0) x.victim,
-        ne_eqb (get_or r 0 0) (get_or r 1 0) x.other,
-        judge_read,
-        x.latest,
-        x.allowed,
-        x.ordered,
-      )
-
-  module _ (j : judge_trace_record w p ks phs r ≡ said late) where
-    thief-below : get_or r 0 0 < w
-    unfolding judge_trace_record
-    thief-below =
-        elim (dec_lt (get_or r 0 0) w) [
-          | yes h ↦ h
-          | no n ↦ absurd (unsaid late 8 (omega arith) (rw (le-leb w (get_or r 0 0) (omega arith)) at j))
-        ]
-
-    victim-below : get_or r 1 0 < w
-    unfolding judge_trace_record
-    victim-below =
-        elim (dec_lt (get_or r 1 0) w) [
-          | yes h ↦ h
-          | no n ↦ absurd (unsaid late 8 (omega arith) (rw (le-leb w (get_or r 1 0) (omega arith), or-true) at j))
-        ]
-
-    judged-pair : cond (eqb (get_or r 0 0) (get_or r 1 0)) 13 (judge_read p ks phs (get_or r 1 0) (record_number r)) ≡ said late
-    unfolding judge_trace_record
-    judged-pair = rw (lt-leb w (get_or r 0 0) thief-below, lt-leb w (get_or r 1 0) victim-below) at j
-
-    judged-other : get_or r 0 0 ≡ get_or r 1 0 → ⊥
-    judged-other e = unsaid late 13 (omega arith) (rw (eq-eqb (get_or r 0 0) (get_or r 1 0) e) at judged-pair)
-
-    judged-latest : (k : ℕ) × (latest_phase (get_or r 1 0) 0 phs ≡ some k)
-        × (judge_number p ks (phase_at phs k) (record_number r) ≡ said late)
-    unfolding judge_read
-    judged-latest = by (latest_phase (get_or r 1 0) 0 phs) refl (rw (ne_eqb (get_or r 0 0) (get_or r 1 0) judged-other) at judged-pair)
-      where
-        by : (o : Option ℕ) → latest_phase (get_or r 1 0) 0 phs ≡ o → judge_read p ks phs (get_or r 1 0) (record_number r) ≡ said late
-            → (k : ℕ) × (latest_phase (get_or r 1 0) 0 phs ≡ some k)
-            × (judge_number p ks (phase_at phs k) (record_number r) ≡ said late)
-        by none e rest = absurd (unsaid late 14 (omega arith) (rw (e, judge_read) at rest))
-        by (some k) e rest = (k, e, rw (e, judge_read) at rest)
-
-    -- and what gets that number is such a record.
-    pub judged-as : ReadAs late w p ks phs r
-    unfolding judge_number
-    judged-as =
-        let (k, latest, rest) = judged-latest in
-        let fine = number_allowed_lem late _ _ rest in
-        record {
-          thief = thief-below;
-          victim = victim-below;
-          other = judged-other;
-          from = k;
-          latest = latest;
-          allowed = fine.0;
-          ordered = fine.1;
-        }
+    by : (o : Option ℕ) → latest_phase victim 0 phs ≡ o
+        → (k : ℕ) × (latest_phase victim 0 phs ≡ some k) × (number_allowed p ks (phase_at phs k) number ≡ true)
+    by none e = absurd (omega (arith, rw (e, judge_read) at j))
+    by (some k) e = (k, e, allowed k (number_allowed p ks (phase_at phs k) number) refl (rw (e, judge_read) at j))
 
 module _ (w p : ℕ) (ks : List ℕ) (phs : List Phase) (r : List ℕ) where
+  thief-below : judge_trace_record w p ks phs r ≡ 0 → get_or r 0 0 < w
+  unfolding judge_trace_record
+  thief-below j =
+      elim (dec_lt (get_or r 0 0) w) [
+        | yes h ↦ h
+        | no n ↦ absurd (omega (arith, rw (le-leb w (get_or r 0 0) (omega arith)) at j))
+      ]
+
+  victim-below : judge_trace_record w p ks phs r ≡ 0 → get_or r 1 0 < w
+  unfolding judge_trace_record
+  victim-below j =
+      elim (dec_lt (get_or r 1 0) w) [
+        | yes h ↦ h
+        | no n ↦ absurd (omega (arith, rw (le-leb w (get_or r 1 0) (omega arith), or-true) at j))
+      ]
+
+  judged-pair : judge_trace_record w p ks phs r ≡ 0
+      → cond (eqb (get_or r 0 0) (get_or r 1 0)) 13 (judge_read p ks phs (get_or r 1 0) (record_number r)) ≡ 0
+  unfolding judge_trace_record
+  judged-pair j = rw (lt-leb w (get_or r 0 0) (thief-below j), lt-leb w (get_or r 1 0) (victim-below j)) at j
+
+  judged_other : judge_trace_record w p ks phs r ≡ 0 → get_or r 0 0 ≡ get_or r 1 0 → ⊥
+  judged_other j e = omega (arith, rw (eq-eqb (get_or r 0 0) (get_or r 1 0) e) at (judged-pair j))
+
+  judged_rest : judge_trace_record w p ks phs r ≡ 0 → judge_read p ks phs (get_or r 1 0) (record_number r) ≡ 0
+  judged_rest j = rw (ne_eqb (get_or r 0 0) (get_or r 1 0) (judged_other j)) at (judged-pair j)
+
   pub judged-read : judge_trace_record w p ks phs r ≡ 0 → Read w p ks phs r
-  judged-read j = judged-as false w p ks phs r j
+  judged-read j =
+      let x = judge_allows p ks phs (get_or r 1 0) (record_number r) (judged_rest j) in
+      record {
+        thief = thief-below j;
+        victim = victim-below j;
+        other = judged_other j;
+        from = x.0;
+        latest = x.1;
+        allowed = x.2;
+      }
 
   pub read_next : (x : Read w p ks phs r)
       → next_phases p ks phs r ≡ begin phs (get_or r 0 0) x.from (stolen_step p ks (phase_at phs x.from) (record_number r))
   unfolding next_phases
   read_next x = rw (x.latest, next_phases) refl
-
--- What is so of the thief's new phase, of the robbed phase and of those before is so of all.
-pub begin_each : (P : Phase → Type 0) (phs : List Phase) (t k s : ℕ) → k < length phs
-    → P (record { worker = t; first = s; stolen = [] }) → P (robbed (phase_at phs k) s)
-    → ((j : ℕ) → j < length phs → P (phase_at phs j)) → (j : ℕ) → j < length (begin phs t k s) → P (phase_at (begin phs t k s) j)
-begin_each P phs t k s h new victim before j l =
-    let more = begin-length phs t k s in
-    elim (ℕ_discrete j (length phs)) [
-      | yes e ↦ rw (e, begin_new phs t k s) new
-      | no n ↦ elim (ℕ_discrete j k) [
-        | yes e ↦ rw (e, begin-robbed phs t k s h) victim
-        | no m ↦ rw (begin_other phs t k s j (omega arith) m) (before j (omega arith))
-      ]
-    ]
 
 -- ---- all records
 
@@ -264,8 +211,13 @@ module _ (p : ℕ) (either : (p ≡ work_first) ⊎ (p ≡ help_first)) (ks : Li
       → Split p ks (begin phs t k s)
   begin-split phs split t k s h taken =
       record {
-        cuts = begin_each (Cut p ks) phs t k s h (cut-fresh ks sh p t s (pushed_within ks sh p s taken.pushed))
-            (cut-robbed ks sh p (phase_at phs k) s (split.cuts k h) taken) split.cuts;
+        cuts = λ j l. let more = begin-length phs t k s in elim (ℕ_discrete j (length phs)) [
+          | yes e ↦ rw (e, begin_new phs t k s) (cut-fresh ks sh p t s (pushed_within ks sh p s taken.pushed))
+          | no n ↦ elim (ℕ_discrete j k) [
+            | yes e ↦ rw (e, begin-robbed phs t k s h) (cut-robbed ks sh p (phase_at phs k) s (split.cuts k h) taken)
+            | no m ↦ rw (begin_other phs t k s j (omega arith) m) (split.cuts j (omega arith))
+          ]
+        ];
         begun = begin-begun phs split t k s h;
       }
 
@@ -279,7 +231,17 @@ module _ (p : ℕ) (either : (p ≡ work_first) ⊎ (p ≡ help_first)) (ks : Li
       (begin-split phs split (get_or r 0 0) k (stolen_step p ks (phase_at phs k) (record_number r)) within
       (allowed_taken ks sh p either (phase_at phs k) (split.cuts k within) (record_number r) x.allowed))
 
+  walk_split : (w i : ℕ) (phs : List Phase) (rs : List (List ℕ)) → Split p ks phs
+      → Split p ks (walk (judge_trace_record w p ks) (next_phases p ks) i phs rs).state
+  unfolding walk
+  walk_split w i phs [] split = split
+  walk_split w i phs (r ∷ rs) split =
+      elim (ℕ_discrete (judge_trace_record w p ks phs r) 0) [
+        | yes e ↦ rw (eq-eqb (judge_trace_record w p ks phs r) 0 e)
+            (walk_split w (suc i) (next_phases p ks phs r) rs (read_keeps w phs r split e))
+        | no n ↦ rw (ne_eqb (judge_trace_record w p ks phs r) 0 n) split
+      ]
+
   pub always_split : (w : ℕ) (rs : List (List ℕ)) → Split p ks (replay_walk w p ks rs).state
   unfolding replay_walk
-  always_split w rs =
-      walk_keeps (judge_trace_record w p ks) (next_phases p ks) (Split p ks) (read_keeps w) rs 0 first_phases first-split
+  always_split w rs = walk_split w 0 first_phases rs first-split

@@ -1,11 +1,12 @@
 -- What follows for the run list, and the theorem for every accepted trace.
 use Prim.Native.Nat.{ℕ, zero, suc, ◌+◌, ◌≤◌, ◌<◌}
-use Rattle.std.specs.Prelude.{◌≡◌, Bool, true, eqb}
+use Rattle.std.specs.Prelude.{◌≡◌, Bool, true, false, eqb}
 use Rattle.std.proofs.Math.Path.{refl, ap}
-use Rattle.std.proofs.Common.{◌∙◌, eq-eqb, ne_eqb}
+use Rattle.std.proofs.Common.{◌∙◌, sym, eq-eqb, ne_eqb}
 use Rattle.std.proofs.Math.Bool.{cond}
 use mathlib.Core.List.{List, [], ◌∷◌, ◌++◌, map, flatten, zip_with, append-nil}
 use Rattle.std.proofs.Math.Option.{some}
+use Rattle.std.proofs.Math.Decide.{ℕ_discrete, dec_lt}
 use native.Mathlib.Omega.{arith}
 use Rattle.std.proofs.Math.ListN.{length}
 use Rattle.rules.specs.Bytes.{records, count, any, sum}
@@ -14,19 +15,19 @@ use Rattle.rules.specs.Scheduling.{after_run, Phase, phase_at, Entry}
 use Rattle.rules.specs.Traces.{covers, run_alone, running_order, run_list}
 use Rattle.rules.specs.Calls.{start_verdict, replay_verdict}
 use Rattle.tree.specs.Laws.Counts.{length-count}
-use Rattle.tree.specs.Laws.Verdicts.{first-accepts}
+use Rattle.tree.specs.Laws.Verdicts.{cond_same, first-accepts}
 use Rattle.tree_scan.specs.Laws.Starts.{start-tree-accepts, admitted_policy}
 use Rattle.tree_scan.specs.Laws.Shape.{Shape}
 use Rattle.tree_scan.specs.Laws.Frames.{end_at, size_at, Frame, accepted-frame}
 use Rattle.run_invariant.specs.Invariant.{log_of, self, frontier_end}
-use Rattle.run_invariant.specs.Laws.Counts.{sum_ones, sum_below, sum_alike}
+use Rattle.run_invariant.specs.Laws.Counts.{sum_ones, sum_same, sum_below, sum_alike, sum_missed, sum_self}
 use Rattle.run_invariant.specs.Laws.Weights.{sum_append}
 use Rattle.run_invariant.specs.Laws.Moves.{log_append}
-use Rattle.replay_invariant.specs.Invariant.{Split}
+use Rattle.replay_invariant.specs.Invariant.{Cut, Split}
 use Rattle.replay_invariant.specs.Splits.{phases_of, Splits}
-use Rattle.replay_invariant.specs.Laws.Parts.{covered_once, covered-sum, no_phase}
+use Rattle.replay_invariant.specs.Laws.Parts.{covered-inside, covered_once, covered-sum, no_phase}
 use Rattle.replay_invariant.specs.Laws.Always.{always_split}
-use Rattle.replay_invariant.specs.Laws.Order.{picks_none, picks, order_sum, order_exactly, order_interval}
+use Rattle.replay_invariant.specs.Laws.Order.{order_sum, order_interval}
 
 -- ---- the run list, phase by phase
 
@@ -116,6 +117,36 @@ alone-begins gone p ks (suc m) i deque h = (run_alone gone p ks m (after_run gon
 order_begins : (p : ℕ) (ks : List ℕ) (ph : Phase) → 1 ≤ length ks → (rest : List ℕ) × (running_order p ks ph ≡ ph.first ∷ rest)
 unfolding running_order
 order_begins p ks ph h = alone-begins (λ x. any (eqb x) ph.stolen) p ks (length ks) ph.first [] h
+
+-- Picking j and testing it is testing and picking j.
+picks_self : (c : ℕ → Bool) (j i : ℕ) → cond (c i) (self j i) 0 ≡ cond (eqb j i) (cond (c i) 1 0) 0
+unfolding self
+picks_self c j i =
+    elim (ℕ_discrete j i) [
+      | yes e ↦ rw (eq-eqb j i e, eq-eqb i j (sym e)) refl
+      | no n ↦ rw (ne_eqb j i n, ne_eqb i j (λ e. n (sym e))) (cond_same (c i) 0)
+    ]
+
+-- Of the numbers of an interval a test picks j or nothing.
+picks_none : (c : ℕ → Bool) (j m a : ℕ) → ((i : ℕ) → i < m → a + i ≡ j → ⊥)
+    → sum (λ i. cond (c i) (self j i) 0) (count a m) ≡ 0
+picks_none c j m a n = sum_same _ _ (picks_self c j) (count a m) ∙ sum_missed (λ i. cond (c i) 1 0) j m a n
+
+picks : (c : ℕ → Bool) (j m a : ℕ) → a ≤ j → j < a + m → sum (λ i. cond (c i) (self j i) 0) (count a m) ≡ cond (c j) 1 0
+picks c j m a l u = sum_same _ _ (picks_self c j) (count a m) ∙ sum_self (λ i. cond (c i) 1 0) j m a l u
+
+order_exactly : (p : ℕ) (ks : List ℕ) → Shape (length ks) (end_at ks) (size_at ks) → (ph : Phase) → Cut p ks ph → (j : ℕ)
+    → sum (self j) (running_order p ks ph) ≡ cond (covers ks ph j) 1 0
+order_exactly p ks sh ph cut j =
+    elim (dec_lt j (length ks)) [
+      | yes h ↦ order_sum p ks sh ph cut (self j) ∙ picks (covers ks ph) j (length ks) 0 (omega arith) (omega arith)
+      | no n ↦ order_sum p ks sh ph cut (self j)
+          ∙ (picks_none (covers ks ph) j (length ks) 0 (λ i h e. n (omega arith)) ∙ by n (covers ks ph j) refl)
+    ]
+  where
+    by : (j < length ks → ⊥) → (b : Bool) → covers ks ph j ≡ b → ◌≡◌ {A = ℕ} 0 (cond b 1 0)
+    by n true c = absurd (n (covered-inside ks sh p ph cut j c).2)
+    by n false c = refl
 
 module _ (p : ℕ) (ks : List ℕ) (some-step : 1 ≤ length ks) (sh : Shape (length ks) (end_at ks) (size_at ks)) (phs : List Phase)
     (split : Split p ks phs) where

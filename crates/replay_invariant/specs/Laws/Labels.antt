@@ -2,8 +2,8 @@
 -- opening steps above them. No labelled step can be stolen any more, so a label never changes; and every step that can be
 -- stolen is found to be in the phase of the nearest labelled step above it.
 use Prim.Native.Nat.{ℕ, zero, suc, ◌≤◌, ◌<◌}
-use Rattle.std.specs.Prelude.{◌≡◌, refl, Bool, false, cond, List, [], ◌∷◌, ◌⊎◌, get_or, set, eqb}
-use Rattle.std.proofs.Common.{sym, ap, ◌∙◌, true≢false, inl, inr, lt-length-set, eq-eqb, ne_eqb}
+use Rattle.std.specs.Prelude.{◌≡◌, refl, Bool, false, cond, List, [], ◌∷◌, get_or, set, eqb}
+use Rattle.std.proofs.Common.{sym, ap, ◌∙◌, true≢false, lt-length-set, eq-eqb, ne_eqb}
 use Rattle.std.proofs.Math.Bool.{true}
 use Rattle.std.proofs.Math.Decide.{ℕ_discrete, dec_lt, dec_le}
 use native.Mathlib.Omega.{arith}
@@ -16,9 +16,9 @@ use Rattle.rules.specs.Traces.{from_step, covers}
 use Rattle.tree.specs.Laws.Verdicts.{cond_same}
 use Rattle.tree_scan.specs.Laws.Shape.{Shape}
 use Rattle.tree_scan.specs.Laws.Frames.{end_at, size_at}
-use Rattle.run_invariant.specs.Laws.Counts.{Has, has_cases, has_none, one-true, has_head, has_tail, sum_member}
-use Rattle.run_invariant.specs.Laws.Weights.{span, end_within, nested_end, inside-from, from-inside, outside_from, span_in}
-use Rattle.run_invariant.specs.Laws.Weights.{span-inside, from-self, pushed_within}
+use Rattle.run_invariant.specs.Laws.Counts.{Has, has_cases, has_none, one-true, has_head, has_tail}
+use Rattle.run_invariant.specs.Laws.Weights.{end_within, nested_end, inside-from, from-inside, outside_from, span_in, from-self}
+use Rattle.run_invariant.specs.Laws.Weights.{pushed_within}
 use Rattle.run_invariant.specs.Laws.Moves.{begin-length, begin_new, begin-robbed, begin_other, begin_same}
 use Rattle.replay_invariant.specs.Invariant.{Taken, Split}
 use Rattle.replay_invariant.specs.Laws.Parts.{part_inside, entered, covers-counts, covered-inside, covered-kept}
@@ -86,54 +86,6 @@ module _ (p : ℕ) (ks : List ℕ) (some-step : 1 ≤ length ks) (sh : Shape (le
     stolen-labelled k s h has f =
         let by = stolen-begins ks sh p some-step phs split k s h has in
         omega (arith, rw by.2 at (shown.firsts by.0 by.1), by.1, shown.few)
-
-    -- So is what pushed it.
-    pub pusher-labelled : (k q s : ℕ) → k < length phs → Has (phase_at phs k).stolen s → PartOf ks q s → label_of labels q ≡ free → ⊥
-    pusher-labelled k q s h has of f = stolen-labelled k s h has (shown.above q s of f)
-
-    -- A step with the label of phase k is the phase's first, or something in the part from it is stolen from the phase.
-    pub label-reason : (k x : ℕ) → k < length phs → x < length ks → label_of labels x ≡ k
-        → (x ≡ (phase_at phs k).first) ⊎ ((t : ℕ) × Has (phase_at phs k).stolen t × (x < t) × (t < task_end ks x))
-    label-reason k x h l e = by (covers ks ph first) refl
-      where
-        ph : Phase
-        ph = phase_at phs k
-
-        labelled-x : label_of labels x ≡ free → ⊥
-        labelled-x f = omega (arith, shown.few)
-
-        own : covers ks ph x ≡ true
-        own = rw e at (shown.covering x l labelled-x).1
-
-        why : (m : ℕ) × (m < length phs) × (from_step ks x (phase_at phs m).first ≡ true)
-        why = shown.reason x l labelled-x
-
-        first : ℕ
-        first = (phase_at phs why.0).first
-
-        by : (b : Bool) → covers ks ph first ≡ b
-            → (x ≡ ph.first) ⊎ ((t : ℕ) × Has ph.stolen t × (x < t) × (t < task_end ks x))
-        by true c =
-            let cut = split.cuts why.0 why.1 in
-            let begins = first-covered ks sh p (phase_at phs why.0) cut in
-            let same = same-phase ks sh p some-step phs split first why.0 k cut.begins why.1 h begins c in
-            let own_first : first ≡ ph.first = ap (λ (m : ℕ). (phase_at phs m).first) same in
-            inl (omega (arith, from-inside ks x first why.2, covered-inside ks sh p ph (split.cuts k h) x own))
-        by false c =
-            let cut = split.cuts k h in
-            let low = from-inside ks x first why.2 in
-            let here = covered-inside ks sh p ph cut x own in
-            let nests = nested_end ks sh ph.first x cut.begins here.0 here.1 in
-            let counts = covers-counts ks sh p ph cut first in
-            let all = span_in ks first ph.first (omega arith) (omega arith) in
-            let stolen = sum_member (span ks first) ph.stolen (omega (arith, rw c at counts)) in
-            let t = stolen.0 in
-            let has = span-inside ks first t stolen.2 in
-            let kept = covered-kept ks sh p ph cut x t own stolen.1 in
-            elim (dec_le t x) [
-              | yes b ↦ absurd (true≢false (sym (inside-from ks t x b (omega arith)) ∙ kept))
-              | no n ↦ inr (t, stolen.1, omega arith, omega arith)
-            ]
 
     -- All of the part from a step that can be stolen is in the phase.
     taken-covered : (k s : ℕ) → k < length phs → Taken p ks (phase_at phs k) s → (j : ℕ) → s ≤ j → j < task_end ks s
@@ -212,44 +164,11 @@ module _ (p : ℕ) (ks : List ℕ) (some-step : 1 ≤ length ks) (sh : Shape (le
               let high = (covered-inside ks sh p (phase_at phs k) (split.cuts k h) s own).0 in
               taken.later (omega (arith, rw same at low.0))
 
-      -- The nearest labelled step above x: an opening step whose part has x.
-      pub top_above : (x : ℕ) → x < length ks → label_of labels x ≡ free
-          → (path : List ℕ) (top : ℕ) → Climb openers labels x path top
-          → (top < length ks) × (label_of labels top ≡ free → ⊥) × (is_end (kind_at ks top) ≡ false) × (top < x) × (x < task_end ks top)
-      top_above x l f [] top climb =
-          let of = rw climb.0 at (ops x (above_zero x f) l) in
-          let part = part_inside ks sh top x of in
-          (of.0, climb.1, of.1, part.0, part.1)
-      top_above x l f (q ∷ path) top climb =
-          let of = rw climb.0 at (ops x (above_zero x f) l) in
-          let part = part_inside ks sh q x of in
-          let up = top_above q of.0 climb.1 path top climb.2 in
-          let nests = nested_end ks sh top q up.0 (omega (arith, up.3)) up.4 in
-          (up.0, up.1, up.2, omega (arith, up.3), omega arith)
-
-      -- The part of it that has x is not labelled,
-      part_free : (x : ℕ) → x < length ks → label_of labels x ≡ free
-          → (path : List ℕ) (top : ℕ) → Climb openers labels x path top
-          → (y : ℕ) → PartOf ks top y → y ≤ x → x < task_end ks y → label_of labels y ≡ free
-      part_free x l f [] top climb y of a b =
-          let own = rw climb.0 at (ops x (above_zero x f) l) in
-          let part = part_inside ks sh top y of in
-          elim (ℕ_discrete y x) [ yes e ↦ rw e f | no n ↦ absurd (omega (arith, entered ks sh top x own y part.3 a b n)) ]
-      part_free x l f (q ∷ path) top climb y of a b =
-          let own = rw climb.0 at (ops x (above_zero x f) l) in
-          elim (ℕ_discrete y x) [
-            | yes e ↦ rw e f
-            | no n ↦
-                let up = entered ks sh q x own y (part_inside ks sh top y of).3 a b n in
-                part_free q own.0 climb.1 path top climb.2 y of up.0 up.1
-          ]
-
-      -- so no step in there is.
-      pub top_part : (x : ℕ) → x < length ks → label_of labels x ≡ free
-          → (path : List ℕ) (top : ℕ) → Climb openers labels x path top
-          → (y : ℕ) → PartOf ks top y → y ≤ x → x < task_end ks y → (j : ℕ) → y ≤ j → j < task_end ks y → label_of labels j ≡ free
-      top_part x l f path top climb y of a b j =
-          free_part j j y (omega arith) (part_inside ks sh top y of).3 (part_free x l f path top climb y of a b)
+      top-labelled : (x : ℕ) → x < length ks → label_of labels x ≡ free
+          → (path : List ℕ) (top : ℕ) → Climb openers labels x path top → (top < length ks) × (label_of labels top ≡ free → ⊥)
+      top-labelled x l f [] top climb = ((rw climb.0 at (ops x (above_zero x f) l)).0, climb.1)
+      top-labelled x l f (q ∷ path) top climb =
+          top-labelled q (rw climb.0 at (ops x (above_zero x f) l)).0 climb.1 path top climb.2
 
       pub taken-label : (k s : ℕ) → k < length phs → Taken p ks (phase_at phs k) s
           → (path : List ℕ) (top : ℕ) → Climb openers labels s path top → label_of labels top ≡ k
@@ -257,7 +176,7 @@ module _ (p : ℕ) (ks : List ℕ) (some-step : 1 ≤ length ks) (sh : Shape (le
           let l = pushed_within ks sh p s taken.pushed in
           let own = (end_within ks sh s l).0 in
           let f = taken_free k s h taken in
-          let at = top_above s l f path top climb in
+          let at = top-labelled s l f path top climb in
           let named = (shown.covering top at.0 at.1).0 in
           same-phase ks sh p some-step phs split s (label_of labels top) k l named h
           (label-covers (label_of labels top) s named l f path top climb refl s (omega arith) own)

@@ -2,10 +2,9 @@
 use Prim.Native.Nat.{ℕ, zero, suc, ◌+◌, ◌-◌, ◌*◌, ◌≤◌, ◌<◌}
 use Rattle.std.specs.Prelude.{◌≡◌, ◌&&◌, eqb, ltb, leb}
 use Rattle.std.proofs.Math.Path.{refl}
-use Rattle.std.proofs.Common.{sym, ◌∙◌, true≢false, add-mul, one-mul, zero-mul, ltb-true, ltb-false, eqb-true, le-leb, eq-eqb, ne_eqb}
+use Rattle.std.proofs.Common.{sym, ◌∙◌, true≢false, add-mul, one-mul, zero-mul, ltb-true, ltb-false, eqb-true, le-leb}
 use Rattle.std.proofs.Math.Bool.{Bool, true, false, cond, and_self_left}
 use mathlib.Core.List.{List, [], ◌∷◌, ◌++◌, append_assoc, append-nil}
-use Rattle.std.proofs.Math.Decide.{ℕ_discrete, dec_lt}
 use native.Mathlib.Omega.{arith}
 use Rattle.std.proofs.Math.ListN.{length, length-append}
 use Rattle.rules.specs.Bytes.{count, any, sum}
@@ -13,12 +12,11 @@ use Rattle.rules.specs.Tree.{kind_at, is_end, task_end, cont}
 use Rattle.rules.specs.Scheduling.{work_first, holds, pushes, pop, after_run, Phase}
 use Rattle.rules.specs.Traces.{from_step, covers, run_alone, running_order}
 use Rattle.tree.specs.Laws.Counts.{count_snoc}
-use Rattle.tree.specs.Laws.Verdicts.{cond_same}
 use Rattle.tree_scan.specs.Laws.Shape.{Shape}
 use Rattle.tree_scan.specs.Laws.Frames.{end_at, size_at, end_size}
 use Rattle.run_invariant.specs.Invariant.{self, frontier_end}
 use Rattle.run_invariant.specs.Laws.Counts.{and_both, Has, has_head, has_cases, has_none, sum_ones, not_so, at_most_one, has_tail}
-use Rattle.run_invariant.specs.Laws.Counts.{sum_same, sum_none, sum_missed, sum_self}
+use Rattle.run_invariant.specs.Laws.Counts.{sum_same, sum_none, sum_self}
 use Rattle.run_invariant.specs.Laws.Weights.{sum_append, span, end_within, cont-inside, span_weighs, size_weighs}
 use Rattle.run_invariant.specs.Laws.Weights.{run_weighs, from-self}
 use Rattle.run_invariant.specs.Laws.Phase.{first_holds, first-pushes, after-ended, after-dropped, after_kept}
@@ -51,23 +49,6 @@ sum_few : (g : ℕ → Bool) (m a : ℕ) → sum (λ j. cond (g j) 1 0) (count a
 unfolding sum count
 sum_few g zero a = omega arith
 sum_few g (suc m) a = omega (arith, at_most_one (g a), sum_few g m (suc a))
-
--- Picking j and testing it is testing and picking j.
-picks_self : (c : ℕ → Bool) (j i : ℕ) → cond (c i) (self j i) 0 ≡ cond (eqb j i) (cond (c i) 1 0) 0
-unfolding self
-picks_self c j i =
-    elim (ℕ_discrete j i) [
-      | yes e ↦ rw (eq-eqb j i e, eq-eqb i j (sym e)) refl
-      | no n ↦ rw (ne_eqb j i n, ne_eqb i j (λ e. n (sym e))) (cond_same (c i) 0)
-    ]
-
--- Of the numbers of an interval a test picks j or nothing.
-pub picks_none : (c : ℕ → Bool) (j m a : ℕ) → ((i : ℕ) → i < m → a + i ≡ j → ⊥)
-    → sum (λ i. cond (c i) (self j i) 0) (count a m) ≡ 0
-picks_none c j m a n = sum_same _ _ (picks_self c j) (count a m) ∙ sum_missed (λ i. cond (c i) 1 0) j m a n
-
-pub picks : (c : ℕ → Bool) (j m a : ℕ) → a ≤ j → j < a + m → sum (λ i. cond (c i) (self j i) 0) (count a m) ≡ cond (c j) 1 0
-picks c j m a l u = sum_same _ _ (picks_self c j) (count a m) ∙ sum_self (λ i. cond (c i) 1 0) j m a l u
 
 -- What is chosen by two tests, and by one that implies the other, as products.
 scaled : (a v : Bool) (n : ℕ) → cond (a && v) n 0 ≡ cond a 1 0 * cond v n 0
@@ -295,18 +276,6 @@ module _ (p : ℕ) (ks : List ℕ) (sh : Shape (length ks) (end_at ks) (size_at 
   order_sum f =
       let end = at-end (λ log stack. 0 ≤ 0) (λ log x deque a h. (λ e. h, λ e c. h, λ e c. h)) (omega arith) in
       omega (arith, end.0.left f, covered_first f)
-
-  pub order_exactly : (j : ℕ) → sum (self j) (running_order p ks ph) ≡ cond (covers ks ph j) 1 0
-  order_exactly j =
-      elim (dec_lt j (length ks)) [
-        | yes h ↦ order_sum (self j) ∙ picks (covers ks ph) j (length ks) 0 (omega arith) (omega arith)
-        | no n ↦ order_sum (self j)
-            ∙ (picks_none (covers ks ph) j (length ks) 0 (λ i h e. n (omega arith)) ∙ by n (covers ks ph j) refl)
-      ]
-    where
-      by : (j < length ks → ⊥) → (b : Bool) → covers ks ph j ≡ b → ◌≡◌ {A = ℕ} 0 (cond b 1 0)
-      by n true c = absurd (n (inside j c))
-      by n false c = refl
 
   -- No part is empty: steps and the sizes of their parts are together at least twice the steps.
   sizes_room : (l : List ℕ) → ((y : ℕ) → Has l y → y < length ks) → length l + length l ≤ sum (λ y. suc (size_at ks y)) l

@@ -45,7 +45,7 @@ module _ {A : Type 0} where
       by true h = (λ e. absurd (omega arith), λ e. omega (arith, h.0 (omega arith)))
       by false h = (λ e. omega (arith, h.0 (omega arith)), λ e. omega (arith, h.1 (omega arith)))
 
-pub self-some : (s i : ℕ) → 1 ≤ self s i → i ≡ s
+self-some : (s i : ℕ) → 1 ≤ self s i → i ≡ s
 unfolding self
 self-some s i h = eqb-true i s (one-true (eqb i s) h)
 

@@ -50,7 +50,7 @@ last_has (x ∷ []) s e =
     rw same (has_head s [])
 last_has (x ∷ y ∷ xs) s e = has_tail s x (y ∷ xs) (last_has (y ∷ xs) s e)
 
-pub has_one : {P : Type 0} (x s : ℕ) (l : List ℕ) → Has (l ++ (s ∷ [])) x → (Has l x → P) → (x ≡ s → P) → P
+has_one : {P : Type 0} (x s : ℕ) (l : List ℕ) → Has (l ++ (s ∷ [])) x → (Has l x → P) → (x ≡ s → P) → P
 has_one x s l m a b = or_either (any (eqb x) l) (eqb x s) (sym (any_one (eqb x) l s) ∙ m) a (λ t. b (eqb-true x s t))
 
 -- ---- parts

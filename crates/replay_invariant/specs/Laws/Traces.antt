@@ -3,46 +3,39 @@ use Prim.Native.Nat.{ℕ, zero, suc, ◌+◌, ◌-◌, ◌/◌, ◌≤◌, ◌<�
 use Rattle.std.specs.Prelude.{◌≡◌, Bool, ◌||◌, ◌⊎◌, length, get_or}
 use Rattle.std.proofs.Math.Path.{refl, ap}
 use Rattle.std.proofs.Common.{sym, ◌∙◌, true≢false}
-use Rattle.std.proofs.Math.Bool.{true, false, cond, or-true, and-false}
-use mathlib.Core.List.{List, [], ◌∷◌, ◌++◌, map, flatten, drop_last, reverse, reverse-cons}
+use Rattle.std.proofs.Math.Bool.{true, false, cond, or-true}
+use mathlib.Core.List.{List, [], ◌∷◌, ◌++◌, map, flatten, drop_last}
 use Rattle.std.proofs.Math.Logic.{⊎_elim}
 use Rattle.std.proofs.Math.Option.{Option, none, some}
 use Rattle.std.proofs.Math.Decide.{ℕ_discrete, dec_lt}
 use native.Mathlib.Omega.{arith}
 use Rattle.std.proofs.Math.ListN.{length-set}
 use Rattle.std.proofs.lemmas.List.{length-replicate}
-use Rattle.std.proofs.Math.Seq.{append_snoc}
 use Rattle.std.proofs.Math.Dec.{eqb}
-use borrow.Author.Tests.{lt-ltb, le-ltb, le-leb, eq-eqb, ne_eqb, eqb-false}
-use Rattle.rules.specs.Bytes.{records, cut, two_bytes, any, sum, accepted, walk}
+use borrow.Author.Tests.{lt-ltb, le-ltb, le-leb, lt-leb, eq-eqb, ne_eqb, eqb-false}
+use Rattle.rules.specs.Bytes.{records, cut, two_bytes, any, sum, accepted, Walked, walk}
 use Rattle.rules.specs.Tree.{kind_at, is_async, is_finish, is_end, task, ordinal, task_end, cont}
-use Rattle.rules.specs.Scheduling.{work_first, help_first, pushes_child, pushes, Phase, first_phases, phase_at, Steal, Run}
+use Rattle.rules.specs.Scheduling.{work_first, help_first, pushes_child, pushes, Phase, first_phases, phase_at, begin, Steal, Run}
 use Rattle.rules.specs.Scheduling.{idle_worker, start, worker_at, holds_step, is_run, oldest, steal, judge_event, next_run}
 use Rattle.rules.specs.Traces.{trace_number, trace_bytes, from_step, covers, latest_phase, last_stolen, frontier, child_count, task_step}
 use Rattle.rules.specs.Traces.{ordinal_allowed, starts_async, follows_finish, serial_allowed, number_allowed, stolen_step, record_number}
-use Rattle.rules.specs.Traces.{passed_over, out_of_order, judge_trace_record, next_phases, replay_walk}
+use Rattle.rules.specs.Traces.{judge_read, judge_trace_record, next_phases, replay_walk}
 use Rattle.rules.specs.Calls.{event_call, after_events}
 use Rattle.tree.specs.Laws.Records.{number_back}
-use Rattle.tree.specs.Laws.Walks.{walk_more}
 use Rattle.tree_scan.specs.Laws.Shape.{Shape}
 use Rattle.tree_scan.specs.Laws.Frames.{end_at, size_at}
 use Rattle.tree_scan.specs.Laws.Places.{ordinal-cont, finish_cont, ordinal_most}
-use Rattle.run_invariant.specs.Invariant.{self, log_of, Chain, Pushed, PhaseFacts, Invariant}
-use Rattle.run_invariant.specs.Laws.Counts.{count_all, any_sum, Has, has_none, has_cases, any_one}
-use Rattle.run_invariant.specs.Laws.Weights.{span, end_within, nested_end, span_weighs, span-some, span_most, span_in, span-inside}
-use Rattle.run_invariant.specs.Laws.Weights.{span-self}
-use Rattle.run_invariant.specs.Laws.Phase.{stack_chained, first-pushes, held_within, oldest_pushed, oldest_within, oldest-last}
+use Rattle.run_invariant.specs.Invariant.{self, log_of, Pushed, PhaseFacts, Invariant}
+use Rattle.run_invariant.specs.Laws.Counts.{count_all, any_sum}
+use Rattle.run_invariant.specs.Laws.Weights.{span, end_within, span_weighs, span-some, span_most, span_in, span-inside, span-self}
+use Rattle.run_invariant.specs.Laws.Phase.{first-pushes, held_within, oldest_pushed, oldest_within, oldest-last}
 use Rattle.run_invariant.specs.Laws.Moves.{get_d_alike, map-one, some_holds, holds-some, onward, ran, run_is, ran_here, ran_other}
 use Rattle.run_invariant.specs.Laws.Moves.{enriched, lightened, steal-thief, steal_other, steal-victim, victim-rich, first_within}
 use Rattle.run_invariant.specs.Laws.Moves.{second_within, run_held, event_runs, event_steals, sum_one, rich-holds, held_facts}
 use Rattle.run_invariant.specs.Laws.Always.{start_invariant, event_keeps}
 use Rattle.run_invariant.specs.Laws.Consequences.{oldest-frontier}
-use Rattle.replay_invariant.specs.Invariant.{Cut, Taken, Split}
 use Rattle.replay_invariant.specs.Laws.Tasks.{step_of, task_step_lem, at_most_count}
-use Rattle.replay_invariant.specs.Laws.Reads.{allowed_taken}
-use Rattle.replay_invariant.specs.Laws.Always.{latest_begin, Read, read-judged, read_next, always_split}
-use Rattle.replay_invariant.specs.Laws.Ranks.{rank_deeper}
-use Rattle.replay_invariant.specs.Laws.PushOrder.{PusherOf, never-passed}
+use Rattle.replay_invariant.specs.Laws.Always.{latest_begin}
 
 -- ---- the trace's records
 
@@ -62,6 +55,42 @@ trace_records p ks [] = refl
 trace_records p ks (s ∷ steals) =
     records_four _ _ _ _ (trace_bytes p ks steals)
     ∙ ap (λ (l : List (List ℕ)). traced p ks s ∷ l) (trace_records p ks steals)
+
+-- One record more, at the end of an accepted walk.
+module _ {R S : Type 0} (judge : S → R → ℕ) (next : S → R → S) where
+  walk_one : (rs : List R) (i : ℕ) (s t : S) (r : R)
+      → walk judge next i s rs ≡ record { verdict = accepted; state = t } → judge t r ≡ 0
+      → walk judge next i s (rs ++ (r ∷ [])) ≡ record { verdict = accepted; state = next t r }
+  unfolding walk accepted
+  walk_one [] i s t r e j =
+      let same : s ≡ t = ap (λ (x : Walked S). x.state) e in
+      rw (same, eq-eqb (judge t r) 0 j) refl
+  walk_one (q ∷ rs) i s t r e j =
+      elim (ℕ_discrete (judge s q) 0) [
+        | yes z ↦
+            let rest = rw (eq-eqb (judge s q) 0 z) at e in
+            rw (eq-eqb (judge s q) 0 z) (walk_one rs (suc i) (next s q) t r rest j)
+        | no n ↦
+            let bad = rw (ne_eqb (judge s q) 0 n) at e in
+            absurd (n (ap (λ (x : Walked S). x.verdict.number) bad))
+      ]
+
+-- ---- a record that is accepted
+
+module _ (w p : ℕ) (ks : List ℕ) (phs : List Phase) (t v number k : ℕ) (small : number < 65536)
+    (latest : latest_phase v 0 phs ≡ some k) where
+  judged : number_allowed p ks (phase_at phs k) number ≡ true → judge_read p ks phs v number ≡ 0
+  unfolding judge_read
+  judged allowed = rw (judge_read, latest, allowed) refl
+
+  read-accepts : t < w → v < w → (t ≡ v → ⊥) → number_allowed p ks (phase_at phs k) number ≡ true
+      → judge_trace_record w p ks phs (t ∷ v ∷ two_bytes number) ≡ 0
+  unfolding judge_trace_record record_number
+  read-accepts lt lv n allowed = rw (lt-leb w t lt, lt-leb w v lv, ne_eqb t v n, number_back number small) (judged allowed)
+
+  read-begins : next_phases p ks phs (t ∷ v ∷ two_bytes number) ≡ begin phs t k (stolen_step p ks (phase_at phs k) number)
+  unfolding next_phases record_number
+  read-begins = rw (next_phases, latest, number_back number small) refl
 
 -- ---- steps
 
@@ -98,32 +127,6 @@ module _ (ks : List ℕ) (sh : Shape (length ks) (end_at ks) (size_at ks)) where
           let finish : kind_at ks q ≡ 2 = omega (arith, eqb-false (kind_at ks q) 1 a, eqb-false (kind_at ks q) 3 e) in
           rw (a, follows_finish, finish_cont ks sh q h e, eq-eqb (kind_at ks q) 2 finish) (or-true (starts_async ks (cont ks q)))
 
--- ---- chains
-
-has_reverse : (x : ℕ) (l : List ℕ) → Has l x → Has (reverse l) x
-has_reverse x [] m = m
-has_reverse x (y ∷ l) m =
-    rw (reverse-cons y l, any_one (eqb x) (reverse l) y)
-    (has_cases x y l m (λ e. rw (eq-eqb x y e) (or-true (any (eqb x) (reverse l)))) (λ later. rw (has_reverse x l later) refl))
-
-module _ (p : ℕ) (ks : List ℕ) (sh : Shape (length ks) (end_at ks) (size_at ks)) where
-  -- A step of a chain: its pusher, with which the chain goes on.
-  chain-at : (x : ℕ) (front : List ℕ) (o : ℕ) (older : List ℕ) → Chain p ks x (front ++ o ∷ older)
-      → (q : ℕ) × PusherOf p ks q o × Chain p ks q older
-  chain-at x [] o older c = (c.0, (held_within p ks sh c.0 older c.5, c.2, c.1), c.5)
-  chain-at x (s ∷ front) o older c = chain-at c.0 front o older c.5
-
-  -- The pushers of the older steps are above it.
-  chain_older : (q : ℕ) (older : List ℕ) → Chain p ks q older → (t : ℕ) → Has older t
-      → (r : ℕ) × PusherOf p ks r t × (r < q) × (q < task_end ks r)
-  chain_older q [] c t m = has_none t m
-  chain_older q (s ∷ older) c t m =
-      let r = c.0 in
-      has_cases t s older m (λ e. (r, (held_within p ks sh r older c.5, c.2, e ∙ c.1), c.3, c.4)) (λ later.
-      let up = chain_older r older c.5 t later in
-      let nests = nested_end ks sh up.0 r up.1.0 (omega (arith, up.2)) up.3 in
-      (up.0, up.1, omega (arith, up.2, c.3), omega (arith, c.4)))
-
 -- ---- what is stolen from a phase
 
 module _ (p : ℕ) (ks : List ℕ) (sh : Shape (length ks) (end_at ks) (size_at ks)) (ph : Phase) (log : List ℕ) (i : ℕ)
@@ -132,10 +135,10 @@ module _ (p : ℕ) (ks : List ℕ) (sh : Shape (length ks) (end_at ks) (size_at 
   loot = oldest deque
 
   loot_within : loot < length ks
-  loot_within = oldest_within p ks sh i deque rich (stack_chained p ks sh f)
+  loot_within = oldest_within p ks sh i deque rich f.chain
 
   loot_pushed : Pushed p ks loot
-  loot_pushed = oldest_pushed p ks sh i deque rich (stack_chained p ks sh f)
+  loot_pushed = oldest_pushed p ks sh i deque rich f.chain
 
   -- The parts from the held step, from the oldest of the deque and from what was stolen before are apart.
   apart : (j : ℕ) → span ks j i + span ks j loot + sum (span ks j) ph.stolen ≤ span ks j ph.first
@@ -151,7 +154,7 @@ module _ (p : ℕ) (ks : List ℕ) (sh : Shape (length ks) (end_at ks) (size_at 
       elim (ℕ_discrete ph.first loot) [
         | yes e ↦
             let same : span ks i ph.first ≡ span ks i loot = ap (span ks i) e in
-            absurd (omega (arith, apart i, span-self ks sh i (held_within p ks sh i deque (stack_chained p ks sh f))))
+            absurd (omega (arith, apart i, span-self ks sh i (held_within p ks sh i deque f.chain)))
         | no n ↦ omega arith
       ]
 
@@ -196,17 +199,6 @@ module _ (p : ℕ) (ks : List ℕ) (sh : Shape (length ks) (end_at ks) (size_at 
           (lt-ltb (ordinal ks ph.first) (ordinal ks loot) rises)
       by (some s) z =
           rw (le-leb 1 (ordinal ks loot) pushed, le-leb (ordinal ks loot) (child_count ks (frontier ks ph)) few, z) refl
-
-  -- Oldest first: the pushers of what was stolen before are above the pusher of the oldest step, so it was pushed later than they.
-  loot_ordered : Cut p ks ph → Taken p ks ph loot → passed_over p ks ph loot ≡ false
-  loot_ordered cut taken =
-      let older = reverse ph.stolen in
-      let split : deque ++ older ≡ drop_last deque ++ loot ∷ older =
-      ap (λ (l : List ℕ). l ++ older) (oldest-last deque rich) ∙ append_snoc (drop_last deque) loot older in
-      let at = chain-at p ks sh i (drop_last deque) loot older (rw split at f.chain) in
-      never-passed p ks sh ph cut at.0 loot taken at.1 (λ t m.
-      let above = chain_older p ks sh at.0 older at.2 t (has_reverse t ph.stolen m) in
-      (above.0, above.1, rank_deeper p ks sh above.0 at.0 above.1.0 above.2 above.3))
 
 -- ---- the run
 
@@ -253,22 +245,6 @@ module _ (p : ℕ) (either : (p ≡ work_first) ⊎ (p ≡ help_first)) (ks : Li
       let same = oldest-frontier p ks some-step sh s inv e v rich in
       rw (e, ← same) (step_of ks sh (oldest (worker_at s v).hand.deque) (taken-within s inv v rich)))
       (λ e. rw e refl) either
-
-  -- It was pushed later than what was stolen from the phase before.
-  stolen_ordered : (s : Run) (inv : Invariant p ks s) (v : ℕ) (rich : length (worker_at s v).hand.deque ≡ 0 → ⊥)
-      → Cut p ks (phase_at s.phases (worker_at s v).phase)
-      → out_of_order p ks (phase_at s.phases (worker_at s v).phase)
-      (stolen_step p ks (phase_at s.phases (worker_at s v).phase) (trace_number p ks (oldest (worker_at s v).hand.deque)))
-      ≡ false
-  unfolding out_of_order
-  stolen_ordered s inv v rich cut =
-      let ph = phase_at s.phases (worker_at s v).phase in
-      let loot = oldest (worker_at s v).hand.deque in
-      let now = facts s inv v rich in
-      let named = stolen-named s inv v rich in
-      let taken : Taken p ks ph loot =
-      rw named at (allowed_taken ks sh p either ph cut (trace_number p ks loot) (stolen_allowed s inv v rich)) in
-      rw (named, loot_ordered p ks sh ph _ now.0 _ now.1 rich cut taken) (and-false (eqb p help_first))
 
   -- What the events keep: as many workers, each in its latest phase, and a trace that is accepted and leads to the run's
   -- phases.
@@ -318,29 +294,19 @@ module _ (p : ℕ) (either : (p ≡ work_first) ⊎ (p ≡ help_first)) (ks : Li
 
       stolen-replay : replay_walk w p ks (map (traced p ks) (steal s t v).steals)
           ≡ record { verdict = accepted; state = (steal s t v).phases }
-      unfolding steal replay_walk traced record_number
+      unfolding steal replay_walk traced
       stolen-replay =
           let taken = oldest (worker_at s v).hand.deque in
-          let from = (worker_at s v).phase in
-          let holds = victim-holds s inv v rich in
-          let back = number_back (trace_number p ks taken) (number_small ks sh p taken few (taken-within s inv v rich)) in
-          let split : Split p ks s.phases =
-          rw tr.replay at (always_split p either ks some-step sh w (map (traced p ks) s.steals)) in
-          let reads : Read w p ks s.phases (traced p ks (record { thief = t; victim = v; step = taken })) =
-          record {
-            thief = omega (arith, tr.crew);
-            victim = omega (arith, tr.crew);
-            other = n;
-            from = from;
-            latest = tr.latest v holds;
-            allowed = rw back (stolen_allowed s inv v rich);
-            ordered = rw back (stolen_ordered s inv v rich (split.cuts from ((inv.workers v).phase holds)));
-          }
-          in
-          let judged = read-judged false w p ks s.phases _ reads in
-          let next = read_next w p ks s.phases _ reads in
-          let walked = walk_more (judge_trace_record w p ks) (next_phases p ks) _ 0 first_phases s.phases _ tr.replay judged in
-          rw map-one (rw (next, back, stolen-named s inv v rich) at walked)
+          let number = trace_number p ks taken in
+          let latest = tr.latest v (victim-holds s inv v rich) in
+          let small = number_small ks sh p taken few (taken-within s inv v rich) in
+          let allowed = stolen_allowed s inv v rich in
+          let thief : t < w = omega (arith, tr.crew) in
+          let victim : v < w = omega (arith, tr.crew) in
+          let judged = read-accepts w p ks s.phases t v number _ small latest thief victim n allowed in
+          let next = read-begins w p ks s.phases t v number _ small latest in
+          let walked = walk_one (judge_trace_record w p ks) (next_phases p ks) _ 0 first_phases s.phases _ tr.replay judged in
+          rw map-one (rw (next, stolen-named s inv v rich) at walked)
 
       stolen-traced : Traced w (steal s t v)
       unfolding steal

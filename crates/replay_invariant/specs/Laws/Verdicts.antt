@@ -1,5 +1,5 @@
 -- The verdict of a replay: what the call answers by it, and numbers that it is not.
-use Rattle.std.specs.Prelude.{ℕ, ◌≡◌, cond, List}
+use Rattle.std.specs.Prelude.{ℕ, ◌≡◌, List}
 use Rattle.std.proofs.Math.Path.{refl, sym, ap}
 use Rattle.std.proofs.Common.{◌∙◌, eq-eqb, ne_eqb}
 use Rattle.std.proofs.Math.Option.{Option, none, some}
@@ -7,7 +7,7 @@ use Rattle.std.proofs.Math.Decide.{ℕ_discrete}
 use Rattle.rules.specs.Bytes.{records, accepted}
 use Rattle.rules.specs.Tree.{kinds}
 use Rattle.rules.specs.Scheduling.{Phase, phase_at}
-use Rattle.rules.specs.Traces.{latest_phase, number_allowed, stolen_step, out_of_order, judge_number, judge_read, replay_walk}
+use Rattle.rules.specs.Traces.{latest_phase, number_allowed, judge_read, replay_walk}
 use Rattle.rules.specs.Calls.{replay_verdict, replay_of, replay_refused, replay_call, Replayed as Call}
 use Rattle.tree.specs.Laws.Verdicts.{neither}
 
@@ -31,15 +31,12 @@ module _ (w p : ℕ) (tree trace list : List ℕ) where
         | no n ↦ ap (λ (c : Call). c.verdict.number) (call_refused n)
       ]
 
--- Reading a steal gives none but 14, 15, 18 and, where it accepts, 0.
-pub read_other : (m : ℕ) → (0 ≡ m → ⊥) → (14 ≡ m → ⊥) → (15 ≡ m → ⊥) → (18 ≡ m → ⊥)
+-- Reading a steal gives none but 14, 15 and, where it accepts, 0.
+pub read_other : (m : ℕ) → (0 ≡ m → ⊥) → (14 ≡ m → ⊥) → (15 ≡ m → ⊥)
     → (p : ℕ) (ks : List ℕ) (phs : List Phase) (victim number : ℕ) → judge_read p ks phs victim number ≡ m → ⊥
-unfolding judge_read judge_number
-read_other m fine none_yet breaks late p ks phs victim number = by (latest_phase victim 0 phs) refl
+unfolding judge_read
+read_other m fine none_yet breaks p ks phs victim number = by (latest_phase victim 0 phs) refl
   where
     by : (o : Option ℕ) → latest_phase victim 0 phs ≡ o → judge_read p ks phs victim number ≡ m → ⊥
     by none e = rw (e, judge_read) none_yet
-    by (some k) e =
-        let ph = phase_at phs k in
-        let order = out_of_order p ks ph (stolen_step p ks ph number) in
-        rw (e, judge_read) (neither m (number_allowed p ks ph number) (cond order 18 0) 15 (neither m order 18 0 late fine) breaks)
+    by (some k) e = rw (e, judge_read) (neither m (number_allowed p ks (phase_at phs k) number) 0 15 fine breaks)

@@ -1,23 +1,21 @@
 -- The tables of phases are right once one begins: first steps, and for each phase the step and the ordinal from which its
 -- frontier task is walked. `phs` are the phases before, `m` how many; worker t takes step s from phase k.
-use Rattle.std.specs.Prelude.{ℕ, suc, ◌+◌, ◌<◌, ◌≡◌, refl, true, false, List, [], length, get_or, set}
-use Rattle.std.proofs.Common.{sym, ap, ◌∙◌, arith, eq-eqb, lt-length-set, get_or-set_same, get_or-set_other}
+use Rattle.std.specs.Prelude.{ℕ, suc, ◌+◌, ◌<◌, ◌≡◌, refl, true, List, [], length, get_or, set}
+use Rattle.std.proofs.Common.{sym, ap, ◌∙◌, add-one, arith, lt-length-set, get_or-set_same, get_or-set_other}
 use Rattle.std.proofs.Math.Logic.{inr}
 use Rattle.std.proofs.Math.Decide.{ℕ_discrete}
-use Rattle.std.proofs.Math.Numerals.{add-one}
 use Rattle.rules.specs.Tree.{ordinal, cont}
-use Rattle.rules.specs.Scheduling.{work_first, help_first, Phase, phase_at, begin}
-use Rattle.rules.specs.Traces.{number_allowed, stolen_step, out_of_order}
+use Rattle.rules.specs.Scheduling.{work_first, Phase, phase_at, begin}
+use Rattle.rules.specs.Traces.{number_allowed, stolen_step}
 use Rattle.tree_scan.specs.Laws.Shape.{Shape}
 use Rattle.tree_scan.specs.Laws.Frames.{end_at, size_at}
 use Rattle.run_invariant.specs.Laws.Moves.{robbed, begin-length, begin_new, begin-robbed, begin_other, begin_same}
 use Rattle.run_invariant.specs.Laws.Phase.{first-pushes}
-use Rattle.replay_invariant.specs.Invariant.{Cut, Taken}
+use Rattle.replay_invariant.specs.Invariant.{Taken}
 use Rattle.replay_invariant.specs.Laws.Tasks.{task_step_lem}
-use Rattle.replay_invariant.specs.Laws.Parts.{part_inside, part_once, pushes_part}
+use Rattle.replay_invariant.specs.Laws.Parts.{part_inside, part_once}
 use Rattle.replay_invariant.specs.Laws.Reads.{Based, based_fresh, based_allowed, based_robbed}
 use Rattle.replay_spec.specs.Begins.{bases_begun, ordinals_begun}
-use Rattle.replay_spec.specs.Laws.Lateness.{Ordered, ordered_fresh, ordered_robbed}
 use Rattle.replay_invariant.specs.Terms.{PartOf}
 
 -- ---- a table in which the entries k and m have been set
@@ -120,21 +118,6 @@ module _ (phs : List Phase) (t k s m : ℕ) (begun : k < length phs) (count : m 
         let inside = part_inside ks sh q s of in
         by_phase i h (λ e. rw (e, base-new) inside.3) (λ e. rw (e, base-old) (omega (arith, inside)))
         (λ l n. rw (base-other i l n) (within i (omega arith)))
-
-    -- Help-first: the steals from each phase are oldest first, and its base tells the last of them.
-    pub ordered-next : (p : ℕ) → Cut p ks (phase_at phs k) → Taken p ks (phase_at phs k) s
-        → (p ≡ help_first → (i : ℕ) → i < length phs → Ordered p ks (phase_at phs i) (get_or bases i 0))
-        → out_of_order p ks (phase_at phs k) s ≡ false
-        → p ≡ help_first → (i : ℕ) → i < length (begin phs t k s) → Ordered p ks (phase_at (begin phs t k s) i) (get_or newBases i 0)
-    unfolding out_of_order
-    ordered-next p cut taken ordered order help i h =
-        let (r, in_tree, opens, is) = taken.pushed in
-        let same : q ≡ r = part_once ks sh q r s of (rw is (pushes_part ks sh p r in_tree opens)) in
-        let kept = rw (eq-eqb p help_first help) at order in
-        by_phase i h (λ e. rw (e, new_is, base-new) (ordered_fresh p ks sh t s))
-        (λ e. rw (e, begin-robbed phs t k s begun, base-old, add-one q, same)
-        (ordered_robbed p ks sh (phase_at phs k) cut r s taken (in_tree, opens, is) kept))
-        (λ l n. rw (begin_other phs t k s i (omega arith) n, base-other i l n) (ordered help i (omega arith)))
 
     module _ (ordinals : List ℕ) (also : m < length ordinals) (p number own : ℕ) (counted : p ≡ work_first → own ≡ number)
         (based : p ≡ work_first → (i : ℕ) → i < length phs → Based ks sh (phase_at phs i) (get_or bases i 0) (get_or ordinals i 0))

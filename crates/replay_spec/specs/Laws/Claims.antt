@@ -1,14 +1,14 @@
 -- Labelling the free steps above a step, as `replay_labels::claim` does it: what its loop holds at the start, after each turn
--- and at the end.
-use Rattle.std.specs.Prelude.{ℕ, zero, suc, ◌≤◌, ◌<◌, ◌≡◌, refl, length, get_or}
+-- and at the end. And what taking a step comes to, by the step's label.
+use Rattle.std.specs.Prelude.{ℕ, zero, suc, ◌≤◌, ◌<◌, ◌≡◌, refl, false, length, get_or, eqb}
 use Rattle.std.proofs.Math.Path.{sym, ap}
-use Rattle.std.proofs.Common.{◌∙◌, arith}
+use Rattle.std.proofs.Common.{◌∙◌, inl, inr, arith}
 use mathlib.Core.List.{List, [], ◌∷◌, ◌++◌}
 use Rattle.std.proofs.Math.Decide.{ℕ_discrete}
 use Rattle.std.proofs.Math.ListN.{set, length-set}
 use Rattle.std.proofs.Math.Seq.{get_or-set_other}
 use Rattle.replay_invariant.specs.Terms.{free, label_of, Climb, labelled}
-use Rattle.replay_spec.specs.Labels.{Upward, Claimed}
+use Rattle.replay_spec.specs.Labels.{Upward, Claimed, Taking}
 
 -- ---- labels as the code reads them
 
@@ -97,11 +97,29 @@ module _ {openers first : List ℕ} {s k : ℕ}
           before = omega (arith, c.before);
         }
 
-    pub claim-end : (get_or labels j 0 ≡ free → ⊥) → Claimed openers first s k labels j (get_or labels j 0)
+    pub claim-end : (get_or labels j 0 ≡ free → ⊥) → Claimed openers first s k labels (get_or labels j 0)
     claim-end n =
         record {
           path = c.path;
+          top = j;
           climb = way_climb openers first c.path s j c.way (λ f. n (claim-reads ∙ f));
           marks = c.marks;
           finds = claim-reads;
         }
+
+-- ---- what taking a step comes to
+
+pub free_past : (labels : List ℕ) (s : ℕ) → (label_of labels 0 ≡ free → ⊥) → s < length labels → get_or labels s 0 ≡ free → 0 < s
+free_past labels s root l f =
+    elim (ℕ_discrete s 0) [
+      | yes z ↦ absurd (root (rw z at (sym (label_read labels s l) ∙ f)))
+      | no n ↦ omega arith
+    ]
+
+module _ {openers labels : List ℕ} {s k : ℕ} (l : s < length labels) where
+  pub take-labelled : (get_or labels s 0 ≡ free → ⊥) → (after : List ℕ) → Taking openers labels s k false after
+  take-labelled n after = inl ((λ f. n (label_read labels s l ∙ f)), refl)
+
+  pub take_claimed : get_or labels s 0 ≡ free → (after : List ℕ) (found : ℕ) → Claimed openers labels s k after found
+      → Taking openers labels s k (eqb found k) after
+  take_claimed f after found c = inr ((sym (label_read labels s l) ∙ f), (found, c, refl))

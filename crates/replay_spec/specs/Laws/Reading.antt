@@ -1,11 +1,9 @@
 -- The code's way of reading a steal is the rules': by labels instead of what phases cover, and work-first by a walk over
 -- continuations instead of ordinals and counts of children.
-use Prim.Native.Nat.{ℕ, ◌+◌, ◌-◌, ◌≤◌, ◌<◌}
-use Rattle.std.specs.Prelude.{◌≡◌, Bool, true, false, cond, ◌&&◌, ◌||◌, List, ◌⊎◌, length, get_or, eqb, ltb, leb}
+use Rattle.std.specs.Prelude.{ℕ, ◌+◌, ◌-◌, ◌≤◌, ◌<◌, ◌≡◌, Bool, true, false, cond, ◌&&◌, ◌||◌, List, ◌⊎◌, length, get_or, eqb, ltb, leb}
 use Rattle.std.proofs.Math.Path.{refl}
-use Rattle.std.proofs.Common.{sym, ◌∙◌, true≢false, inl, inr}
+use Rattle.std.proofs.Common.{sym, ◌∙◌, true≢false, inl, inr, ⊎_elim}
 use Rattle.std.proofs.Math.Bool.{not}
-use Rattle.std.proofs.Math.Logic.{⊎_elim}
 use Rattle.std.proofs.Math.Option.{Option, none, some, none-ne-some}
 use Rattle.std.proofs.Math.Decide.{ℕ_discrete, dec_le}
 use native.Mathlib.Omega.{arith}
@@ -14,7 +12,7 @@ use Rattle.rules.specs.Bytes.{count, all}
 use Rattle.rules.specs.Tree.{task, ordinal, task_end}
 use Rattle.rules.specs.Scheduling.{work_first, help_first, Phase, phase_at}
 use Rattle.rules.specs.Traces.{covers, frontier, child_count, task_step, ordinal_allowed, starts_async, follows_finish, serial_allowed}
-use Rattle.rules.specs.Traces.{number_allowed, stolen_step, out_of_order, judge_number}
+use Rattle.rules.specs.Traces.{number_allowed, stolen_step}
 use Rattle.tree_scan.specs.Laws.Shape.{Shape}
 use Rattle.tree_scan.specs.Laws.Frames.{end_at, size_at}
 use Rattle.tree_tables.specs.Terms.{Openers}
@@ -24,32 +22,13 @@ use Rattle.replay_invariant.specs.Laws.Tasks.{hopped-is}
 use Rattle.replay_invariant.specs.Terms.{free, label_of, Labels, Climb, labelled, PartOf}
 use Rattle.replay_invariant.specs.Laws.Reads.{Based, based_allowed, allowed_taken}
 use Rattle.replay_invariant.specs.Laws.Labels.{label-covers, taken_free, taken-label}
-use Rattle.replay_spec.specs.declared.Stolen.{Stolen}
-use Rattle.replay_spec.specs.declared.Stolen.TheVariants.{At, Refused}
+use Rattle.replay_spec.specs.declared.Named.{Named}
+use Rattle.replay_spec.specs.declared.Named.TheVariants.{At, Nothing}
 use Rattle.trace.specs.Contract.{number_by}
 use Rattle.replay_spec.specs.Naming.{step_named, named}
 use Rattle.replay_spec.specs.Laws.Naming.{only-some, named-within}
 use Rattle.replay_spec.specs.Labels.{Claimed}
-use Rattle.replay_spec.specs.Lateness.{late}
-use Rattle.replay_spec.specs.Reading.{stolen_or, Reading}
-use Rattle.replay_spec.specs.Laws.Lateness.{Ordered, late_is}
-
--- ---- what the rules say
-
--- The rules accept a number: the step that it names is stolen from phase k, and the labels are those of a climb from it.
-pub record Accepted (p : ℕ) (ks openers labels : List ℕ) (ph : Phase) (k number : ℕ) (after : List ℕ) : Type 0 where
-  pub allowed : number_allowed p ks ph number ≡ true
-  pub ordered : out_of_order p ks ph (stolen_step p ks ph number) ≡ false
-  pub path : List ℕ
-  pub top : ℕ
-  pub climb : Climb openers labels (stolen_step p ks ph number) path top
-  pub marks : after ≡ labelled labels path k
-
--- The answer is the rules' refusal, or their step.
-abbrev pub Ruled : ℕ → List ℕ → List ℕ → List ℕ → Phase → ℕ → ℕ → Stolen → List ℕ → Type 0
-Ruled p ks openers labels ph k number r after =
-    ((judge_number p ks ph number ≡ 0 → ⊥) × (r ≡ Refused (judge_number p ks ph number)))
-    ⊎ ((r ≡ At (record { 0 = stolen_step p ks ph number })) × Accepted p ks openers labels ph k number after)
+use Rattle.replay_spec.specs.Reading.{Reading}
 
 -- ---- the step that a number names
 
@@ -132,8 +111,8 @@ module _ (p : ℕ) (either : (p ≡ work_first) ⊎ (p ≡ help_first)) (ks : Li
     (sh : Shape (length ks) (end_at ks) (size_at ks)) where
   module _ (phs : List Phase) (split : Split p ks phs) (labels : List ℕ) (shown : Labels ks phs labels) (openers : List ℕ)
       (table : Openers ks openers (length ks)) (k base at number : ℕ) (begun : k < length phs)
-      (based : p ≡ work_first → Based ks sh (phase_at phs k) base at) (r : Stolen) (after : List ℕ)
-      (reading : Reading p ks openers labels base (named p ks base at number) k r after) where
+      (based : p ≡ work_first → Based ks sh (phase_at phs k) base at) (r : Named) (after : List ℕ)
+      (reading : Reading openers labels (named p ks base at number) k r after) where
     parts : (j : ℕ) → 0 < j → j < length ks → PartOf ks (get_or openers j 0) j
     parts = opener_parts ks openers table
 
@@ -142,62 +121,37 @@ module _ (p : ℕ) (either : (p ≡ work_first) ⊎ (p ≡ help_first)) (ks : Li
 
     -- Where the named step is not labelled and the label above it is k, the rules accept the number.
     claimed-allowed : (s : ℕ) → named p ks base at number ≡ some s → label_of labels s ≡ free
-        → (top found : ℕ) → Claimed openers labels s k after top found → found ≡ k
-        → number_allowed p ks (phase_at phs k) number ≡ true
-    claimed-allowed s e f top found c same =
+        → (found : ℕ) → Claimed openers labels s k after found → found ≡ k → number_allowed p ks (phase_at phs k) number ≡ true
+    claimed-allowed s e f found c same =
         named-allowed ks sh (phase_at phs k) base at number p based either s e
         (λ first. omega (arith, shown.firsts k begun, shown.few, rw first at f))
         (label-covers p ks some-step sh phs split labels shown openers parts k s begun (inside s e) f
-        c.path top c.climb (sym c.finds ∙ same))
+        c.path c.top c.climb (sym c.finds ∙ same))
 
-    -- Where the rules accept the number, the step is theirs, unless the steal is late, and the labels are those of a climb from it.
-    read-allowed : number_allowed p ks (phase_at phs k) number ≡ true
-        → (path : List ℕ) × (top : ℕ) × Climb openers labels (stolen_step p ks (phase_at phs k) number) path top
-        × (after ≡ labelled labels path k) × (label_of labels top ≡ k)
-        × (r ≡ stolen_or true (late p ks base top (stolen_step p ks (phase_at phs k) number)) (stolen_step p ks (phase_at phs k) number))
+    -- Where the rules accept the number, the step is theirs, and the labels are those of a climb from it.
+    pub read-allowed : number_allowed p ks (phase_at phs k) number ≡ true
+        → (r ≡ At (record { 0 = stolen_step p ks (phase_at phs k) number }))
+        × ((path : List ℕ) × (top : ℕ) × Climb openers labels (stolen_step p ks (phase_at phs k) number) path top
+        × (after ≡ labelled labels path k))
     read-allowed a =
         let ph = phase_at phs k in
         let s = stolen_step p ks ph number in
         let taken = allowed_taken ks sh p either ph (split.cuts k begun) number a in
         ⊎_elim (λ lost. absurd (lost.0 (taken_free p ks some-step sh phs split labels shown openers parts k s begun taken)))
-        (λ (f, (top, found, c, e)).
-        let own = taken-label p ks some-step sh phs split labels shown openers parts k s begun taken c.path top c.climb in
-        (c.path, top, c.climb, c.marks, own, e ∙ rw (eq-eqb found k (c.finds ∙ own)) refl))
+        (λ (f, (found, c, e)).
+        let own = taken-label p ks some-step sh phs split labels shown openers parts k s begun taken in
+        (e ∙ rw (eq-eqb found k (c.finds ∙ own c.path c.top c.climb)) refl, (c.path, c.top, c.climb, c.marks)))
         (rw (allowed-named ks sh ph base at number p based either a) at reading)
 
-    -- Where they do not, it is 15.
-    read-broken : number_allowed p ks (phase_at phs k) number ≡ false → r ≡ Refused 15
-    unfolding stolen_or
+    -- Where they do not, none is found.
+    pub read-broken : number_allowed p ks (phase_at phs k) number ≡ false → r ≡ Nothing
     read-broken a = by (named p ks base at number) refl reading
       where
-        by : (o : Option ℕ) → named p ks base at number ≡ o → Reading p ks openers labels base o k r after → r ≡ Refused 15
+        by : (o : Option ℕ) → named p ks base at number ≡ o → Reading openers labels o k r after → r ≡ Nothing
         by none e is = is
         by (some s) e is =
             ⊎_elim (λ lost. lost.1)
-            (λ (f, (top, found, c, gives)). elim (ℕ_discrete found k) [
-              | yes same ↦ absurd (true≢false (sym (claimed-allowed s e f top found c same) ∙ a))
+            (λ (f, (found, c, gives)). elim (ℕ_discrete found k) [
+              | yes same ↦ absurd (true≢false (sym (claimed-allowed s e f found c same) ∙ a))
               | no n ↦ gives ∙ rw (ne_eqb found k n) refl
             ]) is
-
-    -- So reading comes to what the rules say.
-    pub read-ruled : (p ≡ help_first → Ordered p ks (phase_at phs k) base) → Ruled p ks openers labels (phase_at phs k) k number r after
-    unfolding judge_number stolen_or
-    read-ruled ordered = by (number_allowed p ks (phase_at phs k) number) refl
-      where
-        s : ℕ
-        s = stolen_step p ks (phase_at phs k) number
-
-        order : number_allowed p ks (phase_at phs k) number ≡ true → (path : List ℕ) (top : ℕ) → Climb openers labels s path top
-            → after ≡ labelled labels path k → (late : Bool) → out_of_order p ks (phase_at phs k) s ≡ late → r ≡ stolen_or true late s
-            → Ruled p ks openers labels (phase_at phs k) k number r after
-        order a path top climb marks true o is = inl (rw (a, o) (λ z. omega arith), rw (a, o) is)
-        order a path top climb marks false o is =
-            inr (is, record { allowed = a; ordered = o; path = path; top = top; climb = climb; marks = marks })
-
-        by : (b : Bool) → number_allowed p ks (phase_at phs k) number ≡ b → Ruled p ks openers labels (phase_at phs k) k number r after
-        by false a = inl (rw a (λ z. omega arith), rw a (read-broken a))
-        by true a =
-            let (path, top, climb, marks, own, is) = read-allowed a in
-            let taken = allowed_taken ks sh p either (phase_at phs k) (split.cuts k begun) number a in
-            let same = late_is p ks some-step sh phs split labels shown openers parts k begun s taken path top climb own base ordered in
-            order a path top climb marks (out_of_order p ks (phase_at phs k) s) refl (rw same at is)

@@ -9,7 +9,7 @@ use Rattle.std.proofs.Math.ListN.{get_or}
 use Rattle.std.proofs.Math.Dec.{leb}
 use borrow.Author.Tests.{leb-false, eqb-true, eqb-false, lt-leb, eq-eqb, ne_eqb}
 use Rattle.rules.specs.Scheduling.{most_workers, Phase, phase_at, begin}
-use Rattle.rules.specs.Traces.{latest_phase, record_number, judge_number, judge_read, judge_trace_record}
+use Rattle.rules.specs.Traces.{latest_phase, number_allowed, record_number, judge_read, judge_trace_record}
 use Rattle.tree.specs.Laws.Verdicts.{or_none}
 use Rattle.policy.specs.Contract.{worker_limit}
 use Rattle.policy.specs.Laws.Workers.{limit_is, first_far, second_far, far_eight}
@@ -131,7 +131,7 @@ module _ (phs : List Phase) (latest : List ℕ) (shown : Latest phs latest) wher
     -- Where the workers are not refused, the number decides.
     pub judged-on : judged_workers c latest (get_or r 0 0) (get_or r 1 0) ≡ 0
         → judge_trace_record c p ks phs r
-        ≡ judge_number p ks (phase_at phs (get_or latest (get_or r 1 0) 0)) (record_number r)
+        ≡ cond (number_allowed p ks (phase_at phs (get_or latest (get_or r 1 0) 0)) (record_number r)) 0 15
     unfolding judge_trace_record judge_read
     judged-on e =
         let thief = get_or r 0 0 in

@@ -1,8 +1,9 @@
--- `replay_steal::read_steal` meets its contract: the step that the number names is a step of the tree, so it can be asked for, and
--- taken or not. Assumes nothing.
+-- `replay_steal::read_steal` meets its contract: the step that the number names is a step of the tree, so it has a label, and
+-- the labels tell whether it can be stolen from the phase. Assumes nothing.
 use Prim.Native.Nat.{ℕ, ◌<◌}
 use mathlib.Core.Path.{◌≡◌, sym, ◌∙◌}
 use mathlib.Core.Option.{Option}
+use native.Mathlib.Omega.{arith}
 use lib.ListN.{length, get_or}
 use borrow.Author.Rules.{rules}
 use Rattle.rules.specs.Tree.{kinds}
@@ -11,7 +12,7 @@ use Rattle.tree_scan.specs.Laws.Frames.{accepted-frame}
 use Rattle.replay_spec.specs.declared.Named.TheVariants.{At}
 use Rattle.replay_spec.specs.Naming.{named_of, step_named}
 use Rattle.replay_spec.specs.Laws.Naming.{step_within}
-use Rattle.replay_spec.specs.Laws.Taking.{named_some, read_unnamed, read_named}
+use Rattle.replay_spec.specs.Laws.Taking.{table_upward, named_some, read_unnamed, read-elsewhere, read-there}
 use Rattle.replay_steal.proofs.read_steal.Statement.{statement}
 use Rattle.replay_steal.proofs.read_steal.Tie as tie
 
@@ -42,7 +43,7 @@ step c = c.before.step.given.0.0
 found : (c : tie.After-known-told) → named_of (asked (naming c)) ≡ At (step c)
 found c = sym (answer (naming c)) ∙ c.before.step.given.1
 
--- It is a step of the tree.
+-- It is a step of the tree, so it has a label.
 within : (c : tie.After-known-told) → (step c).0 < length (kinds (entry (naming c)).args.tree.now)
 within c =
     let start = entry (naming c) in
@@ -50,6 +51,10 @@ within c =
     let frame = accepted-frame a.tree.now start.pre.0.0 in
     step_within (kinds a.tree.now) frame.shape _ _ (step c).0 a.number start.pre.0.2
     (named_some (asked (naming c)) (step c) (found c))
+
+-- The labels have been asked.
+abbrev told : tie.After-slice-known2 → tie.After-known-told
+told c = c.before.before.before.before
 
 -- ---- the needs
 
@@ -80,30 +85,47 @@ enum-known-step c = search rules
 take-requires : tie.Need-take-requires
 take-requires c κs =
     let at = c.before in
-    let pre = (entry (naming at)).requires in
-    ((pre.0.0, pre.0.1, within at), (pre.1.0, (pre.1.1.0, pre.1.1.1.0)))
-
-enum_told : tie.Need-enum-told
-enum_told c = search rules
+    let start = entry (naming at) in
+    let a = start.args in (
+      (
+        omega (arith, within at, start.pre.1.1.0.0),
+        omega (arith, start.pre.1.1),
+        table_upward (kinds a.tree.now) a.openers.now start.pre.1.1.0.1,
+      ),
+      (start.pre.0.1, start.pre.1.1.1.0.1),
+    )
 
 same_length : tie.Need-same-length
 same_length c = search rules
 
 returns : tie.Need-returns
 returns c =
-    let at = c.before.before.before.before in
+    let at = told c.before in
     let a = (entry (naming at)).args in
-    let take = c.before.before.take in
-    let base = (naming at).before.before.before.wide.ensures in
-    read_named a.policy (kinds a.tree.now) a.openers.now a.labels.now (get_or a.bases.now a.phase.0 0)
-    (asked (naming at)) a.phase.0 (step at) (found at) take.result take.new.1.1.1.0 (rw base at take.ensures)
+    let take = c.before.before.before.take in
+    read-elsewhere a.openers.now a.labels.now (asked (naming at)) a.phase.0 (step at) (found at) take.result
+    take.new.1.0 take.ensures c.if1.true
+
+enum_told : tie.Need-enum-told
+enum_told c = search rules
+
+same-length-2 : tie.Need-same-length-2
+same-length-2 c = search rules
 
 returns-2 : tie.Need-returns-2
 returns-2 c =
+    let at = told c.before in
+    let a = (entry (naming at)).args in
+    let take = c.before.before.before.take in
+    read-there a.openers.now a.labels.now (asked (naming at)) a.phase.0 (step at) (found at) take.result
+    take.new.1.0 take.ensures c.if1.false
+
+returns-3 : tie.Need-returns-3
+returns-3 c =
     let at = c.before.before in
     let a = (entry at).args in
-    read_unnamed a.policy (kinds a.tree.now) a.openers.now a.labels.now (get_or a.bases.now a.phase.0 0)
-    (asked at) a.phase.0 at.step-named.result (answer at) c.enum_told.given.1 a.labels.now
+    read_unnamed a.openers.now a.labels.now (asked at) a.phase.0 at.step-named.result (answer at)
+    c.enum_told.given.1 a.labels.now
 
 pub read-steal-spec : {M : Type 1} → statement M
 read-steal-spec =
@@ -118,7 +140,9 @@ read-steal-spec =
     step-named-requires
     enum-known-step
     take-requires
-    enum_told
     same_length
     returns
-    returns-2)
+    enum_told
+    same-length-2
+    returns-2
+    returns-3)

@@ -15,7 +15,7 @@ use Rattle.loads.specs.Terms.{Movable}
 use Rattle.trace.specs.Laws.Numbers.{ordinal-kept}
 use Rattle.replay_walk.specs.Laws.Retracing.{Retracing, Tables, tables-filled, label_room_lem, retrace_start, retrace_end}
 use Rattle.replay_walk.specs.Laws.Retracing.{retrace_judged}
-use Rattle.replay_walk.specs.Laws.Turns.{Judged, NumberRead, read_as, two_workers, read_ready, retrace-refused, begin-ready}
+use Rattle.replay_walk.specs.Laws.Turns.{Judged, NumberRead, read_as, two_workers, read_ready, retrace-broken, begin-ready}
 use Rattle.replay_walk.specs.Laws.Turns.{part-movable, retrace-begun}
 use Rattle.replay_walk.proofs.walk.Statement.{statement}
 use Rattle.replay_walk.proofs.walk.Tie as tie
@@ -75,10 +75,6 @@ turn c = fine (decoded c)
 -- It names a step that can be stolen.
 abbrev told : tie.After-known-told invariant-loop decreases-loop → tie.After-labels2 invariant-loop decreases-loop
 told c = c.before.before.before.before
-
--- It is refused.
-abbrev lost : tie.After-known-told2 invariant-loop decreases-loop → tie.After-labels2 invariant-loop decreases-loop
-lost c = c.before.before.before.before
 
 -- The step's ordinal is known, and the phase has begun with it; the weight has moved.
 abbrev naming : tie.After-ordinal-in invariant-loop decreases-loop → tie.After-known-told invariant-loop decreases-loop
@@ -247,7 +243,7 @@ read-steal-requires c κs =
         omega (arith, latest at, (ready t).0, (ready t).1),
         rw (latest at) (ready t).2,
       ),
-      (s.pre.1.0, (s.pre.1.1.0, ((room.label_room, (ready t).3), (room.base_room, room.ordinal_room)))),
+      (s.pre.1.0.1, (s.pre.1.1.0, ((room.label_room, (ready t).3), (room.base_room, room.ordinal_room)))),
     )
 
 enum-known-step : tie.Need-enum-known-step invariant-loop decreases-loop
@@ -292,24 +288,24 @@ loop-again c =
     retrace-begun (judged (turn l)) (read l) at.before.step.given.1 (latest (decoded l)) (own-ordinal begun.before).1
     _ _ _ _ _ _ stored.0 stored.1.0 stored.1.1.0 stored.1.1.1.0 stored.1.1.1.1 c.move-part.ensures
 
-enum-known-number : tie.Need-enum-known-number invariant-loop decreases-loop
-enum-known-number c = search rules
+enum_told : tie.Need-enum-told invariant-loop decreases-loop
+enum_told c = search rules
 
 refused-requires-2 : tie.Need-refused-requires-2 invariant-loop decreases-loop
 refused-requires-2 c κs = search rules
 
 same-length-2 : tie.Need-same-length-2 invariant-loop decreases-loop
 same-length-2 c =
-    let l = lost c.before in
+    let l = c.before.before.before.before in
     (read l).kept ∙ lent-labels (start (turn l))
 
 returns-2 : tie.Need-returns-2 invariant-loop decreases-loop
 returns-2 c =
-    let l = lost c.before in
-    retrace-refused (judged (turn l)) (read l) c.before.before.number.given.1 _ c.refused2.ensures
+    let l = c.before.before.before.before in
+    retrace-broken (judged (turn l)) (read l) c.before.enum_told.given.1 _ c.refused2.ensures
 
-add-t24 : tie.Need-overflow-add-t24 invariant-loop decreases-loop
-add-t24 c =
+add-t23 : tie.Need-overflow-add-t23 invariant-loop decreases-loop
+add-t23 c =
     let so = c.before.loop.invariant in
     omega (arith, so.reached, so.short)
 
@@ -349,10 +345,10 @@ walk-spec =
     move-part-requires
     loop-less
     loop-again
-    enum-known-number
+    enum_told
     refused-requires-2
     same-length-2
     returns-2
-    add-t24
+    add-t23
     same-length-3
     returns-3)

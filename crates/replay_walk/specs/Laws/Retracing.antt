@@ -2,7 +2,7 @@
 -- What it comes to at the start, at the end and at a record that is refused for its workers.
 use Rattle.std.specs.Prelude.{ℕ, zero, suc, ◌+◌, ◌/◌, ◌%◌, ◌≤◌, ◌<◌, ◌≡◌, refl, true, ◌⊎◌, drop, set, replicate, eqb, leb}
 use Rattle.std.proofs.Math.Path.{sym}
-use Rattle.std.proofs.Common.{ap, ◌∙◌, inl, get_or-set_same, leb-true, ne_eqb}
+use Rattle.std.proofs.Common.{ap, ◌∙◌, get_or-set_same, leb-true, ne_eqb}
 use mathlib.Core.List.{List, []}
 use native.Mathlib.Omega.{arith}
 use Rattle.std.proofs.Math.ListN.{length, get_or, length-set}
@@ -35,7 +35,6 @@ use Rattle.replay_spec.specs.Laws.Workers.{Latest, judged-stop}
 use Rattle.replay_walk.specs.declared.Ended.{Ended}
 use Rattle.replay_walk.specs.Terms.{Retraced}
 use Rattle.replay_spec.specs.Laws.Begins.{based_at}
-use Rattle.replay_spec.specs.Laws.Lateness.{Ordered}
 use Rattle.replay_invariant.specs.Terms.{free, label_of, Labels}
 
 -- Phases that split the tree cover each step once, so all loads together are its weight.
@@ -66,7 +65,6 @@ pub record Retracing (w p : ℕ) (tree trace : List ℕ) (k : ℕ) (labels first
   pub within : (i : ℕ) → i < length phs → get_or bases i 0 < length (kinds tree)
   pub based : p ≡ work_first → (i : ℕ) → i < length phs
       → Based (kinds tree) frame.shape (phase_at phs i) (get_or bases i 0) (get_or ordinals i 0)
-  pub ordered : p ≡ help_first → (i : ℕ) → i < length phs → Ordered p (kinds tree) (phase_at phs i) (get_or bases i 0)
   pub latests : Latest phs latest
   pub loaded : ls ≡ loads most_workers (kinds tree) (weights tree) phs
 
@@ -170,7 +168,6 @@ module _ (w p : ℕ) (tree trace : List ℕ) (accepts : (start_verdict w p tree)
             based_at ks sh {y = record { worker = 0; first = 0; stolen = [] }} {from = 0} {by = ordinal ks 0} (rw e refl)
             (base-zero i (omega arith)) (ordinal-zero i (omega arith) ∙ sym root)
             (based_fresh ks sh 0 0 (omega (arith, frame.some)));
-        ordered = λ help i h. let e : i ≡ 0 = omega arith in rw e (inl (refl, base-zero 0 (omega arith)));
         latests = first_latest;
         loaded = rw all (sym (start-loads ks frame.some sh (weights tree)));
       }

@@ -1,17 +1,13 @@
 -- A turn of the loop over the records, where the record's workers are not refused: its number is read against the victim's
 -- latest phase. Either it breaks the rule, or a phase begins and the tables show that.
-use Rattle.std.specs.Prelude.{ℕ, ◌+◌, ◌≤◌, ◌<◌, ◌≡◌, true, false, drop, get_or, set, replicate}
-use Rattle.std.proofs.Math.Path.{refl}
-use Rattle.std.proofs.Common.{sym, ap, ◌∙◌, ⊎_elim, arith}
-use mathlib.Core.List.{List, []}
+use Rattle.std.specs.Prelude.{ℕ, ◌+◌, ◌≤◌, ◌<◌, ◌≡◌, refl, Bool, true, false, cond, List, [], drop, get_or, set, replicate}
+use Rattle.std.proofs.Common.{sym, ap, ◌∙◌, add-one, arith}
 use Rattle.std.proofs.Math.Option.{some}
-use Rattle.std.proofs.Math.Numerals.{add-one}
 use Rattle.std.proofs.Math.ListN.{length, length-set}
 use Rattle.rules.specs.Bytes.{records, walk}
 use Rattle.rules.specs.Tree.{most_steps, kinds, weights}
 use Rattle.rules.specs.Scheduling.{work_first, most_workers, pushes, Phase, phase_at, begin}
-use Rattle.rules.specs.Traces.{latest_phase, number_allowed, stolen_step, out_of_order, judge_number, judge_trace_record, next_phases}
-use Rattle.rules.specs.Traces.{replay_walk, loads}
+use Rattle.rules.specs.Traces.{latest_phase, number_allowed, stolen_step, judge_trace_record, next_phases, replay_walk, loads}
 use Rattle.tree.specs.declared.Step.{Step}
 use Rattle.tree.specs.Laws.Records.{length-records}
 use Rattle.tree.specs.Laws.Walks.{walk_on}
@@ -25,13 +21,13 @@ use Rattle.replay_invariant.specs.Laws.Parts.{part_inside, pushes_part}
 use Rattle.replay_invariant.specs.Laws.Reads.{allowed_taken}
 use Rattle.replay_invariant.specs.Laws.Labels.{root-labelled, begin-labels}
 use Rattle.replay_invariant.specs.Laws.Always.{Read, latest_own, read_next, begin-split}
-use Rattle.replay_spec.specs.declared.Stolen.{Stolen}
-use Rattle.replay_spec.specs.declared.Stolen.TheVariants.{At, Refused}
+use Rattle.replay_spec.specs.declared.Named.{Named}
+use Rattle.replay_spec.specs.declared.Named.TheVariants.{At, Nothing}
 use Rattle.replay_spec.specs.Naming.{step_named, named}
 use Rattle.replay_spec.specs.Reading.{Reading}
 use Rattle.policy.specs.Contract.{most_phases}
 use Rattle.replay_spec.specs.Begins.{bases_begun, ordinals_begun}
-use Rattle.replay_spec.specs.Laws.Reading.{opener_parts, Accepted, Ruled, read-ruled}
+use Rattle.replay_spec.specs.Laws.Reading.{opener_parts, read-allowed, read-broken}
 use Rattle.loads.specs.Terms.{load_moved, weight_between, Movable}
 use Rattle.loads.specs.Laws.Loads.{Takes, part_between, begin-loads, begin_movable}
 use Rattle.trace.specs.Contract.{number_by}
@@ -41,7 +37,7 @@ use Rattle.replay_spec.specs.Workers.{judged_workers}
 use Rattle.replay_spec.specs.Laws.Workers.{fine_workers, latest_some, latest_next, judged-on}
 use Rattle.replay_walk.specs.declared.Ended.{Ended}
 use Rattle.replay_walk.specs.Terms.{Retraced}
-use Rattle.replay_spec.specs.Laws.Begins.{firsts-next, bases-within, bases-next, ordered-next}
+use Rattle.replay_spec.specs.Laws.Begins.{firsts-next, bases-within, bases-next}
 use Rattle.replay_walk.specs.Laws.Retracing.{split-whole, Retracing, Tables, retrace_stopped}
 use Rattle.replay_invariant.specs.Terms.{free, label_of, Climb, labelled, PartOf}
 
@@ -51,10 +47,10 @@ pushed_past ks sh p s by =
     omega (arith, by.3, part_inside ks sh by.0 (pushes p ks by.0) (pushes_part ks sh p by.0 by.1 by.2))
 
 -- A trace record's number is read as its policy has it, against the phase that is looked up.
-pub read_as : (p : ℕ) (ks openers labels bases ordinals after : List ℕ) (r : Stolen) (number : ℕ) {at from : ℕ} {told : TraceNumber}
+pub read_as : (p : ℕ) (ks openers labels bases ordinals after : List ℕ) (r : Named) (number : ℕ) {at from : ℕ} {told : TraceNumber}
     → at ≡ from → told ≡ number_by p number number
-    → Reading p ks openers labels (get_or bases at 0) (step_named ks (get_or bases at 0) (get_or ordinals at 0) told) at r after
-    → Reading p ks openers labels (get_or bases from 0) (named p ks (get_or bases from 0) (get_or ordinals from 0) number) from r after
+    → Reading openers labels (step_named ks (get_or bases at 0) (get_or ordinals at 0) told) at r after
+    → Reading openers labels (named p ks (get_or bases from 0) (get_or ordinals from 0) number) from r after
 unfolding named
 read_as p ks openers labels bases ordinals after r number here is so = rw (← here, ← is) so
 
@@ -66,11 +62,10 @@ pub record Judged (w p : ℕ) (tree trace : List ℕ) (k : ℕ) (labels firsts b
   pub fine : judged_workers w latest thief victim ≡ 0
 
 -- Its number has been read against phase k, the victim's latest: r is the answer, `after` are the labels.
-pub record NumberRead (p : ℕ) (tree ends openers sums labels bases ordinals : List ℕ) (k number : ℕ) (r : Stolen) (after : List ℕ)
+pub record NumberRead (p : ℕ) (tree ends openers sums labels bases ordinals : List ℕ) (k number : ℕ) (r : Named) (after : List ℕ)
     : Type 0 where
   pub tables : Tables tree ends openers sums
-  pub reading : Reading p (kinds tree) openers labels (get_or bases k 0)
-      (named p (kinds tree) (get_or bases k 0) (get_or ordinals k 0) number) k r after
+  pub reading : Reading openers labels (named p (kinds tree) (get_or bases k 0) (get_or ordinals k 0) number) k r after
   pub kept : length after ≡ length labels
 
 module _ {w p : ℕ} {tree trace : List ℕ} {k : ℕ} {labels firsts bases ordinals latest ls : List ℕ} {thief victim number : ℕ}
@@ -111,51 +106,55 @@ module _ {w p : ℕ} {tree trace : List ℕ} {k : ℕ} {labels firsts bases ordi
     root-labelled p ks j.so.frame.some sh j.so.phs j.so.split labels j.so.shown,
   )
 
-  judged : judge_trace_record w p ks j.so.phs (get_or (records 4 trace) k []) ≡ judge_number p ks phase number
+  judged : judge_trace_record w p ks j.so.phs (get_or (records 4 trace) k []) ≡ cond (number_allowed p ks phase number) 0 15
   judged =
       let on = judged-on j.so.phs latest j.so.latests w p j.so.most ks (get_or (records 4 trace) k []) in
       (rw (j.entry.first, j.entry.second, j.entry.rest) at on) j.fine
 
   -- The number has been read.
-  module _ {ends openers sums : List ℕ} {r : Stolen} {after : List ℕ}
+  module _ {ends openers sums : List ℕ} {r : Named} {after : List ℕ}
       (t : NumberRead p tree ends openers sums labels bases ordinals from number r after) where
-    ruled : Ruled p ks openers labels phase from number r after
-    ruled =
-        read-ruled p j.so.either ks j.so.frame.some sh j.so.phs j.so.split labels j.so.shown openers
+    if-allowed : number_allowed p ks phase number ≡ true
+        → (r ≡ At (record { 0 = stolen_step p ks phase number }))
+        × ((path : List ℕ) × (top : ℕ) × Climb openers labels (stolen_step p ks phase number) path top
+        × (after ≡ labelled labels path from))
+    if-allowed =
+        read-allowed p j.so.either ks j.so.frame.some sh j.so.phs j.so.split labels j.so.shown openers
         t.tables.opened from (get_or bases from 0) (get_or ordinals from 0) number own.0 (λ first. j.so.based first from own.0)
-        r after t.reading (λ help. j.so.ordered help from own.0)
+        r after t.reading
 
-    -- It breaks the rule, or the steal is out of order.
-    pub retrace-refused : {m : ℕ} → r ≡ Refused m → (e : Ended)
-        → e ≡ record { number = m; position = k; phases = 0; loads = replicate most_workers 0 } → Retraced w p tree trace e after firsts
-    retrace-refused {m} is e ends_so =
-        ⊎_elim (λ (n, gives).
-        let same : m ≡ judge_number p ks phase number = cc in
-        retrace_stopped j.so j.entry m (judged ∙ sym same) (λ z. n (sym same ∙ z)) e ends_so after (t.kept ∙ j.so.label_room))
-        (λ (gives, _). let z : ◌≡◌ {A = ℕ} 0 1 = cc in absurd (omega arith)) ruled
+    if-broken : number_allowed p ks phase number ≡ false → r ≡ Nothing
+    if-broken =
+        read-broken p j.so.either ks j.so.frame.some sh j.so.phs j.so.split labels j.so.shown openers
+        t.tables.opened from (get_or bases from 0) (get_or ordinals from 0) number own.0 (λ first. j.so.based first from own.0)
+        r after t.reading
+
+    -- It breaks the rule.
+    pub retrace-broken : r ≡ Nothing → (e : Ended) → e ≡ record { number = 15; position = k; phases = 0; loads = replicate most_workers 0 }
+        → Retraced w p tree trace e after firsts
+    retrace-broken lost e is = by (number_allowed p ks phase number) refl
+      where
+        by : (b : Bool) → number_allowed p ks phase number ≡ b → Retraced w p tree trace e after firsts
+        by true a = let z : ◌≡◌ {A = ℕ} 0 1 = cc (if-allowed a).0 in absurd (omega arith)
+        by false a = retrace_stopped j.so j.entry 15 (judged ∙ rw a refl) (λ z. omega arith) e is after (t.kept ∙ j.so.label_room)
 
     -- It names step s, which can be stolen: a phase begins with it.
     module _ {s : ℕ} (gives : r ≡ At (record { 0 = s })) where
-      accepts : (s ≡ stolen_step p ks phase number) × Accepted p ks openers labels phase from number after
-      accepts =
-          ⊎_elim (λ (n, refuses). let z : ◌≡◌ {A = ℕ} 0 1 = cc in absurd (omega arith))
-          (λ (is, fine).
-          let both : ◌≡◌ {A = Step} (record { 0 = s }) (record { 0 = stolen_step p ks phase number }) = cc in
-          (ap (λ (x : Step). x.0) both, fine)) ruled
+      allowed : number_allowed p ks phase number ≡ true
+      allowed = by (number_allowed p ks phase number) refl
+        where
+          by : (b : Bool) → number_allowed p ks phase number ≡ b → number_allowed p ks phase number ≡ true
+          by true a = a
+          by false a = let z : ◌≡◌ {A = ℕ} 0 1 = cc (if-broken a) in absurd (omega arith)
 
       step_is : s ≡ stolen_step p ks phase number
-      step_is = accepts.0
-
-      allowed : number_allowed p ks phase number ≡ true
-      allowed = accepts.1.allowed
-
-      order : out_of_order p ks phase (stolen_step p ks phase number) ≡ false
-      order = accepts.1.ordered
+      step_is =
+          let same = (if-allowed allowed).0 in
+          let both : ◌≡◌ {A = Step} (record { 0 = s }) (record { 0 = stolen_step p ks phase number }) = cc in
+          ap (λ (x : Step). x.0) both
 
       climbed : (path : List ℕ) × (top : ℕ) × Climb openers labels s path top × (after ≡ labelled labels path from)
-      climbed =
-          let fine = accepts.1 in
-          rw step_is (fine.path, fine.top, fine.climb, fine.marks)
+      climbed = rw step_is (if-allowed allowed).1
 
       taken : Taken p ks phase s
       taken = rw step_is (allowed_taken ks sh p j.so.either phase (j.so.split.cuts from own.0) number allowed)
@@ -199,7 +198,6 @@ module _ {w p : ℕ} {tree trace : List ℕ} {k : ℕ} {labels firsts bases ordi
             from = from;
             latest = rw j.entry.second victims;
             allowed = rw j.entry.rest allowed;
-            ordered = rw j.entry.rest order;
           }
           in
           read_next w p ks j.so.phs (get_or (records 4 trace) k []) reads ∙ rw (j.entry.first, j.entry.rest, step_is) refl
@@ -207,11 +205,10 @@ module _ {w p : ℕ} {tree trace : List ℕ} {k : ℕ} {labels firsts bases ordi
       next-walked : replay_walk w p ks (records 4 trace)
           ≡ walk (judge_trace_record w p ks) (next_phases p ks) (k + 1) (begin j.so.phs thief from s)
           (drop (k + 1) (records 4 trace))
-      unfolding judge_number
       next-walked =
           j.so.walked
           ∙ walk_on (judge_trace_record w p ks) (next_phases p ks) (records 4 trace) [] k j.so.phs
-          (rw (length-records 4 trace) j.entry.more) (judged ∙ rw (allowed, order) refl)
+          (rw (length-records 4 trace) j.entry.more) (judged ∙ rw allowed refl)
           ∙ rw (next-phases, add-one k) refl
 
       next-loads : load_moved ls thief victim (weight_between ends sums s)
@@ -259,9 +256,6 @@ module _ {w p : ℕ} {tree trace : List ℕ} {k : ℕ} {labels firsts bases ordi
               based = rw (base, ordinal, robs)
                   (bases-next j.so.phs thief from s (k + 1) begun j.so.many ks sh openers opener bases baseFits ordinals
                   (omega (arith, j.so.ordinal_room)) p number o counted j.so.based allowed step_is taken);
-              ordered = rw (base, robs)
-                  (ordered-next j.so.phs thief from s (k + 1) begun j.so.many ks sh openers opener bases baseFits p
-                  (j.so.split.cuts from begun) taken j.so.ordered (rw step_is order));
               latests = rw (last, j.so.many)
                   (latest_next j.so.phs latest j.so.latests thief from s (omega (arith, j.so.latest_room, two_workers.0)) begun);
               loaded = load ∙ next-loads;

@@ -15,7 +15,7 @@ use Rattle.rules.specs.Calls.{event_call, after_events}
 use Rattle.tree_scan.specs.Laws.Shape.{Shape}
 use Rattle.tree_scan.specs.Laws.Frames.{end_at, size_at}
 use Rattle.run_invariant.specs.Invariant.{log_of, stack, pending, self, opening, Pushed, PhaseFacts, WorkerFacts, Invariant}
-use Rattle.run_invariant.specs.Laws.Phase.{stack_chained, phase_begins, phase_runs, phase_robbed, oldest_pushed, oldest_within}
+use Rattle.run_invariant.specs.Laws.Phase.{phase_begins, phase_runs, phase_robbed, oldest_pushed, oldest_within}
 use Rattle.run_invariant.specs.Laws.Waiting.{waited-more}
 use Rattle.run_invariant.specs.Laws.Moves.{sum_one, sum_replicate, get_d_alike, map-one, length-drop_last, log_own, log_other}
 use Rattle.run_invariant.specs.Laws.Moves.{pending_latest, pending_past, pending_idle, pending_same, some_holds, some-stack}
@@ -248,7 +248,7 @@ module _ (p : ℕ) (ks : List ℕ) (some-step : 1 ≤ length ks) (sh : Shape (le
           elim (ℕ_discrete k (length s.phases)) [
             | yes same ↦ rw same
                 (phase_facts new-phase (inv.logged (length s.phases) (omega arith)) pending-new
-                (phase_begins p ks sh t (loot s w) (oldest_within p ks sh i (deque_of s w) rich (stack_chained p ks sh facts))))
+                (phase_begins p ks sh t (loot s w) (oldest_within p ks sh i (deque_of s w) rich facts.chain)))
             | no a ↦ elim (ℕ_discrete k (phase_of s w)) [
               | yes same ↦ rw same
                   (phase_facts (begin-robbed s.phases t (phase_of s w) (loot s w) begun) refl pending-robbed robbed-facts)
@@ -265,7 +265,7 @@ module _ (p : ℕ) (ks : List ℕ) (some-step : 1 ≤ length ks) (sh : Shape (le
           elim (ℕ_discrete k (length s.phases)) [
             | yes same ↦
                 let first : (phase_at (steal s t w).phases k).first ≡ loot s w = rw same (ap (λ (ph : Phase). ph.first) new-phase) in
-                rw first (oldest_pushed p ks sh i (deque_of s w) rich (stack_chained p ks sh facts))
+                rw first (oldest_pushed p ks sh i (deque_of s w) rich facts.chain)
             | no a ↦
                 let old : k < length s.phases = omega (arith, longer) in
                 rw (begin_same s.phases t (phase_of s w) (loot s w) (λ ph. ph.first) refl k old) (inv.spawned k some-steal old)

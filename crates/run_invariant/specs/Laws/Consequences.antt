@@ -28,7 +28,7 @@ use Rattle.run_invariant.specs.Laws.Counts.{not_so}
 use Rattle.run_invariant.specs.Laws.Weights.{sum_append, span, openings, end_within, span_weighs, size_weighs}
 use Rattle.run_invariant.specs.Laws.Weights.{openings-weigh, span_most, span_in, span-inside, span-self, self_same}
 use Rattle.run_invariant.specs.Laws.Weights.{pushed_within}
-use Rattle.run_invariant.specs.Laws.Phase.{stack_chained, held_within, oldest_within}
+use Rattle.run_invariant.specs.Laws.Phase.{held_within, oldest_within}
 use Rattle.run_invariant.specs.Laws.Moves.{some-stack, holds-some, none-stack, rich-holds, held_facts}
 
 -- ---- steps that have run
@@ -89,7 +89,7 @@ module _ (p : ℕ) (ks : List ℕ) (sh : Shape (length ks) (end_at ks) (size_at 
   oldest-task ph log i [] f e n = absurd (n refl)
   oldest-task ph log i (y ∷ r) f e n =
       let end = ends_oldest y r (frontier_end ks ph) (f.frontier e).1 in
-      sym (end_task (oldest (y ∷ r)) (oldest_within p ks sh i (y ∷ r) n (stack_chained p ks sh f)))
+      sym (end_task (oldest (y ∷ r)) (oldest_within p ks sh i (y ∷ r) n f.chain))
       ∙ (ap (λ (x : ℕ). task ks (pred x)) end ∙ frontier-task ph f.begins)
 
   -- What a phase has run, and what it has pending, is not stolen from it.
@@ -114,13 +114,11 @@ module _ (p : ℕ) (ks : List ℕ) (sh : Shape (length ks) (end_at ks) (size_at 
           has_sum (self x) x (log ++ take 1 stack) m,
           self_same x,
           sum_append (self x) log (take 1 stack),
-          held-inside x stack (stack_chained p ks sh f),
+          held-inside x stack f.chain,
         ))
 
     queued : (x : ℕ) → Has stack x → gone x ≡ false
-    queued x m =
-        let within = stack_within stack (stack_chained p ks sh f) x m in
-        unstolen x (omega (arith, has_sum (span ks x) x stack m, span-self ks sh x within))
+    queued x m = unstolen x (omega (arith, has_sum (span ks x) x stack m, span-self ks sh x (stack_within stack f.chain x m)))
 
     goes_on : log ++ run_alone (λ x. any (eqb x) ph.stolen) p ks (length ks - length log) (pop stack) ≡ running_order p ks ph
     unfolding gone running_order
@@ -138,7 +136,7 @@ module _ (p : ℕ) (ks : List ℕ) (some-step : 1 ≤ length ks) (sh : Shape (le
       by : (b : Bool) → holds_step (worker_at s w) ≡ b → Chained p ks (stack (worker_at s w).hand)
       by true h =
           let held = holds-some (worker_at s w) h in
-          rw (some-stack (worker_at s w) held.0 held.1) (stack_chained p ks sh (held_facts p ks s inv w held.0 held.1))
+          rw (some-stack (worker_at s w) held.0 held.1) (held_facts p ks s inv w held.0 held.1).chain
       by false h = rw (none-stack (worker_at s w) h) (omega arith)
 
   pending_within : (w x : ℕ) → Has (stack (worker_at s w).hand) x → x < length ks

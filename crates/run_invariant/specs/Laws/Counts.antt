@@ -87,16 +87,6 @@ unfolding sum
 has_sum f x [] m = has_none x m
 has_sum f x (y ∷ l) m = has_cases x y l m (λ s. rw s (omega arith)) (λ t. omega (arith, has_sum f x l t))
 
--- A sum that is not 0 has a member that is not.
-pub sum_member : (f : ℕ → ℕ) (l : List ℕ) → 1 ≤ sum f l → (x : ℕ) × Has l x × (1 ≤ f x)
-unfolding sum
-sum_member f [] h = absurd (omega arith)
-sum_member f (y ∷ l) h =
-    elim (dec_le 1 (f y)) [
-      | yes here ↦ (y, has_head y l, here)
-      | no n ↦ let later = sum_member f l (omega arith) in (later.0, has_tail later.0 y l later.1, later.2)
-    ]
-
 -- Tests of the members.
 module _ (f : ℕ → Bool) where
   pub all_members : (l : List ℕ) → ((x : ℕ) → Has l x → f x ≡ true) → all f l ≡ true

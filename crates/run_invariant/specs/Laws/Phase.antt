@@ -5,7 +5,7 @@ use Rattle.std.specs.Prelude.{◌≡◌, Bool, take, eqb}
 use Rattle.std.proofs.Math.Path.{refl}
 use Rattle.std.proofs.Common.{ap, ◌∙◌, eqb-true}
 use Rattle.std.proofs.Math.Bool.{true, false, and-false}
-use mathlib.Core.List.{List, [], ◌∷◌, ◌++◌, drop_last, append_assoc, reverse, reverse-append}
+use mathlib.Core.List.{List, [], ◌∷◌, ◌++◌, drop_last, append_assoc}
 use Rattle.std.proofs.Math.Option.{some}
 use native.Mathlib.Omega.{arith}
 use Rattle.std.proofs.Math.ListN.{length, length-append}
@@ -148,18 +148,9 @@ module _ (p : ℕ) (ks : List ℕ) (sh : Shape (length ks) (end_at ks) (size_at 
       let inside = pushes-inside ks sh p c.0 (held_within c.0 r c.5) c.2 in
       chain-inside c.0 s r (omega (arith, c.1)) (omega (arith, c.1)) c.5
 
-  -- The newer steps of a chain are a chain,
-  chain_front : (i : ℕ) (front older : List ℕ) → Chain p ks i (front ++ older) → Chain p ks i front
-  chain_front i [] older c = held_within i older c
-  chain_front i (s ∷ front) older c = (c.0, c.1, c.2, c.3, c.4, chain_front c.0 front older c.5)
-
-  -- so the deque's own order is that of the pushers.
-  pub stack_chained : {ph : Phase} {log stack : List ℕ} → PhaseFacts p ks ph log stack → Chained p ks stack
-  stack_chained {ph} {log} {stack} f = by stack f.chain
-    where
-      by : (stack : List ℕ) → Chained p ks (stack ++ reverse ph.stolen) → Chained p ks stack
-      by [] c = omega arith
-      by (i ∷ deque) c = chain_front i deque (reverse ph.stolen) c
+  chain-robbed : (i : ℕ) (front : List ℕ) (o : ℕ) → Chain p ks i (front ++ (o ∷ [])) → Chain p ks i front
+  chain-robbed i [] o c = held_within i (o ∷ []) c
+  chain-robbed i (s ∷ front) o c = (c.0, c.1, c.2, c.3, c.4, chain-robbed c.0 front o c.5)
 
   pub phase_begins : (w s : ℕ) → s < length ks → PhaseFacts p ks (record { worker = w; first = s; stolen = [] }) [] (s ∷ [])
   unfolding sum any kept pop frontier_end last_stolen
@@ -176,7 +167,7 @@ module _ (p : ℕ) (ks : List ℕ) (sh : Shape (length ks) (end_at ks) (size_at 
 
   module _ (ph : Phase) (log : List ℕ) (i : ℕ) (deque : List ℕ) (f : PhaseFacts p ks ph log (i ∷ deque)) where
     here : i < length ks
-    here = held_within i (deque ++ reverse ph.stolen) f.chain
+    here = held_within i deque f.chain
 
     -- There is room for one more step: what has run and the part from i are inside the first step's part.
     log-short : length log < length ks
@@ -193,7 +184,7 @@ module _ (p : ℕ) (ks : List ℕ) (sh : Shape (length ks) (end_at ks) (size_at 
     -- What is common to ends and opening steps, `next` being what is pending after the step.
     runs-into : (next : List ℕ)
         → ((whole each : ℕ → ℕ) → Weighs ks whole each → each i + sum whole next ≡ whole i + sum whole deque)
-        → Chained p ks (next ++ reverse ph.stolen)
+        → Chained p ks next
         → ((gone : ℕ → Bool) → any gone (take 1 next) ≡ false → pop (kept gone next) ≡ after_run gone p ks i (kept gone deque))
         → (p ≡ work_first → EndToEnd ks next (frontier_end ks ph))
         → PhaseFacts p ks ph (log ++ (i ∷ [])) next
@@ -216,7 +207,7 @@ module _ (p : ℕ) (ks : List ℕ) (sh : Shape (length ks) (end_at ks) (size_at 
     unfolding any sum cont
     runs_by true e =
         rw (← after-ended (λ x. false) p ks i deque e, stack-pop deque)
-        (runs-into deque (λ whole each v. omega (arith, v.end i here e)) (chain_rest i (deque ++ reverse ph.stolen) f.chain)
+        (runs-into deque (λ whole each v. omega (arith, v.end i here e)) (chain_rest i deque f.chain)
         (λ gone n. after-ended gone p ks i (kept gone deque) e) (λ w. ends_rest ks (frontier_end ks ph) i deque (f.frontier w)))
     runs_by false e =
         let inside = holds-inside ks sh p i here e in
@@ -239,7 +230,7 @@ module _ (p : ℕ) (ks : List ℕ) (sh : Shape (length ks) (end_at ks) (size_at 
         begins = f.begins;
         cover = λ whole each v.
             omega (arith, f.cover whole each v, sum_append whole front (o ∷ []), sum_append whole ph.stolen (o ∷ []));
-        chain = rw (reverse-append ph.stolen (o ∷ []), ← append_assoc front (o ∷ []) (reverse ph.stolen)) f.chain;
+        chain = chain-robbed i front o f.chain;
         order = λ gone a n.
             let both = all_last gone ph.stolen o a in
             rw (← kept-last gone (i ∷ front) o both.1) (f.order gone both.0 n);

@@ -13,7 +13,7 @@ use Rattle.tree_scan.specs.Laws.Frames.{end_at, size_at, end_size}
 use Rattle.run_invariant.specs.Invariant.{self, stack, Chain, Invariant}
 use Rattle.run_invariant.specs.Laws.Counts.{sum_place, sum_two, sum_some}
 use Rattle.run_invariant.specs.Laws.Weights.{span, span_in, span-self, span_weighs}
-use Rattle.run_invariant.specs.Laws.Phase.{stack_chained, held_within}
+use Rattle.run_invariant.specs.Laws.Phase.{held_within}
 use Rattle.run_invariant.specs.Laws.Moves.{some-stack, holds-some, none-stack, held_facts}
 use Rattle.run_invariant.specs.Laws.Consequences.{run_counts}
 
@@ -74,7 +74,7 @@ module _ (p : ℕ) (ks : List ℕ) (sh : Shape (length ks) (end_at ks) (size_at 
 
   -- What is so of a held step and the deque behind it: the order is that of the pushers, and all are steps of the tree.
   pub held-chain : (x : Holder s) → Chain p ks x.step (deque_of s x)
-  held-chain x = stack_chained p ks sh (held_facts p ks s inv x.worker x.step x.holds)
+  held-chain x = (held_facts p ks s inv x.worker x.step x.holds).chain
 
   pub step_within : (x : Holder s) → x.step < length ks
   step_within x = held_within p ks sh x.step (deque_of s x) (held-chain x)

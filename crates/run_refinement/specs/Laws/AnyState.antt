@@ -148,9 +148,9 @@ module _ (f : Fields) (tree : List ℕ) where
       (λ q. number_by p (taken_ordinal f ks v q) (pushes p ks q)) (robbed_fields f ks t v))
       (other_refused _ (steal_numbers long busy)))
 
-  pub near-move : (a b : ℕ) → leb (worker_limit f.setup.workers) a || leb (worker_limit f.setup.workers) b ≡ false
+  pub near_move : (a b : ℕ) → leb (worker_limit f.setup.workers) a || leb (worker_limit f.setup.workers) b ≡ false
       → (event_move f tree a b).outcome ≡ Refused 8 → ⊥
   unfolding event_move
-  near-move a b near =
+  near_move a b near =
       let limit = worker_limit f.setup.workers in
       (other_if (eqb a b) (other_run a (or_none (leb limit a) (leb limit b) near).0) (other_steal a b near)).other

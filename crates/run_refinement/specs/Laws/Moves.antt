@@ -17,7 +17,7 @@ use Rattle.tree_scan.specs.Laws.Shape.{Shape}
 use Rattle.tree_scan.specs.Laws.Frames.{end_at, size_at}
 use Rattle.run_invariant.specs.Invariant.{stack, Chained, Invariant}
 use Rattle.run_invariant.specs.Laws.Counts.{Has, has_head}
-use Rattle.run_invariant.specs.Laws.Phase.{stack_chained, held_within, oldest_within}
+use Rattle.run_invariant.specs.Laws.Phase.{held_within, oldest_within}
 use Rattle.run_invariant.specs.Laws.Waiting.{run_more}
 use Rattle.run_invariant.specs.Laws.Moves.{some-stack, holds-some, rich-holds, held_facts, onward, ran}
 use Rattle.run_invariant.specs.Laws.Consequences.{steals_most, phases-count, pending_unrun}
@@ -77,7 +77,7 @@ module _ {p : ℕ} {ks : List ℕ} {s : Fields} {r : Run} (known : Known p ks s 
     few = below_most here
 
     chained : Chained p ks (i ∷ (worker_at r w).hand.deque)
-    chained = stack_chained p ks sh (held_facts p ks r inv w i holding)
+    chained = (held_facts p ks r inv w i holding).chain
 
     within : i < length ks
     within = held_within p ks sh i (worker_at r w).hand.deque chained

@@ -15,7 +15,7 @@ use Rattle.tree.specs.Laws.Highest.{nothing, highest-is, highest_fails, fails_hi
 use Rattle.tree_scan.specs.Laws.Starts.{start-tree-accepts}
 use Rattle.tree_scan.specs.Laws.Frames.{accepted-frame}
 use Rattle.run_invariant.specs.Laws.Moves.{held_facts}
-use Rattle.run_invariant.specs.Laws.Phase.{stack_chained, held_within}
+use Rattle.run_invariant.specs.Laws.Phase.{held_within}
 use Rattle.run_invariant.specs.Laws.Waiting.{waits-awaited}
 use Rattle.run_spec.specs.Deques.{unrun_mark, marked}
 use Rattle.run_spec.specs.Running.{waits_for, awaits}
@@ -115,7 +115,7 @@ module _ (w p : ℕ) (tree : List ℕ) (accepts : (start_verdict w p tree).numbe
       let frame = accepted-frame tree (start-tree-accepts w p tree accepts) in
       let facts = held_facts p (kinds tree) (ruled w p tree es) (follows w p tree accepts es).invariant u i e in
       let deque = (worker_at (ruled w p tree es) u).hand.deque in
-      let within = held_within p (kinds tree) frame.shape i deque (stack_chained p (kinds tree) frame.shape facts) in
+      let within = held_within p (kinds tree) frame.shape i deque facts.chain in
       rw (e, judge_run, waits_log_lem (kinds tree) (ruled w p tree es).log i, same_word i within) refl
 
 pub waiting : WaitingTest
