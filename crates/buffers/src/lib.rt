@@ -1,5 +1,7 @@
 // Bytes as all layers read and write them: numbers of two bytes, whole records, events, the records of four bytes of a log, a trace
 // or a run list, and bytes copied to a lent buffer (document 01, "Trace, log, run list" and "Refusals").
+#![tactic(auto)]
+
 ghost use Rattle.std.specs.Prelude.{◌≡◌, ◌+◌, ◌*◌, ◌≤◌, length, take};
 ghost use Rattle.rules.specs.Bytes.{whole_records};
 ghost use Rattle.rules.specs.Calls.{written};

@@ -1,5 +1,7 @@
 // The tree file: a frame's tasks as records of 8 bytes (document 01, "The tree file"; document 02, #103). Every function takes any
 // bytes and any step, stays within the slice and ends.
+#![tactic(auto)]
+
 pub mod validation;
 pub mod words;
 

@@ -1,5 +1,7 @@
 // The task of a step and the step's ordinal in it (document 01, "The tree file"), found by a scan. Every function takes any bytes
 // and any step, stays within the slice and ends; a scan reads only the records between the step asked for and the answer.
+#![tactic(auto)]
+
 pub mod children;
 
 ghost use Rattle.std.specs.Prelude.{◌≡◌};

@@ -1,6 +1,8 @@
 // Tables of a tree: for each step the step after its task's end, and its opener. They are filled once where a whole list of
 // events is run or made or a trace is replayed, so that no event and no steal scans the tree. A single event has none: its tables
 // are empty.
+#![tactic(auto)]
+
 pub mod lookup;
 pub mod sums;
 

@@ -9,60 +9,60 @@ use Rattle.buffers.specs.Laws.Copies.{copy_start, copy_turn, copy_length, copy_d
 use Rattle.buffers.proofs.copy_out.Statement.{statement}
 use Rattle.buffers.proofs.copy_out.Tie as tie
 
-abbrev invariant-loop : tie.invariant-loop
-invariant-loop from count to₀ i₀ to i = (i ≤ count) × (to ≡ written (take i from) to₀)
+abbrev invariant-loop-i : tie.invariant-loop-i
+invariant-loop-i from count to₀ i₀ to i = (i ≤ count) × (to ≡ written (take i from) to₀)
 
-abbrev decreases-loop : tie.decreases-loop
-decreases-loop from count to₀ i₀ to i = count - i
+abbrev decreases-loop-i : tie.decreases-loop-i
+decreases-loop-i from count to₀ i₀ to i = count - i
 
 -- The buffer keeps its length.
-same : (c : tie.At-loop invariant-loop decreases-loop) → length c.loop.to ≡ length c.before.args.to.now
+same : (c : tie.At-loop-i invariant-loop-i decreases-loop-i) → length c.loop-i.to ≡ length c.before.args.to.now
 same c =
     let a = c.before.args in
-    let loop = c.loop in
+    let loop = c.loop-i in
     copy_length a.from.now a.to.now loop.i (omega arith) (omega arith) loop.to loop.invariant.1
 
-loop-holds : tie.Need-loop-init invariant-loop decreases-loop
-loop-holds c = (omega arith, copy_start c.args.from.now c.args.to.now)
+loop-i-init : tie.Need-loop-i-init invariant-loop-i decreases-loop-i
+loop-i-init c = (omega arith, copy_start c.args.from.now c.args.to.now)
 
-shared-slice-read-to : tie.Need-shared-slice-read-to invariant-loop decreases-loop
-shared-slice-read-to c = omega arith
+bounds-from-i : tie.Need-bounds-from-i invariant-loop-i decreases-loop-i
+bounds-from-i c = omega arith
 
-slice-write-to : tie.Need-slice-write-to invariant-loop decreases-loop
-slice-write-to c = omega (arith, same c.before.before)
+bounds-to-i : tie.Need-bounds-to-i invariant-loop-i decreases-loop-i
+bounds-to-i c = omega (arith, same c.before.before)
 
-add-i : tie.Need-overflow-add-i invariant-loop decreases-loop
-add-i c = omega arith
+overflow_add-i : tie.Need-overflow_add-i invariant-loop-i decreases-loop-i
+overflow_add-i c = omega arith
 
-loop-less : tie.Need-loop-smaller invariant-loop decreases-loop
-loop-less c = omega arith
+loop-i-smaller : tie.Need-loop-i-smaller invariant-loop-i decreases-loop-i
+loop-i-smaller c = omega arith
 
-loop-again : tie.Need-loop-preserved invariant-loop decreases-loop
-loop-again c =
+loop-i-preserved : tie.Need-loop-i-preserved invariant-loop-i decreases-loop-i
+loop-i-preserved c =
     let a = c.before.before.before.args in
-    let loop = c.before.before.loop in
+    let loop = c.before.before.loop-i in
     (omega arith, copy_turn a.from.now a.to.now loop.i (omega arith) (omega arith) loop.to loop.invariant.1)
 
-same_length : tie.Need-same-length invariant-loop decreases-loop
-same_length c = same c.before
+shape_of-to : tie.Need-shape_of-to invariant-loop-i decreases-loop-i
+shape_of-to c = same c.before
 
-returns : tie.Need-returns invariant-loop decreases-loop
+returns : tie.Need-returns invariant-loop-i decreases-loop-i
 returns c =
     let a = c.before.before.args in
-    let loop = c.before.loop in
+    let loop = c.before.loop-i in
     copy_done a.from.now a.to.now loop.i a.count loop.invariant.0 (omega arith) loop.to loop.invariant.1
 
-pub copy-out-spec : {M : Type 1} → statement M
-copy-out-spec =
+pub copy_out_spec : {M : Type 1} → statement M
+copy_out_spec =
     tie.close
     (tie.spec
-    invariant-loop
-    decreases-loop
-    loop-holds
-    shared-slice-read-to
-    slice-write-to
-    add-i
-    loop-less
-    loop-again
-    same_length
+    invariant-loop-i
+    decreases-loop-i
+    loop-i-init
+    bounds-from-i
+    bounds-to-i
+    overflow_add-i
+    loop-i-smaller
+    loop-i-preserved
+    shape_of-to
     returns)

@@ -5,32 +5,32 @@ use Rattle.buffers.specs.Terms.{number_at}
 use Rattle.buffers.proofs.number_at.Statement.{statement}
 use Rattle.buffers.proofs.number_at.Tie as tie
 
-shared-slice-read-two-bytes : tie.Need-shared-slice-read-two-bytes
-shared-slice-read-two-bytes c = search rules
+bounds-bytes-at : tie.Need-bounds-bytes-at
+bounds-bytes-at c = search rules
 
-add-two-bytes : tie.Need-overflow-add-two-bytes
-add-two-bytes c = search rules
+overflow_add-at : tie.Need-overflow_add-at
+overflow_add-at c = search rules
 
-shared-slice-read-two-bytes-2 : tie.Need-shared-slice-read-two-bytes-2
-shared-slice-read-two-bytes-2 c = search rules
+bounds-bytes-at-2 : tie.Need-bounds-bytes-at-2
+bounds-bytes-at-2 c = search rules
 
-two-bytes-requires : tie.Need-two-bytes-requires
-two-bytes-requires c κs = search rules
+two_bytes-requires : tie.Need-two_bytes-requires
+two_bytes-requires c κs = search rules
 
-cast-result : tie.Need-overflow-cast-result
-cast-result c = search rules
+overflow_cast-result : tie.Need-overflow_cast-result
+overflow_cast-result c = search rules
 
 returns : tie.Need-returns
 unfolding number_at
 returns c = c.two_bytes.ensures
 
-pub number-at-spec : {M : Type 1} → statement M
-number-at-spec =
+pub number_at_spec : {M : Type 1} → statement M
+number_at_spec =
     tie.close
     (tie.spec
-    shared-slice-read-two-bytes
-    add-two-bytes
-    shared-slice-read-two-bytes-2
-    two-bytes-requires
-    cast-result
+    bounds-bytes-at
+    overflow_add-at
+    bounds-bytes-at-2
+    two_bytes-requires
+    overflow_cast-result
     returns)

@@ -8,32 +8,32 @@ use Rattle.buffers.specs.Terms.{event_put}
 use Rattle.buffers.proofs.put_event.Statement.{statement}
 use Rattle.buffers.proofs.put_event.Tie as tie
 
-mul_at : tie.Need-overflow-mul-at
-mul_at c = search rules
+overflow_mul-at : tie.Need-overflow_mul-at
+overflow_mul-at c = search rules
 
-slice-write-bytes : tie.Need-slice-write-bytes
-slice-write-bytes c = search rules
+bounds-bytes-at : tie.Need-bounds-bytes-at
+bounds-bytes-at c = search rules
 
-add-bytes : tie.Need-overflow-add-bytes
-add-bytes c = search rules
+overflow_add-bytes : tie.Need-overflow_add-bytes
+overflow_add-bytes c = search rules
 
-slice-write-bytes-2 : tie.Need-slice-write-bytes-2
-slice-write-bytes-2 c = simp length-set (omega arith)
+bounds-bytes-at-2 : tie.Need-bounds-bytes-at-2
+bounds-bytes-at-2 c = simp length-set (omega arith)
 
-same_length : tie.Need-same-length
-same_length c = search rules
+shape_of-bytes : tie.Need-shape_of-bytes
+shape_of-bytes c = search rules
 
 returns : tie.Need-returns
 unfolding event_put
 returns c = refl
 
-pub put-event-spec : {M : Type 1} → statement M
-put-event-spec =
+pub put_event_spec : {M : Type 1} → statement M
+put_event_spec =
     tie.close
     (tie.spec
-    mul_at
-    slice-write-bytes
-    add-bytes
-    slice-write-bytes-2
-    same_length
+    overflow_mul-at
+    bounds-bytes-at
+    overflow_add-bytes
+    bounds-bytes-at-2
+    shape_of-bytes
     returns)

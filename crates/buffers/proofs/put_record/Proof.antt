@@ -8,56 +8,56 @@ use Rattle.buffers.specs.Terms.{record_put}
 use Rattle.buffers.proofs.put_record.Statement.{statement}
 use Rattle.buffers.proofs.put_record.Tie as tie
 
-mul_at : tie.Need-overflow-mul-at
-mul_at c = search rules
+overflow_mul-at : tie.Need-overflow_mul-at
+overflow_mul-at c = search rules
 
-slice-write-bytes : tie.Need-slice-write-bytes
-slice-write-bytes c = search rules
+bounds-bytes-at : tie.Need-bounds-bytes-at
+bounds-bytes-at c = search rules
 
-add-bytes : tie.Need-overflow-add-bytes
-add-bytes c = search rules
+overflow_add-bytes : tie.Need-overflow_add-bytes
+overflow_add-bytes c = search rules
 
-slice-write-bytes-2 : tie.Need-slice-write-bytes-2
-slice-write-bytes-2 c = simp length-set (omega arith)
+bounds-bytes-at-2 : tie.Need-bounds-bytes-at-2
+bounds-bytes-at-2 c = simp length-set (omega arith)
 
-cast-bytes : tie.Need-overflow-cast-bytes
-cast-bytes c = search rules
+overflow_cast-bytes : tie.Need-overflow_cast-bytes
+overflow_cast-bytes c = search rules
 
-add-bytes-2 : tie.Need-overflow-add-bytes-2
-add-bytes-2 c = search rules
+overflow_add-bytes-2 : tie.Need-overflow_add-bytes-2
+overflow_add-bytes-2 c = search rules
 
-slice-write-bytes-3 : tie.Need-slice-write-bytes-3
-slice-write-bytes-3 c = simp length-set (omega arith)
+bounds-bytes-at-3 : tie.Need-bounds-bytes-at-3
+bounds-bytes-at-3 c = simp length-set (omega arith)
 
-cast-bytes-2 : tie.Need-overflow-cast-bytes-2
-cast-bytes-2 c = search rules
+overflow_cast-bytes-2 : tie.Need-overflow_cast-bytes-2
+overflow_cast-bytes-2 c = search rules
 
-add-bytes-3 : tie.Need-overflow-add-bytes-3
-add-bytes-3 c = search rules
+overflow_add-bytes-3 : tie.Need-overflow_add-bytes-3
+overflow_add-bytes-3 c = search rules
 
-slice-write-bytes-4 : tie.Need-slice-write-bytes-4
-slice-write-bytes-4 c = simp length-set (omega arith)
+bounds-bytes-at-4 : tie.Need-bounds-bytes-at-4
+bounds-bytes-at-4 c = simp length-set (omega arith)
 
-same_length : tie.Need-same-length
-same_length c = search rules
+shape_of-bytes : tie.Need-shape_of-bytes
+shape_of-bytes c = search rules
 
 returns : tie.Need-returns
 unfolding record_put
 returns c = refl
 
-pub put-record-spec : {M : Type 1} → statement M
-put-record-spec =
+pub put_record_spec : {M : Type 1} → statement M
+put_record_spec =
     tie.close
     (tie.spec
-    mul_at
-    slice-write-bytes
-    add-bytes
-    slice-write-bytes-2
-    cast-bytes
-    add-bytes-2
-    slice-write-bytes-3
-    cast-bytes-2
-    add-bytes-3
-    slice-write-bytes-4
-    same_length
+    overflow_mul-at
+    bounds-bytes-at
+    overflow_add-bytes
+    bounds-bytes-at-2
+    overflow_cast-bytes
+    overflow_add-bytes-2
+    bounds-bytes-at-3
+    overflow_cast-bytes-2
+    overflow_add-bytes-3
+    bounds-bytes-at-4
+    shape_of-bytes
     returns)

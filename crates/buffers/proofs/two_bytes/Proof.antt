@@ -4,14 +4,14 @@ use borrow.Author.Rules.{rules}
 use Rattle.buffers.proofs.two_bytes.Statement.{statement}
 use Rattle.buffers.proofs.two_bytes.Tie as tie
 
-mul-result : tie.Need-overflow-mul-result
-mul-result c = search rules
+overflow_mul-result : tie.Need-overflow_mul-result
+overflow_mul-result c = search rules
 
-add-result : tie.Need-overflow-add-result
-add-result c = search rules
+overflow_add-result : tie.Need-overflow_add-result
+overflow_add-result c = search rules
 
 returns : tie.Need-returns
 returns c = refl
 
-pub two-bytes-spec : {M : Type 1} → statement M
-two-bytes-spec = tie.close (tie.spec mul-result add-result returns)
+pub two_bytes_spec : {M : Type 1} → statement M
+two_bytes_spec = tie.close (tie.spec overflow_mul-result overflow_add-result returns)

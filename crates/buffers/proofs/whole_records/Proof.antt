@@ -8,19 +8,19 @@ use Rattle.rules.specs.Bytes.{whole_records}
 use Rattle.buffers.proofs.whole_records.Statement.{statement}
 use Rattle.buffers.proofs.whole_records.Tie as tie
 
-rem-if1 : tie.Need-nonzero-rem-if1
-rem-if1 c = search rules
+nonzero_rem-bytes : tie.Need-nonzero_rem-bytes
+nonzero_rem-bytes c = search rules
+
+returns-then-bytes-width-ne0 : tie.Need-returns-then-bytes-width-ne0
+unfolding whole_records
+returns-then-bytes-width-ne0 c = rw (ne_eqb (length c.before.args.bytes.now % c.before.args.width) 0 c.if-bytes-width-ne0.true) refl
+
+nonzero_div-result : tie.Need-nonzero_div-result
+nonzero_div-result c = search rules
 
 returns : tie.Need-returns
 unfolding whole_records
-returns c = rw (ne_eqb (length c.before.args.bytes.now % c.before.args.width) 0 c.if1.true) refl
+returns c = rw (eq-eqb (length c.before.args.bytes.now % c.before.args.width) 0 c.if-bytes-width-ne0.false) refl
 
-div-result : tie.Need-nonzero-div-result
-div-result c = search rules
-
-returns-2 : tie.Need-returns-2
-unfolding whole_records
-returns-2 c = rw (eq-eqb (length c.before.args.bytes.now % c.before.args.width) 0 c.if1.false) refl
-
-pub whole-records-spec : {M : Type 1} → statement M
-whole-records-spec = tie.close (tie.spec rem-if1 returns div-result returns-2)
+pub whole_records_spec : {M : Type 1} → statement M
+whole_records_spec = tie.close (tie.spec nonzero_rem-bytes returns-then-bytes-width-ne0 nonzero_div-result returns)

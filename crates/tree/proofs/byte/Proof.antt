@@ -6,24 +6,24 @@ use Rattle.tree.specs.Laws.Records.{byte_at, byte_past}
 use Rattle.tree.proofs.byte.Statement.{statement}
 use Rattle.tree.proofs.byte.Tie as tie
 
-mul-result : tie.Need-overflow-mul-result
-mul-result c = search rules
+overflow_mul-result : tie.Need-overflow_mul-result
+overflow_mul-result c = search rules
 
-add-result : tie.Need-overflow-add-result
-add-result c = search rules
+overflow_add-result : tie.Need-overflow_add-result
+overflow_add-result c = search rules
 
-shared-slice-read-result : tie.Need-shared-slice-read-result
-shared-slice-read-result c = search rules
+bounds-tree-i : tie.Need-bounds-tree-i
+bounds-tree-i c = search rules
 
-returns : tie.Need-returns
-returns c =
+returns-then-i-tree : tie.Need-returns-then-i-tree
+returns-then-i-tree c =
     let at = c.before.before in
     sym (byte_at at.args.at at.args.tree.now at.args.i at.requires (omega arith))
 
-returns-2 : tie.Need-returns-2
-returns-2 c =
+returns-else-i-tree : tie.Need-returns-else-i-tree
+returns-else-i-tree c =
     let at = c.before in
     sym (byte_past at.args.at at.args.tree.now at.args.i (omega arith))
 
-pub byte-spec : {M : Type 1} → statement M
-byte-spec = tie.close (tie.spec mul-result add-result shared-slice-read-result returns returns-2)
+pub byte_spec : {M : Type 1} → statement M
+byte_spec = tie.close (tie.spec overflow_mul-result overflow_add-result bounds-tree-i returns-then-i-tree returns-else-i-tree)

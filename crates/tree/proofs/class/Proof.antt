@@ -11,5 +11,5 @@ returns : tie.Need-returns
 unfolding classes class
 returns c = c.byte.ensures
 
-pub class-spec : {M : Type 1} → statement M
-class-spec = tie.close (tie.spec byte-requires returns)
+pub class_spec : {M : Type 1} → statement M
+class_spec = tie.close (tie.spec byte-requires returns)

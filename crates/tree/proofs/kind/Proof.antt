@@ -11,5 +11,5 @@ returns : tie.Need-returns
 unfolding kind_at kinds kind
 returns c = c.byte.ensures
 
-pub kind-spec : {M : Type 1} → statement M
-kind-spec = tie.close (tie.spec byte-requires returns)
+pub kind_spec : {M : Type 1} → statement M
+kind_spec = tie.close (tie.spec byte-requires returns)

@@ -7,5 +7,5 @@ use Rattle.tree.proofs.steps.Tie as tie
 returns : tie.Need-returns
 returns c = sym (length-kinds c.args.tree.now)
 
-pub steps-spec : {M : Type 1} → statement M
-steps-spec = tie.close (tie.spec returns)
+pub steps_spec : {M : Type 1} → statement M
+steps_spec = tie.close (tie.spec returns)

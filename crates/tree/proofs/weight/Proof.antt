@@ -8,20 +8,20 @@ use borrow.Author.Rules.{rules}
 use Rattle.tree.proofs.weight.Statement.{statement}
 use Rattle.tree.proofs.weight.Tie as tie
 
-returns : tie.Need-returns
-returns c = sym (weight_past c.before.before.args.tree.now c.before.before.args.step.0 (omega arith))
+returns-then-tree-i : tie.Need-returns-then-tree-i
+returns-then-tree-i c = sym (weight_past c.before.before.args.tree.now c.before.before.args.step.0 (omega arith))
 
-mul-word : tie.Need-overflow-mul-word
-mul-word c = search rules
+overflow_mul-i : tie.Need-overflow_mul-i
+overflow_mul-i c = search rules
 
-add-word : tie.Need-overflow-add-word
-add-word c = search rules
+overflow_add-i : tie.Need-overflow_add-i
+overflow_add-i c = search rules
 
 word-requires : tie.Need-word-requires
 word-requires c κs = search rules
 
-returns-2 : tie.Need-returns-2
-returns-2 c =
+returns : tie.Need-returns
+returns c =
     let a = c.before.before.before.args in
     let at = 8 * a.step.0 in
     let second : at + 4 + 1 ≡ at + 5 = omega arith in
@@ -29,5 +29,5 @@ returns-2 c =
     let last : at + 4 + 3 ≡ at + 7 = omega arith in
     omega (arith, weight-at a.tree.now a.step.0 (omega arith), rw (second, third, last) at c.word.ensures)
 
-pub weight-spec : {M : Type 1} → statement M
-weight-spec = tie.close (tie.spec returns mul-word add-word word-requires returns-2)
+pub weight_spec : {M : Type 1} → statement M
+weight_spec = tie.close (tie.spec returns-then-tree-i overflow_mul-i overflow_add-i word-requires returns)

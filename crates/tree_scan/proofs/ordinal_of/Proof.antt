@@ -6,12 +6,12 @@ use Rattle.tree_scan.specs.Contract.{task_of}
 use Rattle.tree_scan.proofs.ordinal_of.Statement.{statement}
 use Rattle.tree_scan.proofs.ordinal_of.Tie as tie
 
-task-of-requires : tie.Need-task-of-requires
-task-of-requires c κs = search rules
+task_of-task-requires : tie.Need-task_of-task-requires
+task_of-task-requires c κs = search rules
 
 returns : tie.Need-returns
 unfolding task_of
-returns c = ap (λ (x : Task). x.ordinal.0) c.before.task-of.ensures
+returns c = ap (λ (x : Task). x.ordinal.0) c.before.task_of-task.ensures
 
-pub ordinal-of-spec : {M : Type 1} → statement M
-ordinal-of-spec = tie.close (tie.spec task-of-requires returns)
+pub ordinal_of_spec : {M : Type 1} → statement M
+ordinal_of_spec = tie.close (tie.spec task_of-task-requires returns)

@@ -15,52 +15,52 @@ use Rattle.tree_scan.specs.Laws.Scans.{backward_found, backward_child, backward_
 use Rattle.tree_scan.proofs.task_of.Statement.{statement}
 use Rattle.tree_scan.proofs.task_of.Tie as tie
 
-abbrev invariant-loop : tie.invariant-loop
-invariant-loop tree n i j₀ ended₀ children₀ j ended children = Backward (kinds tree) i j ended children
+abbrev invariant-loop-j : tie.invariant-loop-j
+invariant-loop-j tree n i j₀ ended₀ children₀ j ended children = Backward (kinds tree) i j ended children
 
-abbrev decreases-loop : tie.decreases-loop
-decreases-loop tree n i j₀ ended₀ children₀ j ended children = j
+abbrev decreases-loop-j : tie.decreases-loop-j
+decreases-loop-j tree n i j₀ ended₀ children₀ j ended children = j
 
 -- ---- the places
 
-abbrev entry : tie.At-loop invariant-loop decreases-loop → tie.Start invariant-loop decreases-loop
+abbrev entry : tie.At-loop-j invariant-loop-j decreases-loop-j → tie.Start invariant-loop-j decreases-loop-j
 entry c = c.before.before
 
 -- The scan stands before a record.
-abbrev top : tie.After-row-known invariant-loop decreases-loop → tie.At-loop invariant-loop decreases-loop
+abbrev top : tie.After-row_known-1 invariant-loop-j decreases-loop-j → tie.At-loop-j invariant-loop-j decreases-loop-j
 top c = c.before.before
 
 -- The record is an end, or opens a task.
-abbrev ended : tie.Then2 invariant-loop decreases-loop → tie.After-row-known invariant-loop decreases-loop
+abbrev ended : tie.Then-tree-j-eq-END invariant-loop-j decreases-loop-j → tie.After-row_known-1 invariant-loop-j decreases-loop-j
 ended c = c.before.before
 
-abbrev opened : tie.Else2 invariant-loop decreases-loop → tie.After-row-known invariant-loop decreases-loop
+abbrev opened : tie.Else-tree-j-eq-END invariant-loop-j decreases-loop-j → tie.After-row_known-1 invariant-loop-j decreases-loop-j
 opened c = c.before.before
 
 -- ---- the facts
 
-abbrev ks : tie.At-loop invariant-loop decreases-loop → List ℕ
+abbrev ks : tie.At-loop-j invariant-loop-j decreases-loop-j → List ℕ
 ks c = kinds (entry c).args.tree.now
 
-sized : (c : tie.At-loop invariant-loop decreases-loop) → length (ks c) ≡ length (entry c).args.tree.now / 8
+sized : (c : tie.At-loop-j invariant-loop-j decreases-loop-j) → length (ks c) ≡ length (entry c).args.tree.now / 8
 sized c = length-kinds (entry c).args.tree.now
 
 -- The invariant one record back, with n ends whose openings are still to come.
-back : (c : tie.After-row-known invariant-loop decreases-loop) (n : ℕ) → n ≡ (top c).loop.ended
-    → Backward (ks (top c)) (entry (top c)).args.step.0 ((top c).loop.j - 1 + 1) n (top c).loop.children
+back : (c : tie.After-row_known-1 invariant-loop-j decreases-loop-j) (n : ℕ) → n ≡ (top c).loop-j.ended
+    → Backward (ks (top c)) (entry (top c)).args.step.0 ((top c).loop-j.j - 1 + 1) n (top c).loop-j.children
 back c n e =
-    let loop = (top c).loop in
-    rw e (backward_turn (ks (top c)) _ loop.j loop.ended loop.children loop.inv (omega arith))
+    let loop = (top c).loop-j in
+    rw e (backward_turn (ks (top c)) _ loop.j loop.ended loop.children loop.invariant (omega arith))
 
 -- Its kind, as the slice has it.
-kind-back : (c : tie.After-row-known invariant-loop decreases-loop)
-    → let j = (top c).loop.j - 1 in
+kind-back : (c : tie.After-row_known-1 invariant-loop-j decreases-loop-j)
+    → let j = (top c).loop-j.j - 1 in
     kind_at (ks (top c)) j ≡ get_or (entry (top c)).args.tree.now (8 * j) 0
-kind-back c = kind_at_lem (entry (top c)).args.tree.now ((top c).loop.j - 1) (omega (arith, sized (top c)))
+kind-back c = kind_at_lem (entry (top c)).args.tree.now ((top c).loop-j.j - 1) (omega (arith, sized (top c)))
 
 -- It opens a task.
-opens : (c : tie.Else2 invariant-loop decreases-loop) → kind_at (ks (top (opened c))) ((top (opened c)).loop.j - 1) ≡ 3 → ⊥
-opens c e = c.if2.false (sym (kind-back (opened c)) ∙ e)
+opens : (c : tie.Else-tree-j-eq-END invariant-loop-j decreases-loop-j) → kind_at (ks (top (opened c))) ((top (opened c)).loop-j.j - 1) ≡ 3 → ⊥
+opens c e = c.if-tree-j-eq-END.false (sym (kind-back (opened c)) ∙ e)
 
 -- The answer from its parts.
 answer : (ks : List ℕ) (i f o : ℕ) → task ks i ≡ f → ordinal ks i ≡ o
@@ -70,100 +70,100 @@ answer ks i f o first count = λ k. record { first = record { 0 = sym first k };
 
 -- ---- the needs
 
-loop-holds : tie.Need-loop-init invariant-loop decreases-loop
-loop-holds c =
+loop-j-init : tie.Need-loop-j-init invariant-loop-j decreases-loop-j
+loop-j-init c =
     let a = c.before.args in
     let tree = a.tree.now in
     ⊎_elim
     (λ w. rw w.1 (backward_start (kinds tree) a.step.0 (omega (arith, length-kinds tree))))
     (λ w. rw (w.1, ← length-kinds tree) (backward_start_past (kinds tree) a.step.0 (omega (arith, length-kinds tree, w.0.left))))
-    c.if1.branch
+    c.if-i-n.branch
 
-sub-j : tie.Need-overflow-sub-j invariant-loop decreases-loop
-sub-j c = omega arith
+overflow_sub-j : tie.Need-overflow_sub-j invariant-loop-j decreases-loop-j
+overflow_sub-j c = omega arith
 
-mul-if2 : tie.Need-overflow-mul-if2 invariant-loop decreases-loop
-mul-if2 c = omega (arith, sized (top c))
+overflow_mul-j : tie.Need-overflow_mul-j invariant-loop-j decreases-loop-j
+overflow_mul-j c = omega (arith, sized (top c))
 
-shared-slice-read-if2 : tie.Need-shared-slice-read-if2 invariant-loop decreases-loop
-shared-slice-read-if2 c = omega (arith, sized (top c.before))
+bounds-tree-j : tie.Need-bounds-tree-j invariant-loop-j decreases-loop-j
+bounds-tree-j c = omega (arith, sized (top c.before))
 
-add-ended : tie.Need-overflow-add-ended invariant-loop decreases-loop
-add-ended c = omega (arith, sized (top (ended c)))
+overflow_add-ended : tie.Need-overflow_add-ended invariant-loop-j decreases-loop-j
+overflow_add-ended c = omega (arith, sized (top (ended c)))
 
-loop-less : tie.Need-loop-smaller invariant-loop decreases-loop
-loop-less c = omega arith
+loop-j-smaller-then-tree-j-eq-END : tie.Need-loop-j-smaller-then-tree-j-eq-END invariant-loop-j decreases-loop-j
+loop-j-smaller-then-tree-j-eq-END c = omega arith
 
-loop-again : tie.Need-loop-preserved invariant-loop decreases-loop
-loop-again c =
+loop-j-preserved-then-tree-j-eq-END : tie.Need-loop-j-preserved-then-tree-j-eq-END invariant-loop-j decreases-loop-j
+loop-j-preserved-then-tree-j-eq-END c =
     let at = top (ended c) in
-    backward_end (ks at) _ (at.loop.j - 1) at.loop.ended at.loop.children (back (ended c) _ refl)
-    (kind-back (ended c) ∙ c.if2.true)
+    backward_end (ks at) _ (at.loop-j.j - 1) at.loop-j.ended at.loop-j.children (back (ended c) _ refl)
+    (kind-back (ended c) ∙ c.if-tree-j-eq-END.true)
 
-add-t15 : tie.Need-overflow-add-t15 invariant-loop decreases-loop
-add-t15 c = omega (arith, sized (top (opened c.before)))
+overflow_add-result : tie.Need-overflow_add-result invariant-loop-j decreases-loop-j
+overflow_add-result c = omega (arith, sized (top (opened c.before)))
 
-returns : tie.Need-returns invariant-loop decreases-loop
-returns c =
+returns-then-ended-eq0 : tie.Need-returns-then-ended-eq0 invariant-loop-j decreases-loop-j
+returns-then-ended-eq0 c =
     let at = top (opened c.before) in
-    let loop = at.loop in
-    let none = back (opened c.before) 0 (sym c.if3.true) in
+    let loop = at.loop-j in
+    let none = back (opened c.before) 0 (sym c.if-ended-eq0.true) in
     let found = backward_found (ks at) _ (loop.j - 1) loop.children none (opens c.before) in
     answer (ks at) _ (loop.j - 1 + 1) loop.children found.0 found.1
 
-sub-ended : tie.Need-overflow-sub-ended invariant-loop decreases-loop
-sub-ended c = omega arith
+overflow_sub-ended : tie.Need-overflow_sub-ended invariant-loop-j decreases-loop-j
+overflow_sub-ended c = omega arith
 
-add-children : tie.Need-overflow-add-children invariant-loop decreases-loop
-add-children c = omega (arith, sized (top (opened c.before.before)))
+overflow_add-children : tie.Need-overflow_add-children invariant-loop-j decreases-loop-j
+overflow_add-children c = omega (arith, sized (top (opened c.before.before)))
 
-loop-less-2 : tie.Need-loop-smaller-2 invariant-loop decreases-loop
-loop-less-2 c = omega arith
+loop-j-smaller-then-ended-eq0-2 : tie.Need-loop-j-smaller-then-ended-eq0-2 invariant-loop-j decreases-loop-j
+loop-j-smaller-then-ended-eq0-2 c = omega arith
 
-loop-again-2 : tie.Need-loop-preserved-2 invariant-loop decreases-loop
-loop-again-2 c =
+loop-j-preserved-then-ended-eq0-2 : tie.Need-loop-j-preserved-then-ended-eq0-2 invariant-loop-j decreases-loop-j
+loop-j-preserved-then-ended-eq0-2 c =
     let step = c.before.before in
     let at = top (opened step) in
-    let none : at.loop.ended - 1 ≡ 0 = omega arith in
-    rw none (backward_child (ks at) _ (at.loop.j - 1) at.loop.children (back (opened step) 1 (omega arith)) (opens step))
+    let none : at.loop-j.ended - 1 ≡ 0 = omega arith in
+    rw none (backward_child (ks at) _ (at.loop-j.j - 1) at.loop-j.children (back (opened step) 1 (omega arith)) (opens step))
 
-loop-less-3 : tie.Need-loop-smaller-3 invariant-loop decreases-loop
-loop-less-3 c = omega arith
+loop-j-smaller : tie.Need-loop-j-smaller invariant-loop-j decreases-loop-j
+loop-j-smaller c = omega arith
 
-loop-again-3 : tie.Need-loop-preserved-3 invariant-loop decreases-loop
-loop-again-3 c =
+loop-j-preserved : tie.Need-loop-j-preserved invariant-loop-j decreases-loop-j
+loop-j-preserved c =
     let step = c.before.before in
     let at = top (opened step) in
-    let loop = at.loop in
+    let loop = at.loop-j in
     let some = back (opened step) (loop.ended - 1 + 1) (omega arith) in
     backward_inner (ks at) _ (loop.j - 1) (loop.ended - 1) loop.children some (omega arith) (opens step)
 
-returns-2 : tie.Need-returns-2 invariant-loop decreases-loop
-returns-2 c =
-    let loop = c.before.loop in
+returns : tie.Need-returns invariant-loop-j decreases-loop-j
+returns c =
+    let loop = c.before.loop-j in
     let start : loop.j ≡ 0 = omega arith in
     let found = backward_done (ks c.before) _ loop.ended loop.children (rw start at loop.invariant) in
     answer (ks c.before) _ 0 loop.children found.0 found.1
 
-pub task-of-spec : {M : Type 1} → statement M
-task-of-spec =
+pub task_of_spec : {M : Type 1} → statement M
+task_of_spec =
     tie.close
     (tie.spec
-    invariant-loop
-    decreases-loop
-    loop-holds
-    sub-j
-    mul-if2
-    shared-slice-read-if2
-    add-ended
-    loop-less
-    loop-again
-    add-t15
-    returns
-    sub-ended
-    add-children
-    loop-less-2
-    loop-again-2
-    loop-less-3
-    loop-again-3
-    returns-2)
+    invariant-loop-j
+    decreases-loop-j
+    loop-j-init
+    overflow_sub-j
+    overflow_mul-j
+    bounds-tree-j
+    overflow_add-ended
+    loop-j-smaller-then-tree-j-eq-END
+    loop-j-preserved-then-tree-j-eq-END
+    overflow_add-result
+    returns-then-ended-eq0
+    overflow_sub-ended
+    overflow_add-children
+    loop-j-smaller-then-ended-eq0-2
+    loop-j-preserved-then-ended-eq0-2
+    loop-j-smaller
+    loop-j-preserved
+    returns)

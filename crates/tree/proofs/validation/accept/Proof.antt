@@ -16,136 +16,136 @@ use Rattle.tree.specs.Laws.Acceptance.{answered-accepted}
 use Rattle.tree.proofs.validation.accept.Statement.{statement}
 use Rattle.tree.proofs.validation.accept.Tie as tie
 
-abbrev invariant-loop : tie.invariant-loop
-invariant-loop tree n i₀ depth₀ i depth = Walking tree i depth
+abbrev invariant-loop-i : tie.invariant-loop-i
+invariant-loop-i tree n i₀ depth₀ i depth = Walking tree i depth
 
-abbrev decreases-loop : tie.decreases-loop
-decreases-loop tree n i₀ depth₀ i depth = n - i
+abbrev decreases-loop-i : tie.decreases-loop-i
+decreases-loop-i tree n i₀ depth₀ i depth = n - i
 
 -- ---- the places
 
-abbrev entry : tie.Else1 invariant-loop decreases-loop → tie.Start invariant-loop decreases-loop
+abbrev entry : tie.Else-wrong_length invariant-loop-i decreases-loop-i → tie.Start invariant-loop-i decreases-loop-i
 entry c = c.before.before.before
 
-abbrev tree : tie.At-loop invariant-loop decreases-loop → List ℕ
+abbrev tree : tie.At-loop-i invariant-loop-i decreases-loop-i → List ℕ
 tree c = (entry c.before).args.tree.now
 
 -- A record has been judged.
-abbrev top : tie.After-judge-record invariant-loop decreases-loop → tie.At-loop invariant-loop decreases-loop
+abbrev top : tie.After-judge_record-number invariant-loop-i decreases-loop-i → tie.At-loop-i invariant-loop-i decreases-loop-i
 top c = c.before.before
 
 -- It is not refused, and its kind is read.
-abbrev judged : tie.After-shared-slice-known2 invariant-loop decreases-loop → tie.After-judge-record invariant-loop decreases-loop
+abbrev judged : tie.After-shared_slice_known-in-loop-i-1 invariant-loop-i decreases-loop-i → tie.After-judge_record-number invariant-loop-i decreases-loop-i
 judged c = c.before.before
 
 -- ---- the facts
 
 -- The length is right.
-whole : (c : tie.Else1 invariant-loop decreases-loop) → wrong_length (entry c).args.tree.now ≡ false
-whole c = sym c.before.wrong-length.ensures ∙ c.if1.false
+whole : (c : tie.Else-wrong_length invariant-loop-i decreases-loop-i) → wrong_length (entry c).args.tree.now ≡ false
+whole c = sym c.before.wrong_length.ensures ∙ c.if-wrong_length.false
 
 -- The record is not refused.
-fine : (c : tie.After-shared-slice-known2 invariant-loop decreases-loop)
+fine : (c : tie.After-shared_slice_known-in-loop-i-1 invariant-loop-i decreases-loop-i)
     → let at = top (judged c) in
-    judge_tree_record at.loop.depth (get_or (tree_records (tree at)) at.loop.i []) ≡ 0
-fine c = sym (judged c).judge-record.ensures ∙ c.before.if2.false
+    judge_tree_record at.loop-i.depth (get_or (tree_records (tree at)) at.loop-i.i []) ≡ 0
+fine c = sym (judged c).judge_record-number.ensures ∙ c.before.if-number-ne0.false
 
 -- An end closes a task.
-closes : (c : tie.Then3 invariant-loop decreases-loop)
+closes : (c : tie.Then-k-eq-END invariant-loop-i decreases-loop-i)
     → let at = top (judged c.before) in
-    (0 < at.loop.depth) × Walking (tree at) (at.loop.i + 1) (at.loop.depth - 1)
+    (0 < at.loop-i.depth) × Walking (tree at) (at.loop-i.i + 1) (at.loop-i.depth - 1)
 closes c =
     let at = top (judged c.before) in
-    walking-end (tree at) _ _ at.loop.inv (omega (arith, length-kinds (tree at))) (fine c.before) c.if3.true
+    walking-end (tree at) _ _ at.loop-i.invariant (omega (arith, length-kinds (tree at))) (fine c.before) c.if-k-eq-END.true
 
 -- ---- the needs
 
-wrong-length-requires : tie.Need-wrong-length-requires invariant-loop decreases-loop
-wrong-length-requires c κs = search rules
+wrong_length-requires : tie.Need-wrong_length-requires invariant-loop-i decreases-loop-i
+wrong_length-requires c κs = search rules
 
-returns : tie.Need-returns invariant-loop decreases-loop
-returns c =
+returns-then-wrong_length : tie.Need-returns-then-wrong_length invariant-loop-i decreases-loop-i
+returns-then-wrong_length c =
     let bytes = c.before.before.before.args.tree.now in
     answered-refused bytes (record { number = 2; position = 0 })
-    (verdict_wrong bytes (sym c.before.wrong-length.ensures ∙ c.if1.true)) (λ e. absurd (omega arith))
+    (verdict_wrong bytes (sym c.before.wrong_length.ensures ∙ c.if-wrong_length.true)) (λ e. absurd (omega arith))
 
-loop-holds : tie.Need-loop-init invariant-loop decreases-loop
-loop-holds c = walking_start (entry c).args.tree.now
+loop-i-init : tie.Need-loop-i-init invariant-loop-i decreases-loop-i
+loop-i-init c = walking_start (entry c).args.tree.now
 
-judge-record-requires : tie.Need-judge-record-requires invariant-loop decreases-loop
-judge-record-requires c κs = omega (arith, length-kinds (tree c.before))
+judge_record-number-requires : tie.Need-judge_record-number-requires invariant-loop-i decreases-loop-i
+judge_record-number-requires c κs = omega (arith, length-kinds (tree c.before))
 
-returns-2 : tie.Need-returns-2 invariant-loop decreases-loop
-returns-2 c =
+returns-then-number-ne0 : tie.Need-returns-then-number-ne0 invariant-loop-i decreases-loop-i
+returns-then-number-ne0 c =
     let at = top c.before in
-    let loop = at.loop in
-    let same = c.before.judge-record.ensures in
-    let stop = walking-stop (tree at) _ _ loop.inv (omega (arith, length-kinds (tree at))) (λ e. c.if2.true (same ∙ e)) in
+    let loop = at.loop-i in
+    let same = c.before.judge_record-number.ensures in
+    let stop = walking-stop (tree at) _ _ loop.invariant (omega (arith, length-kinds (tree at))) (λ e. c.if-number-ne0.true (same ∙ e)) in
     let here = ap {B = Verdict} (λ (x : ℕ). record { number = x; position = loop.i }) (sym same) in
-    let verdict : Verdict = record { number = c.before.judge-record.result; position = loop.i } in
-    answered-refused (tree at) verdict (verdict_stop (tree at) (whole at.before) verdict (stop ∙ here) c.if2.true) c.if2.true
+    let verdict : Verdict = record { number = c.before.judge_record-number.result; position = loop.i } in
+    answered-refused (tree at) verdict (verdict_stop (tree at) (whole at.before) verdict (stop ∙ here) c.if-number-ne0.true) c.if-number-ne0.true
 
-mul-k : tie.Need-overflow-mul-k invariant-loop decreases-loop
-mul-k c = omega arith
+overflow_mul-k : tie.Need-overflow_mul-k invariant-loop-i decreases-loop-i
+overflow_mul-k c = omega arith
 
-shared-slice-read-k : tie.Need-shared-slice-read-k invariant-loop decreases-loop
-shared-slice-read-k c = omega arith
+bounds-tree-i : tie.Need-bounds-tree-i invariant-loop-i decreases-loop-i
+bounds-tree-i c = omega arith
 
-add-i : tie.Need-overflow-add-i invariant-loop decreases-loop
-add-i c = omega arith
+overflow_add-i : tie.Need-overflow_add-i invariant-loop-i decreases-loop-i
+overflow_add-i c = omega arith
 
-sub-depth : tie.Need-overflow-sub-depth invariant-loop decreases-loop
-sub-depth c = (closes c).0
+overflow_sub-depth : tie.Need-overflow_sub-depth invariant-loop-i decreases-loop-i
+overflow_sub-depth c = (closes c).0
 
-loop-less : tie.Need-loop-smaller invariant-loop decreases-loop
-loop-less c = omega arith
+loop-i-smaller-then-k-eq-END : tie.Need-loop-i-smaller-then-k-eq-END invariant-loop-i decreases-loop-i
+loop-i-smaller-then-k-eq-END c = omega arith
 
-loop-again : tie.Need-loop-preserved invariant-loop decreases-loop
-loop-again c = (closes c).1
+loop-i-preserved-then-k-eq-END : tie.Need-loop-i-preserved-then-k-eq-END invariant-loop-i decreases-loop-i
+loop-i-preserved-then-k-eq-END c = (closes c).1
 
-add-depth : tie.Need-overflow-add-depth invariant-loop decreases-loop
-add-depth c = omega arith
+overflow_add-depth : tie.Need-overflow_add-depth invariant-loop-i decreases-loop-i
+overflow_add-depth c = omega arith
 
-loop-less-2 : tie.Need-loop-smaller-2 invariant-loop decreases-loop
-loop-less-2 c = omega arith
+loop-i-smaller : tie.Need-loop-i-smaller invariant-loop-i decreases-loop-i
+loop-i-smaller c = omega arith
 
-loop-again-2 : tie.Need-loop-preserved-2 invariant-loop decreases-loop
-loop-again-2 c =
+loop-i-preserved : tie.Need-loop-i-preserved invariant-loop-i decreases-loop-i
+loop-i-preserved c =
     let at = top (judged c.before) in
-    walking-open (tree at) _ _ at.loop.inv (omega (arith, length-kinds (tree at))) (fine c.before) c.if3.false
+    walking-open (tree at) _ _ at.loop-i.invariant (omega (arith, length-kinds (tree at))) (fine c.before) c.if-k-eq-END.false
 
-returns-3 : tie.Need-returns-3 invariant-loop decreases-loop
-returns-3 c =
+returns-then-depth-ne0 : tie.Need-returns-then-depth-ne0 invariant-loop-i decreases-loop-i
+returns-then-depth-ne0 c =
     let at = c.before.before in
-    let done = walking-done (tree at) _ _ at.loop.invariant (omega (arith, length-kinds (tree at))) in
+    let done = walking-done (tree at) _ _ at.loop-i.invariant (omega (arith, length-kinds (tree at))) in
     answered-refused (tree at) (record { number = 5; position = length (tree at) / 8 })
-    (verdict_open (tree at) (whole at.before) done.0 (λ e. c.if4.true (sym done.1 ∙ e))) (λ e. absurd (omega arith))
+    (verdict_open (tree at) (whole at.before) done.0 (λ e. c.if-depth-ne0.true (sym done.1 ∙ e))) (λ e. absurd (omega arith))
 
-returns-4 : tie.Need-returns-4 invariant-loop decreases-loop
-returns-4 c =
+returns : tie.Need-returns invariant-loop-i decreases-loop-i
+returns c =
     let at = c.before.before in
-    let done = walking-done (tree at) _ _ at.loop.invariant (omega (arith, length-kinds (tree at))) in
-    answered-accepted (tree at) (verdict_accepted (tree at) (whole at.before) done.0 (done.1 ∙ c.if4.false))
+    let done = walking-done (tree at) _ _ at.loop-i.invariant (omega (arith, length-kinds (tree at))) in
+    answered-accepted (tree at) (verdict_accepted (tree at) (whole at.before) done.0 (done.1 ∙ c.if-depth-ne0.false))
 
-pub accept-spec : {M : Type 1} → statement M
-accept-spec =
+pub accept_spec : {M : Type 1} → statement M
+accept_spec =
     tie.close
     (tie.spec
-    invariant-loop
-    decreases-loop
-    wrong-length-requires
-    returns
-    loop-holds
-    judge-record-requires
-    returns-2
-    mul-k
-    shared-slice-read-k
-    add-i
-    sub-depth
-    loop-less
-    loop-again
-    add-depth
-    loop-less-2
-    loop-again-2
-    returns-3
-    returns-4)
+    invariant-loop-i
+    decreases-loop-i
+    wrong_length-requires
+    returns-then-wrong_length
+    loop-i-init
+    judge_record-number-requires
+    returns-then-number-ne0
+    overflow_mul-k
+    bounds-tree-i
+    overflow_add-i
+    overflow_sub-depth
+    loop-i-smaller-then-k-eq-END
+    loop-i-preserved-then-k-eq-END
+    overflow_add-depth
+    loop-i-smaller
+    loop-i-preserved
+    returns-then-depth-ne0
+    returns)

@@ -19,62 +19,62 @@ abbrev recordAt : List ℕ → ℕ → List ℕ
 recordAt tree i = get_or (tree_records tree) i []
 
 -- The record is well formed.
-formed-here : (c : tie.Else1) → let a = c.before.before.before.args in well_formed (recordAt a.tree.now a.i) ≡ true
-formed-here c = sym c.before.well-formed-2.ensures ∙ not-false _ c.if1.false
+formed-here : (c : tie.Else-not-well_formed) → let a = c.before.before.before.args in well_formed (recordAt a.tree.now a.i) ≡ true
+formed-here c = sym c.before.well_formed-2.ensures ∙ c.if-not-well_formed.false
 
-well-formed-requires : tie.Need-well-formed-requires
-well-formed-requires c κs = search rules
+well_formed-requires : tie.Need-well_formed-requires
+well_formed-requires c κs = search rules
+
+returns-then-not-well_formed : tie.Need-returns-then-not-well_formed
+returns-then-not-well_formed c =
+    let a = c.before.before.before.args in
+    let malformed = sym c.before.well_formed-2.ensures ∙ c.if-not-well_formed.true in
+    sym (judge_malformed a.depth (recordAt a.tree.now a.i) malformed)
+
+overflow_mul-i : tie.Need-overflow_mul-i
+overflow_mul-i c = omega (arith, length-kinds c.before.before.before.before.args.tree.now)
+
+bounds-tree-i : tie.Need-bounds-tree-i
+bounds-tree-i c = omega (arith, length-kinds c.before.before.before.before.before.args.tree.now)
+
+returns-then-tree-i-eq-END : tie.Need-returns-then-tree-i-eq-END
+returns-then-tree-i-eq-END c =
+    let at = c.before.before.before.before.before.before in
+    let a = at.args in
+    let formed = formed-here c.before.before.before in
+    let full = c.before.before.if-depth-eq-MOST_OPEN.true in
+    let kind = record_kind a.tree.now a.i at.requires in
+    sym (judge_last_end a.depth (recordAt a.tree.now a.i) formed full (kind ∙ c.if-tree-i-eq-END.true))
+
+returns-then-depth-eq-MOST_OPEN : tie.Need-returns-then-depth-eq-MOST_OPEN
+returns-then-depth-eq-MOST_OPEN c =
+    let at = c.before.before.before.before.before.before in
+    let a = at.args in
+    let formed = formed-here c.before.before.before in
+    let full = c.before.before.if-depth-eq-MOST_OPEN.true in
+    let kind = record_kind a.tree.now a.i at.requires in
+    sym (judge_full a.depth (recordAt a.tree.now a.i) formed full (λ e. c.if-tree-i-eq-END.false (sym kind ∙ e)))
+
+returns-then-depth-eq0 : tie.Need-returns-then-depth-eq0
+returns-then-depth-eq0 c =
+    let a = c.before.before.before.before.before.args in
+    sym (judge_after a.depth (recordAt a.tree.now a.i) (formed-here c.before.before) c.if-depth-eq0.true)
 
 returns : tie.Need-returns
 returns c =
-    let a = c.before.before.before.args in
-    let malformed = sym c.before.well-formed-2.ensures ∙ not-true _ c.if1.true in
-    sym (judge_malformed a.depth (recordAt a.tree.now a.i) malformed)
-
-mul-if3 : tie.Need-overflow-mul-if3
-mul-if3 c = omega (arith, length-kinds c.before.before.before.before.args.tree.now)
-
-shared-slice-read-if3 : tie.Need-shared-slice-read-if3
-shared-slice-read-if3 c = omega (arith, length-kinds c.before.before.before.before.before.args.tree.now)
-
-returns-2 : tie.Need-returns-2
-returns-2 c =
-    let at = c.before.before.before.before.before.before in
-    let a = at.args in
-    let formed = formed-here c.before.before.before in
-    let full = c.before.before.if2.true in
-    let kind = record_kind a.tree.now a.i at.requires in
-    sym (judge_last_end a.depth (recordAt a.tree.now a.i) formed full (kind ∙ c.if3.true))
-
-returns-3 : tie.Need-returns-3
-returns-3 c =
-    let at = c.before.before.before.before.before.before in
-    let a = at.args in
-    let formed = formed-here c.before.before.before in
-    let full = c.before.before.if2.true in
-    let kind = record_kind a.tree.now a.i at.requires in
-    sym (judge_full a.depth (recordAt a.tree.now a.i) formed full (λ e. c.if3.false (sym kind ∙ e)))
-
-returns-4 : tie.Need-returns-4
-returns-4 c =
-    let a = c.before.before.before.before.before.args in
-    sym (judge_after a.depth (recordAt a.tree.now a.i) (formed-here c.before.before) c.if4.true)
-
-returns-5 : tie.Need-returns-5
-returns-5 c =
     let a = c.before.before.before.before.before.args in
     let formed = formed-here c.before.before in
-    sym (judge_fine a.depth (recordAt a.tree.now a.i) formed c.before.if2.false c.if4.false)
+    sym (judge_fine a.depth (recordAt a.tree.now a.i) formed c.before.if-depth-eq-MOST_OPEN.false c.if-depth-eq0.false)
 
-pub judge-record-spec : {M : Type 1} → statement M
-judge-record-spec =
+pub judge_record_spec : {M : Type 1} → statement M
+judge_record_spec =
     tie.close
     (tie.spec
-    well-formed-requires
-    returns
-    mul-if3
-    shared-slice-read-if3
-    returns-2
-    returns-3
-    returns-4
-    returns-5)
+    well_formed-requires
+    returns-then-not-well_formed
+    overflow_mul-i
+    bounds-tree-i
+    returns-then-tree-i-eq-END
+    returns-then-depth-eq-MOST_OPEN
+    returns-then-depth-eq0
+    returns)

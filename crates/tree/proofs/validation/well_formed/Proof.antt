@@ -7,34 +7,34 @@ use Rattle.tree.specs.Laws.Acceptance.{formed_other, head-below, well_formed-at}
 use Rattle.tree.proofs.validation.well_formed.Statement.{statement}
 use Rattle.tree.proofs.validation.well_formed.Tie as tie
 
-mul-kind : tie.Need-overflow-mul-kind
-mul-kind c = omega (arith, length-kinds c.before.args.tree.now)
+overflow_mul-kind : tie.Need-overflow_mul-kind
+overflow_mul-kind c = omega (arith, length-kinds c.before.args.tree.now)
 
-shared-slice-read-kind : tie.Need-shared-slice-read-kind
-shared-slice-read-kind c = omega (arith, length-kinds c.before.before.args.tree.now)
+bounds-tree-i : tie.Need-bounds-tree-i
+bounds-tree-i c = omega (arith, length-kinds c.before.before.args.tree.now)
 
-returns : tie.Need-returns
-returns c =
+returns-then-kind-lt-ASYNC : tie.Need-returns-then-kind-lt-ASYNC
+returns-then-kind-lt-ASYNC c =
     let at = c.before.before.before in
     sym (well_formed-at at.args.tree.now at.args.i at.requires ∙ formed_other _ _ _ _ (λ j l u e. absurd (omega arith)))
 
-returns-2 : tie.Need-returns-2
-returns-2 c =
+returns-then-kind-gt-END : tie.Need-returns-then-kind-gt-END
+returns-then-kind-gt-END c =
     let at = c.before.before.before.before in
     sym (well_formed-at at.args.tree.now at.args.i at.requires ∙ formed_other _ _ _ _ (λ j l u e. absurd (omega arith)))
 
-mul-word : tie.Need-overflow-mul-word
-mul-word c = omega (arith, length-kinds c.before.before.before.before.args.tree.now)
+overflow_mul-i : tie.Need-overflow_mul-i
+overflow_mul-i c = omega (arith, length-kinds c.before.before.before.before.args.tree.now)
 
 word-requires : tie.Need-word-requires
 word-requires c κs = omega (arith, length-kinds c.before.before.before.before.args.tree.now)
 
-returns-3 : tie.Need-returns-3
-returns-3 c =
+returns : tie.Need-returns
+returns c =
     let at = c.before.before.before.before.before in
     head-below _ _ _ _ _ c.word.ensures (omega arith) (omega arith) ∙ sym (well_formed-at at.args.tree.now at.args.i at.requires)
 
-pub well-formed-spec : {M : Type 1} → statement M
-well-formed-spec =
+pub well_formed_spec : {M : Type 1} → statement M
+well_formed_spec =
     tie.close
-    (tie.spec mul-kind shared-slice-read-kind returns returns-2 mul-word word-requires returns-3)
+    (tie.spec overflow_mul-kind bounds-tree-i returns-then-kind-lt-ASYNC returns-then-kind-gt-END overflow_mul-i word-requires returns)

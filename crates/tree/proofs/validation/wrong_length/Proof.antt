@@ -5,19 +5,19 @@ use Rattle.tree.specs.Laws.Acceptance.{wrong_empty, wrong_part, wrong_long, righ
 use Rattle.tree.proofs.validation.wrong_length.Statement.{statement}
 use Rattle.tree.proofs.validation.wrong_length.Tie as tie
 
+returns-then-n-eq0 : tie.Need-returns-then-n-eq0
+returns-then-n-eq0 c = sym (wrong_empty c.before.args.tree.now c.if-n-eq0.true)
+
+returns-then-tree-ne0 : tie.Need-returns-then-tree-ne0
+returns-then-tree-ne0 c = sym (wrong_part c.before.before.args.tree.now c.if-tree-ne0.true)
+
+returns-then-n-gt-MOST_STEPS : tie.Need-returns-then-n-gt-MOST_STEPS
+returns-then-n-gt-MOST_STEPS c = sym (wrong_long c.before.before.before.args.tree.now c.if-n-gt-MOST_STEPS.true)
+
 returns : tie.Need-returns
-returns c = sym (wrong_empty c.before.args.tree.now c.if1.true)
-
-returns-2 : tie.Need-returns-2
-returns-2 c = sym (wrong_part c.before.before.args.tree.now c.if2.true)
-
-returns-3 : tie.Need-returns-3
-returns-3 c = sym (wrong_long c.before.before.before.args.tree.now c.if3.true)
-
-returns-4 : tie.Need-returns-4
-returns-4 c =
+returns c =
     let tree = c.before.before.before.args.tree.now in
-    sym (right-length tree c.before.before.if1.false c.before.if2.false c.if3.false)
+    sym (right-length tree c.before.before.if-n-eq0.false c.before.if-tree-ne0.false c.if-n-gt-MOST_STEPS.false)
 
-pub wrong-length-spec : {M : Type 1} → statement M
-wrong-length-spec = tie.close (tie.spec returns returns-2 returns-3 returns-4)
+pub wrong_length_spec : {M : Type 1} → statement M
+wrong_length_spec = tie.close (tie.spec returns-then-n-eq0 returns-then-tree-ne0 returns-then-n-gt-MOST_STEPS returns)

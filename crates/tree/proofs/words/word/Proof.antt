@@ -5,63 +5,63 @@ use borrow.Author.Rules.{rules}
 use Rattle.tree.proofs.words.word.Statement.{statement}
 use Rattle.tree.proofs.words.word.Tie as tie
 
-shared-slice-read-two-bytes : tie.Need-shared-slice-read-two-bytes
-shared-slice-read-two-bytes c = search rules
+bounds-bytes-at : tie.Need-bounds-bytes-at
+bounds-bytes-at c = search rules
 
-add-two-bytes : tie.Need-overflow-add-two-bytes
-add-two-bytes c = search rules
+overflow_add-at : tie.Need-overflow_add-at
+overflow_add-at c = search rules
 
-shared-slice-read-two-bytes-2 : tie.Need-shared-slice-read-two-bytes-2
-shared-slice-read-two-bytes-2 c = search rules
+bounds-bytes-at-2 : tie.Need-bounds-bytes-at-2
+bounds-bytes-at-2 c = search rules
 
-two-bytes-requires : tie.Need-two-bytes-requires
-two-bytes-requires c κs = search rules
+two_bytes-low-requires : tie.Need-two_bytes-low-requires
+two_bytes-low-requires c κs = search rules
 
-add-two-bytes-2 : tie.Need-overflow-add-two-bytes-2
-add-two-bytes-2 c = search rules
+overflow_add-at-2 : tie.Need-overflow_add-at-2
+overflow_add-at-2 c = search rules
 
-shared-slice-read-two-bytes-3 : tie.Need-shared-slice-read-two-bytes-3
-shared-slice-read-two-bytes-3 c = search rules
+bounds-bytes-at-3 : tie.Need-bounds-bytes-at-3
+bounds-bytes-at-3 c = search rules
 
-add-two-bytes-3 : tie.Need-overflow-add-two-bytes-3
-add-two-bytes-3 c = search rules
+overflow_add-at-3 : tie.Need-overflow_add-at-3
+overflow_add-at-3 c = search rules
 
-shared-slice-read-two-bytes-4 : tie.Need-shared-slice-read-two-bytes-4
-shared-slice-read-two-bytes-4 c = search rules
+bounds-bytes-at-4 : tie.Need-bounds-bytes-at-4
+bounds-bytes-at-4 c = search rules
 
-two-bytes-requires-2 : tie.Need-two-bytes-requires-2
-two-bytes-requires-2 c κs = search rules
+two_bytes-high-requires : tie.Need-two_bytes-high-requires
+two_bytes-high-requires c κs = search rules
 
-cast-result : tie.Need-overflow-cast-result
-cast-result c = search rules
+overflow_cast-result : tie.Need-overflow_cast-result
+overflow_cast-result c = search rules
 
-cast-result-2 : tie.Need-overflow-cast-result-2
-cast-result-2 c = search rules
+overflow_cast-result-2 : tie.Need-overflow_cast-result-2
+overflow_cast-result-2 c = search rules
 
-mul-result : tie.Need-overflow-mul-result
-mul-result c = search rules
+overflow_mul-result : tie.Need-overflow_mul-result
+overflow_mul-result c = search rules
 
-add-result : tie.Need-overflow-add-result
-add-result c = search rules
+overflow_add-result : tie.Need-overflow_add-result
+overflow_add-result c = search rules
 
 returns : tie.Need-returns
-returns c = omega (arith, c.before.before.before.two_bytes.ensures, c.two-bytes2.ensures)
+returns c = omega (arith, c.before.before.before.two_bytes-low.ensures, c.two_bytes-high.ensures)
 
-pub word-spec : {M : Type 1} → statement M
-word-spec =
+pub word_spec : {M : Type 1} → statement M
+word_spec =
     tie.close
     (tie.spec
-    shared-slice-read-two-bytes
-    add-two-bytes
-    shared-slice-read-two-bytes-2
-    two-bytes-requires
-    add-two-bytes-2
-    shared-slice-read-two-bytes-3
-    add-two-bytes-3
-    shared-slice-read-two-bytes-4
-    two-bytes-requires-2
-    cast-result
-    cast-result-2
-    mul-result
-    add-result
+    bounds-bytes-at
+    overflow_add-at
+    bounds-bytes-at-2
+    two_bytes-low-requires
+    overflow_add-at-2
+    bounds-bytes-at-3
+    overflow_add-at-3
+    bounds-bytes-at-4
+    two_bytes-high-requires
+    overflow_cast-result
+    overflow_cast-result-2
+    overflow_mul-result
+    overflow_add-result
     returns)

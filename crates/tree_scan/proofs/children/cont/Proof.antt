@@ -10,97 +10,97 @@ use Rattle.tree_scan.specs.Laws.Scans.{cont_past}
 use Rattle.tree_scan.proofs.children.cont.Statement.{statement}
 use Rattle.tree_scan.proofs.children.cont.Tie as tie
 
-abbrev invariant-loop : tie.invariant-loop
-invariant-loop tree n i j₀ left₀ j left = Forward (kinds tree) i j left
+abbrev invariant-loop-left : tie.invariant-loop-left
+invariant-loop-left tree n i j₀ left₀ j left = Forward (kinds tree) i j left
 
-abbrev decreases-loop : tie.decreases-loop
-decreases-loop tree n i j₀ left₀ j left = n - j
+abbrev decreases-loop-left : tie.decreases-loop-left
+decreases-loop-left tree n i j₀ left₀ j left = n - j
 
-returns : tie.Need-returns invariant-loop decreases-loop
-returns c =
+returns-then-n-i : tie.Need-returns-then-n-i invariant-loop-left decreases-loop-left
+returns-then-n-i c =
     let a = c.before.args in
     let ks = kinds a.tree.now in
     omega (arith, length-kinds a.tree.now, cont_past ks a.step.0 (omega (arith, length-kinds a.tree.now)))
 
-add-j : tie.Need-overflow-add-j invariant-loop decreases-loop
-add-j c = omega arith
+overflow_add-j : tie.Need-overflow_add-j invariant-loop-left decreases-loop-left
+overflow_add-j c = omega arith
 
-loop-holds : tie.Need-loop-init invariant-loop decreases-loop
-loop-holds c =
+loop-left-init : tie.Need-loop-left-init invariant-loop-left decreases-loop-left
+loop-left-init c =
     let a = c.before.args in
     let ks = kinds a.tree.now in
     forward_start ks a.step.0 (omega (arith, length-kinds a.tree.now))
 
-returns-2 : tie.Need-returns-2 invariant-loop decreases-loop
-returns-2 c =
+returns-then-n-j : tie.Need-returns-then-n-j invariant-loop-left decreases-loop-left
+returns-then-n-j c =
     let a = c.before.before.before.before.args in
     let tree = a.tree.now in
-    let loop = c.before.before.loop in
+    let loop = c.before.before.loop-left in
     let past = forward_past (kinds tree) a.step.0 loop.j loop.left loop.invariant (omega (arith, length-kinds tree)) in
     omega (arith, length-kinds tree, past)
 
-mul-k : tie.Need-overflow-mul-k invariant-loop decreases-loop
-mul-k c = omega arith
+overflow_mul-k : tie.Need-overflow_mul-k invariant-loop-left decreases-loop-left
+overflow_mul-k c = omega arith
 
-shared-slice-read-k : tie.Need-shared-slice-read-k invariant-loop decreases-loop
-shared-slice-read-k c = omega arith
+bounds-tree-j : tie.Need-bounds-tree-j invariant-loop-left decreases-loop-left
+bounds-tree-j c = omega arith
 
-add-j-2 : tie.Need-overflow-add-j-2 invariant-loop decreases-loop
-add-j-2 c = omega arith
+overflow_add-j-in-loop-left : tie.Need-overflow_add-j-in-loop-left invariant-loop-left decreases-loop-left
+overflow_add-j-in-loop-left c = omega arith
 
-sub-left : tie.Need-overflow-sub-left invariant-loop decreases-loop
-sub-left c = omega arith
+overflow_sub-left : tie.Need-overflow_sub-left invariant-loop-left decreases-loop-left
+overflow_sub-left c = omega arith
 
-loop-less : tie.Need-loop-smaller invariant-loop decreases-loop
-loop-less c = omega arith
+loop-left-smaller-then-k-eq-END : tie.Need-loop-left-smaller-then-k-eq-END invariant-loop-left decreases-loop-left
+loop-left-smaller-then-k-eq-END c = omega arith
 
-loop-again : tie.Need-loop-preserved invariant-loop decreases-loop
-loop-again c =
+loop-left-preserved-then-k-eq-END : tie.Need-loop-left-preserved-then-k-eq-END invariant-loop-left decreases-loop-left
+loop-left-preserved-then-k-eq-END c =
     let a = c.before.before.before.before.before.before.args in
     let tree = a.tree.now in
-    let loop = c.before.before.before.before.loop in
+    let loop = c.before.before.before.before.loop-left in
     forward_end (kinds tree) a.step.0 loop.j loop.left loop.invariant (omega (arith, length-kinds tree)) (omega arith)
-    (kind_at_lem tree loop.j (omega arith) ∙ c.if3.true)
+    (kind_at_lem tree loop.j (omega arith) ∙ c.if-k-eq-END.true)
 
-add_left : tie.Need-overflow-add-left invariant-loop decreases-loop
-add_left c = omega arith
+overflow_add-left : tie.Need-overflow_add-left invariant-loop-left decreases-loop-left
+overflow_add-left c = omega arith
 
-loop-less-2 : tie.Need-loop-smaller-2 invariant-loop decreases-loop
-loop-less-2 c = omega arith
+loop-left-smaller : tie.Need-loop-left-smaller invariant-loop-left decreases-loop-left
+loop-left-smaller c = omega arith
 
-loop-again-2 : tie.Need-loop-preserved-2 invariant-loop decreases-loop
-loop-again-2 c =
+loop-left-preserved : tie.Need-loop-left-preserved invariant-loop-left decreases-loop-left
+loop-left-preserved c =
     let a = c.before.before.before.before.before.before.args in
     let tree = a.tree.now in
-    let loop = c.before.before.before.before.loop in
+    let loop = c.before.before.before.before.loop-left in
     forward_open (kinds tree) a.step.0 loop.j loop.left loop.invariant (omega (arith, length-kinds tree)) (omega arith)
-    (λ e. c.if3.false (sym (kind_at_lem tree loop.j (omega arith)) ∙ e))
+    (λ e. c.if-k-eq-END.false (sym (kind_at_lem tree loop.j (omega arith)) ∙ e))
 
-returns-3 : tie.Need-returns-3 invariant-loop decreases-loop
-returns-3 c =
+returns : tie.Need-returns invariant-loop-left decreases-loop-left
+returns c =
     let a = c.before.before.before.args in
     let ks = kinds a.tree.now in
-    let loop = c.before.loop in
+    let loop = c.before.loop-left in
     let none : loop.left ≡ 0 = omega arith in
     sym (forward_done ks a.step.0 loop.j (rw none at loop.invariant))
 
-pub cont-spec : {M : Type 1} → statement M
-cont-spec =
+pub cont_spec : {M : Type 1} → statement M
+cont_spec =
     tie.close
     (tie.spec
-    invariant-loop
-    decreases-loop
-    returns
-    add-j
-    loop-holds
-    returns-2
-    mul-k
-    shared-slice-read-k
-    add-j-2
-    sub-left
-    loop-less
-    loop-again
-    add_left
-    loop-less-2
-    loop-again-2
-    returns-3)
+    invariant-loop-left
+    decreases-loop-left
+    returns-then-n-i
+    overflow_add-j
+    loop-left-init
+    returns-then-n-j
+    overflow_mul-k
+    bounds-tree-j
+    overflow_add-j-in-loop-left
+    overflow_sub-left
+    loop-left-smaller-then-k-eq-END
+    loop-left-preserved-then-k-eq-END
+    overflow_add-left
+    loop-left-smaller
+    loop-left-preserved
+    returns)
