@@ -13,6 +13,7 @@ use Rattle.tree.specs.Laws.Records.{length-kinds, kind_at_lem}
 use Rattle.tree_scan.specs.Laws.Scans.{Backward, backward_start, backward_start_past, backward_turn, backward_end}
 use Rattle.tree_scan.specs.Laws.Scans.{backward_found, backward_child, backward_inner, backward_done}
 use Rattle.tree_scan.proofs.task_of.Statement.{statement}
+use Rattle.tree_scan.proofs.task_of.Lts.{then-i-n, else-i-n}
 use Rattle.tree_scan.proofs.task_of.Tie as tie
 
 abbrev invariant-loop-j : tie.invariant-loop-j
@@ -74,10 +75,10 @@ loop-j-init : tie.Need-loop-j-init invariant-loop-j decreases-loop-j
 loop-j-init c =
     let a = c.before.args in
     let tree = a.tree.now in
-    ⊎_elim
-    (λ w. rw w.1 (backward_start (kinds tree) a.step.0 (omega (arith, length-kinds tree))))
-    (λ w. rw (w.1, ← length-kinds tree) (backward_start_past (kinds tree) a.step.0 (omega (arith, length-kinds tree, w.0.left))))
-    c.if-i-n.branch
+    elim c.if-i-n.branch [
+      | then-i-n w ↦ rw w.j-is (backward_start (kinds tree) a.step.0 (omega (arith, length-kinds tree)))
+      | else-i-n w ↦ rw (w.j-is, ← length-kinds tree) (backward_start_past (kinds tree) a.step.0 (omega (arith, length-kinds tree)))
+    ]
 
 overflow_sub-j : tie.Need-overflow_sub-j invariant-loop-j decreases-loop-j
 overflow_sub-j c = omega arith

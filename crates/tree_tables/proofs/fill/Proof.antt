@@ -14,224 +14,224 @@ use Rattle.tree_tables.specs.Laws.Filling.{fill-inside, fill-open, filled-ends, 
 use Rattle.tree_tables.proofs.fill.Statement.{statement}
 use Rattle.tree_tables.proofs.fill.Tie as tie
 
-abbrev invariant-loop : tie.invariant-loop
-invariant-loop tree ends₀ openers₀ j₀ ends openers j = Filled (kinds tree) ends₀ openers₀ ends openers j
+abbrev invariant-loop-j : tie.invariant-loop-j
+invariant-loop-j tree ends₀ openers₀ j₀ ends openers j = Filled (kinds tree) ends₀ openers₀ ends openers j
 
-abbrev decreases-loop : tie.decreases-loop
-decreases-loop tree ends₀ openers₀ j₀ ends openers j = j
+abbrev decreases-loop-j : tie.decreases-loop-j
+decreases-loop-j tree ends₀ openers₀ j₀ ends openers j = j
 
 -- ---- the places
 
-abbrev entry : tie.At-loop invariant-loop decreases-loop → tie.Start invariant-loop decreases-loop
+abbrev entry : tie.At-loop-j invariant-loop-j decreases-loop-j → tie.Start invariant-loop-j decreases-loop-j
 entry c = c.before.before.before.before
 
 -- The step before is an end, or opens a task.
-abbrev ended : tie.Then1 invariant-loop decreases-loop → tie.In-loop invariant-loop decreases-loop
+abbrev ended : tie.Then-tree-j-eq-END invariant-loop-j decreases-loop-j → tie.In-loop-j invariant-loop-j decreases-loop-j
 ended c = c.before.before
 
-abbrev opened : tie.Else1 invariant-loop decreases-loop → tie.In-loop invariant-loop decreases-loop
+abbrev opened : tie.Else-tree-j-eq-END invariant-loop-j decreases-loop-j → tie.In-loop-j invariant-loop-j decreases-loop-j
 opened c = c.before.before
 
 -- Its continuation is read from its child's end.
-abbrev read : tie.After-wide invariant-loop decreases-loop → tie.Else1 invariant-loop decreases-loop
+abbrev read : tie.After-wide-after invariant-loop-j decreases-loop-j → tie.Else-tree-j-eq-END invariant-loop-j decreases-loop-j
 read c = c.before.before
 
-abbrev top : tie.After-wide invariant-loop decreases-loop → tie.At-loop invariant-loop decreases-loop
+abbrev top : tie.After-wide-after invariant-loop-j decreases-loop-j → tie.At-loop-j invariant-loop-j decreases-loop-j
 top c = (opened (read c)).before
 
 -- ---- the facts
 
-abbrev ks : tie.At-loop invariant-loop decreases-loop → List ℕ
+abbrev ks : tie.At-loop-j invariant-loop-j decreases-loop-j → List ℕ
 ks c = kinds (entry c).args.tree.now
 
 -- The tree is accepted.
-frame : (c : tie.At-loop invariant-loop decreases-loop) → Frame (entry c).args.tree.now
+frame : (c : tie.At-loop-j invariant-loop-j decreases-loop-j) → Frame (entry c).args.tree.now
 frame c = accepted-frame (entry c).args.tree.now (entry c).requires.0
 
 -- How far the steps reach.
-reach : (c : tie.At-loop invariant-loop decreases-loop)
+reach : (c : tie.At-loop-j invariant-loop-j decreases-loop-j)
     → let n = length (ks c) in
-    let loop = c.loop in
+    let loop = c.loop-j in
     (loop.j ≤ 4095) × (loop.j ≤ n) × (8 * n ≡ length (entry c).args.tree.now)
     × (n ≤ length loop.ends) × (n ≤ length loop.openers)
 reach c =
-    let f = c.loop.invariant in
+    let f = c.loop-j.invariant in
     let a = frame c in
     (omega (arith, f.within, a.most), f.within, sym a.whole, f.room_ends_lem, f.room_openers_lem)
 
 -- The tables one step back.
-back : (c : tie.In-loop invariant-loop decreases-loop)
+back : (c : tie.In-loop-j invariant-loop-j decreases-loop-j)
     → let a = (entry c.before).args in
-    let loop = c.before.loop in
+    let loop = c.before.loop-j in
     Filled (ks c.before) a.ends.now a.openers.now loop.ends loop.openers (suc (loop.j - 1))
-back c = fill-turn (ks c.before) (frame c.before).shape _ _ _ _ _ c.before.loop.invariant (omega arith)
+back c = fill-turn (ks c.before) (frame c.before).shape _ _ _ _ _ c.before.loop-j.invariant (omega arith)
 
 -- Its kind, as the slice has it.
-kind-back : (c : tie.In-loop invariant-loop decreases-loop)
-    → let j = c.before.loop.j - 1 in
+kind-back : (c : tie.In-loop-j invariant-loop-j decreases-loop-j)
+    → let j = c.before.loop-j.j - 1 in
     kind_at (ks c.before) j ≡ get_or (entry c.before).args.tree.now (8 * j) 0
 kind-back c =
     let tree = (entry c.before).args.tree.now in
-    kind_at_lem tree (c.before.loop.j - 1) (omega (arith, length-kinds tree, reach c.before))
+    kind_at_lem tree (c.before.loop-j.j - 1) (omega (arith, length-kinds tree, reach c.before))
 
 -- It opens a task.
-opens : (c : tie.Else1 invariant-loop decreases-loop) → end_at (ks (opened c).before) ((opened c).before.loop.j - 1) ≡ false
-opens c = open_kind (ks (opened c).before) ((opened c).before.loop.j - 1) (λ e. c.if1.false (sym (kind-back (opened c)) ∙ e))
+opens : (c : tie.Else-tree-j-eq-END invariant-loop-j decreases-loop-j) → end_at (ks (opened c).before) ((opened c).before.loop-j.j - 1) ≡ false
+opens c = open_kind (ks (opened c).before) ((opened c).before.loop-j.j - 1) (λ e. c.if-tree-j-eq-END.false (sym (kind-back (opened c)) ∙ e))
 
 -- Its child and its continuation are steps,
-inside : (c : tie.Else1 invariant-loop decreases-loop)
-    → let j = (opened c).before.loop.j - 1 in
+inside : (c : tie.Else-tree-j-eq-END invariant-loop-j decreases-loop-j)
+    → let j = (opened c).before.loop-j.j - 1 in
     (j + 1 < length (ks (opened c).before)) × (cont (ks (opened c).before) j < length (ks (opened c).before))
 inside c =
     let at = (opened c).before in
-    fill-inside (ks at) (frame at).shape _ _ _ _ (at.loop.j - 1) (back (opened c)) (opens c)
+    fill-inside (ks at) (frame at).shape _ _ _ _ (at.loop-j.j - 1) (back (opened c)) (opens c)
 
 -- and the continuation is the one that is read.
-next : (c : tie.After-wide invariant-loop decreases-loop) → c.wide.result ≡ cont (ks (top c)) ((top c).loop.j - 1)
+next : (c : tie.After-wide-after invariant-loop-j decreases-loop-j) → c.wide-after.result ≡ cont (ks (top c)) ((top c).loop-j.j - 1)
 next c =
     let at = top c in
-    c.wide.ensures ∙ fill-after (ks at) (frame at).shape _ _ _ _ (at.loop.j - 1) (back (opened (read c))) (opens (read c))
+    c.wide-after.ensures ∙ fill-after (ks at) (frame at).shape _ _ _ _ (at.loop-j.j - 1) (back (opened (read c))) (opens (read c))
 
 -- ---- the needs
 
-loop-holds : tie.Need-loop-init invariant-loop decreases-loop
-loop-holds c =
+loop-j-init : tie.Need-loop-j-init invariant-loop-j decreases-loop-j
+loop-j-init c =
     let start = c.before.before.before in
     let tree = start.args.tree.now in
     let sh = (accepted-frame tree start.requires.0).shape in
     rw (← length-kinds tree) (fill_start (kinds tree) sh _ _ start.requires.1.0 start.requires.1.1)
 
-sub-j : tie.Need-overflow-sub-j invariant-loop decreases-loop
-sub-j c = omega arith
+overflow_sub-j : tie.Need-overflow_sub-j invariant-loop-j decreases-loop-j
+overflow_sub-j c = omega arith
 
-mul-if1 : tie.Need-overflow-mul-if1 invariant-loop decreases-loop
-mul-if1 c = omega (arith, reach c.before)
+overflow_mul-j : tie.Need-overflow_mul-j invariant-loop-j decreases-loop-j
+overflow_mul-j c = omega (arith, reach c.before)
 
-shared-slice-read-if1 : tie.Need-shared-slice-read-if1 invariant-loop decreases-loop
-shared-slice-read-if1 c = omega (arith, reach c.before.before)
+bounds-tree-j : tie.Need-bounds-tree-j invariant-loop-j decreases-loop-j
+bounds-tree-j c = omega (arith, reach c.before.before)
 
-add-ends : tie.Need-overflow-add-ends invariant-loop decreases-loop
-add-ends c = omega (arith, reach (ended c).before)
+overflow_add-ends : tie.Need-overflow_add-ends invariant-loop-j decreases-loop-j
+overflow_add-ends c = omega (arith, reach (ended c).before)
 
-cast_ends : tie.Need-overflow-cast-ends invariant-loop decreases-loop
-cast_ends c = omega (arith, reach (ended c).before)
+overflow_cast-ends : tie.Need-overflow_cast-ends invariant-loop-j decreases-loop-j
+overflow_cast-ends c = omega (arith, reach (ended c).before)
 
-mul-ends : tie.Need-overflow-mul-ends invariant-loop decreases-loop
-mul-ends c = omega (arith, reach (ended c).before)
+offset_bounds-ends-j : tie.Need-offset_bounds-ends-j invariant-loop-j decreases-loop-j
+offset_bounds-ends-j c = omega (arith, reach (ended c).before)
 
-slice-write-ends : tie.Need-slice-write-ends invariant-loop decreases-loop
-slice-write-ends c = omega (arith, reach (ended c).before)
+bounds-ends-j : tie.Need-bounds-ends-j invariant-loop-j decreases-loop-j
+bounds-ends-j c = omega (arith, reach (ended c).before)
 
-loop-less : tie.Need-loop-smaller invariant-loop decreases-loop
-loop-less c = omega arith
+loop-j-smaller-then-tree-j-eq-END : tie.Need-loop-j-smaller-then-tree-j-eq-END invariant-loop-j decreases-loop-j
+loop-j-smaller-then-tree-j-eq-END c = omega arith
 
-loop-again : tie.Need-loop-preserved invariant-loop decreases-loop
-loop-again c =
+loop-j-preserved-then-tree-j-eq-END : tie.Need-loop-j-preserved-then-tree-j-eq-END invariant-loop-j decreases-loop-j
+loop-j-preserved-then-tree-j-eq-END c =
     let at = (ended c).before in
-    let j = at.loop.j - 1 in
-    fill_end (ks at) (frame at).shape _ _ _ _ j (back (ended c)) (end_kind (ks at) j (kind-back (ended c) ∙ c.if1.true))
+    let j = at.loop-j.j - 1 in
+    fill_end (ks at) (frame at).shape _ _ _ _ j (back (ended c)) (end_kind (ks at) j (kind-back (ended c) ∙ c.if-tree-j-eq-END.true))
 
-add_wide : tie.Need-overflow-add-wide invariant-loop decreases-loop
-add_wide c = omega (arith, reach (opened c).before)
+overflow_add-j : tie.Need-overflow_add-j invariant-loop-j decreases-loop-j
+overflow_add-j c = omega (arith, reach (opened c).before)
 
-mul_wide : tie.Need-overflow-mul-wide invariant-loop decreases-loop
-mul_wide c = omega (arith, reach (opened c).before)
+offset_bounds-ends-j-in-loop-j : tie.Need-offset_bounds-ends-j-in-loop-j invariant-loop-j decreases-loop-j
+offset_bounds-ends-j-in-loop-j c = omega (arith, reach (opened c).before)
 
-slice-read-wide : tie.Need-slice-read-wide invariant-loop decreases-loop
-slice-read-wide c = omega (arith, reach (opened c.before).before, inside c.before)
+bounds-ends-j-in-loop-j : tie.Need-bounds-ends-j-in-loop-j invariant-loop-j decreases-loop-j
+bounds-ends-j-in-loop-j c = omega (arith, reach (opened c.before).before, inside c.before)
 
-wide-requires : tie.Need-wide-requires invariant-loop decreases-loop
-wide-requires c κs = tt
+wide-after-requires : tie.Need-wide-after-requires invariant-loop-j decreases-loop-j
+wide-after-requires c κs = tt
 
-mul-ends-2 : tie.Need-overflow-mul-ends-2 invariant-loop decreases-loop
-mul-ends-2 c = omega (arith, next c, (frame (top c)).most, inside (read c))
+offset_bounds-ends-after : tie.Need-offset_bounds-ends-after invariant-loop-j decreases-loop-j
+offset_bounds-ends-after c = omega (arith, next c, (frame (top c)).most, inside (read c))
 
-slice-read-ends : tie.Need-slice-read-ends invariant-loop decreases-loop
-slice-read-ends c = omega (arith, next c.before, reach (top c.before), inside (read c.before))
+bounds-ends-after : tie.Need-bounds-ends-after invariant-loop-j decreases-loop-j
+bounds-ends-after c = omega (arith, next c.before, reach (top c.before), inside (read c.before))
 
-mul-ends-3 : tie.Need-overflow-mul-ends-3 invariant-loop decreases-loop
-mul-ends-3 c = omega (arith, reach (top c.before))
+offset_bounds-ends-j-in-loop-j-2 : tie.Need-offset_bounds-ends-j-in-loop-j-2 invariant-loop-j decreases-loop-j
+offset_bounds-ends-j-in-loop-j-2 c = omega (arith, reach (top c.before))
 
-slice-write-ends-2 : tie.Need-slice-write-ends-2 invariant-loop decreases-loop
-slice-write-ends-2 c = omega (arith, reach (top c.before))
+bounds-ends-j-in-loop-j-2 : tie.Need-bounds-ends-j-in-loop-j-2 invariant-loop-j decreases-loop-j
+bounds-ends-j-in-loop-j-2 c = omega (arith, reach (top c.before))
 
-cast-openers : tie.Need-overflow-cast-openers invariant-loop decreases-loop
-cast-openers c = omega (arith, reach (top c.before))
+overflow_cast-openers : tie.Need-overflow_cast-openers invariant-loop-j decreases-loop-j
+overflow_cast-openers c = omega (arith, reach (top c.before))
 
-add-openers : tie.Need-overflow-add-openers invariant-loop decreases-loop
-add-openers c = omega (arith, reach (top c.before))
+overflow_add-openers : tie.Need-overflow_add-openers invariant-loop-j decreases-loop-j
+overflow_add-openers c = omega (arith, reach (top c.before))
 
-mul-openers : tie.Need-overflow-mul-openers invariant-loop decreases-loop
-mul-openers c = omega (arith, reach (top c.before))
+offset_bounds-openers-j : tie.Need-offset_bounds-openers-j invariant-loop-j decreases-loop-j
+offset_bounds-openers-j c = omega (arith, reach (top c.before))
 
-slice-write-openers : tie.Need-slice-write-openers invariant-loop decreases-loop
-slice-write-openers c = omega (arith, reach (top c.before), inside (read c.before))
+bounds-openers-j : tie.Need-bounds-openers-j invariant-loop-j decreases-loop-j
+bounds-openers-j c = omega (arith, reach (top c.before), inside (read c.before))
 
-cast-openers-2 : tie.Need-overflow-cast-openers-2 invariant-loop decreases-loop
-cast-openers-2 c = omega (arith, reach (top c.before))
+overflow_cast-openers-in-loop-j : tie.Need-overflow_cast-openers-in-loop-j invariant-loop-j decreases-loop-j
+overflow_cast-openers-in-loop-j c = omega (arith, reach (top c.before))
 
-mul-openers-2 : tie.Need-overflow-mul-openers-2 invariant-loop decreases-loop
-mul-openers-2 c = omega (arith, next c.before, (frame (top c.before)).most, inside (read c.before))
+offset_bounds-openers-after : tie.Need-offset_bounds-openers-after invariant-loop-j decreases-loop-j
+offset_bounds-openers-after c = omega (arith, next c.before, (frame (top c.before)).most, inside (read c.before))
 
-slice-write-openers-2 : tie.Need-slice-write-openers-2 invariant-loop decreases-loop
-slice-write-openers-2 c =
+bounds-openers-after : tie.Need-bounds-openers-after invariant-loop-j decreases-loop-j
+bounds-openers-after c =
     simp length-set (omega (arith, next c.before, reach (top c.before), inside (read c.before)))
 
-loop-less-2 : tie.Need-loop-smaller-2 invariant-loop decreases-loop
-loop-less-2 c = omega arith
+loop-j-smaller : tie.Need-loop-j-smaller invariant-loop-j decreases-loop-j
+loop-j-smaller c = omega arith
 
-loop-again-2 : tie.Need-loop-preserved-2 invariant-loop decreases-loop
-loop-again-2 c =
+loop-j-preserved : tie.Need-loop-j-preserved invariant-loop-j decreases-loop-j
+loop-j-preserved c =
     let at = top c.before in
     let step = read c.before in
-    fill-open (ks at) (frame at).shape _ _ _ _ (at.loop.j - 1) (back (opened step)) (opens step) _ (next c.before)
+    fill-open (ks at) (frame at).shape _ _ _ _ (at.loop-j.j - 1) (back (opened step)) (opens step) _ (next c.before)
 
-same_length : tie.Need-same-length invariant-loop decreases-loop
-same_length c = c.before.loop.invariant.same_ends
+shape_of-ends : tie.Need-shape_of-ends invariant-loop-j decreases-loop-j
+shape_of-ends c = c.before.loop-j.invariant.same_ends
 
-same-length-2 : tie.Need-same-length-2 invariant-loop decreases-loop
-same-length-2 c = c.before.loop.invariant.same_openers
+shape_of-openers : tie.Need-shape_of-openers invariant-loop-j decreases-loop-j
+shape_of-openers c = c.before.loop-j.invariant.same_openers
 
-returns : tie.Need-returns invariant-loop decreases-loop
+returns : tie.Need-returns invariant-loop-j decreases-loop-j
 returns c =
     let at = c.before in
-    let first : at.loop.j ≡ 0 = omega arith in
-    let all = rw first at at.loop.invariant in
+    let first : at.loop-j.j ≡ 0 = omega arith in
+    let all = rw first at at.loop-j.invariant in
     (filled-ends (ks at) (frame at).shape _ _ _ _ all, filled-openers (ks at) (frame at).shape _ _ _ _ all)
 
 pub fill_spec : {M : Type 1} → statement M
 fill_spec =
     tie.close
     (tie.spec
-    invariant-loop
-    decreases-loop
-    loop-holds
-    sub-j
-    mul-if1
-    shared-slice-read-if1
-    add-ends
-    cast_ends
-    mul-ends
-    slice-write-ends
-    loop-less
-    loop-again
-    add_wide
-    mul_wide
-    slice-read-wide
-    wide-requires
-    mul-ends-2
-    slice-read-ends
-    mul-ends-3
-    slice-write-ends-2
-    cast-openers
-    add-openers
-    mul-openers
-    slice-write-openers
-    cast-openers-2
-    mul-openers-2
-    slice-write-openers-2
-    loop-less-2
-    loop-again-2
-    same_length
-    same-length-2
+    invariant-loop-j
+    decreases-loop-j
+    loop-j-init
+    overflow_sub-j
+    overflow_mul-j
+    bounds-tree-j
+    overflow_add-ends
+    overflow_cast-ends
+    offset_bounds-ends-j
+    bounds-ends-j
+    loop-j-smaller-then-tree-j-eq-END
+    loop-j-preserved-then-tree-j-eq-END
+    overflow_add-j
+    offset_bounds-ends-j-in-loop-j
+    bounds-ends-j-in-loop-j
+    wide-after-requires
+    offset_bounds-ends-after
+    bounds-ends-after
+    offset_bounds-ends-j-in-loop-j-2
+    bounds-ends-j-in-loop-j-2
+    overflow_cast-openers
+    overflow_add-openers
+    offset_bounds-openers-j
+    bounds-openers-j
+    overflow_cast-openers-in-loop-j
+    offset_bounds-openers-after
+    bounds-openers-after
+    loop-j-smaller
+    loop-j-preserved
+    shape_of-ends
+    shape_of-openers
     returns)

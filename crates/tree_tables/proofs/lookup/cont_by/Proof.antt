@@ -12,47 +12,47 @@ use Rattle.tree_tables.proofs.lookup.cont_by.Tie as tie
 cont-requires : tie.Need-cont-requires
 cont-requires c κs = search rules
 
-returns : tie.Need-returns
-returns c = search rules
+returns-then-ends-i : tie.Need-returns-then-ends-i
+returns-then-ends-i c = search rules
 
-add-if2 : tie.Need-overflow-add-if2
-add-if2 c = search rules
+overflow_add-i : tie.Need-overflow_add-i
+overflow_add-i c = search rules
 
-cont-requires-2 : tie.Need-cont-requires-2
-cont-requires-2 c κs = search rules
+cont-requires-then-ends-i-2 : tie.Need-cont-requires-then-ends-i-2
+cont-requires-then-ends-i-2 c κs = search rules
 
-returns-2 : tie.Need-returns-2
-returns-2 c = search rules
+returns-then-ends-i-2 : tie.Need-returns-then-ends-i-2
+returns-then-ends-i-2 c = search rules
 
-add_wide : tie.Need-overflow-add-wide
-add_wide c = search rules
+overflow_add-i-2 : tie.Need-overflow_add-i-2
+overflow_add-i-2 c = search rules
 
-mul_wide : tie.Need-overflow-mul-wide
-mul_wide c = search rules
+offset_bounds-ends-i : tie.Need-offset_bounds-ends-i
+offset_bounds-ends-i c = search rules
 
-shared-slice-read-wide : tie.Need-shared-slice-read-wide
-shared-slice-read-wide c = search rules
+bounds-ends-i : tie.Need-bounds-ends-i
+bounds-ends-i c = search rules
 
 wide-requires : tie.Need-wide-requires
 wide-requires c κs = search rules
 
-returns-3 : tie.Need-returns-3
-returns-3 c =
+returns : tie.Need-returns
+returns c =
     let start = c.before.before.before.before.before.before in
     let a = start.args in
     c.wide.ensures ∙ cont-looked (kinds a.tree.now) a.ends.now (length a.ends.now) a.step.0 start.requires (omega arith)
 
-pub cont-by-spec : {M : Type 1} → statement M
-cont-by-spec =
+pub cont_by_spec : {M : Type 1} → statement M
+cont_by_spec =
     tie.close
     (tie.spec
     cont-requires
-    returns
-    add-if2
-    cont-requires-2
-    returns-2
-    add_wide
-    mul_wide
-    shared-slice-read-wide
+    returns-then-ends-i
+    overflow_add-i
+    cont-requires-then-ends-i-2
+    returns-then-ends-i-2
+    overflow_add-i-2
+    offset_bounds-ends-i
+    bounds-ends-i
     wide-requires
-    returns-3)
+    returns)

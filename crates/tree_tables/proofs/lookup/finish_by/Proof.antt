@@ -12,77 +12,77 @@ use Rattle.tree_tables.proofs.lookup.finish_by.Statement.{statement}
 use Rattle.tree_tables.proofs.lookup.finish_by.Tie as tie
 
 -- What the table has of the step.
-opener : (c : tie.After-wide)
+opener : (c : tie.After-wide-opener)
     → let a = c.before.before.before.before.before.before.before.before.args in
-    Opener (kinds a.tree.now) c.wide.result a.step.0
+    Opener (kinds a.tree.now) c.wide-opener.result a.step.0
 opener c =
     let start = c.before.before.before.before.before.before.before.before in
-    rw c.wide.ensures (start.requires start.args.step.0 (omega arith) (omega arith))
+    rw c.wide-opener.ensures (start.requires start.args.step.0 (omega arith) (omega arith))
 
-finish-before-requires : tie.Need-finish-before-requires
-finish-before-requires c κs = search rules
+finish_before-requires : tie.Need-finish_before-requires
+finish_before-requires c κs = search rules
 
-returns : tie.Need-returns
-returns c = search rules
+returns-then-openers-j : tie.Need-returns-then-openers-j
+returns-then-openers-j c = search rules
 
-returns-2 : tie.Need-returns-2
-returns-2 c =
+returns-then-j-eq0 : tie.Need-returns-then-j-eq0
+returns-then-j-eq0 c =
     let a = c.before.before.before.before.args in
-    child-none (kinds a.tree.now) a.step.0 (finish_first (kinds a.tree.now) a.step.0 c.if2.true)
+    child-none (kinds a.tree.now) a.step.0 (finish_first (kinds a.tree.now) a.step.0 c.if-j-eq0.true)
 
-sub_wide : tie.Need-overflow-sub-wide
-sub_wide c = search rules
+overflow_sub-j : tie.Need-overflow_sub-j
+overflow_sub-j c = search rules
 
 kind-requires : tie.Need-kind-requires
 kind-requires c κs = search rules
 
-returns-3 : tie.Need-returns-3
-returns-3 c =
+returns-then-kind-ne-END : tie.Need-returns-then-kind-ne-END
+returns-then-kind-ne-END c =
     let a = c.before.before.before.before.before.before.args in
     child-none (kinds a.tree.now) a.step.0
-    (finish-open (kinds a.tree.now) a.step.0 (a.step.0 - 1) (omega arith) (λ e. c.if3.true (c.before.kind.ensures ∙ e)))
+    (finish-open (kinds a.tree.now) a.step.0 (a.step.0 - 1) (omega arith) (λ e. c.if-kind-ne-END.true (c.before.kind.ensures ∙ e)))
 
-mul_wide : tie.Need-overflow-mul-wide
-mul_wide c = search rules
+offset_bounds-openers-j : tie.Need-offset_bounds-openers-j
+offset_bounds-openers-j c = search rules
 
-shared-slice-read-wide : tie.Need-shared-slice-read-wide
-shared-slice-read-wide c = search rules
+bounds-openers-j : tie.Need-bounds-openers-j
+bounds-openers-j c = search rules
 
-wide-requires : tie.Need-wide-requires
-wide-requires c κs = search rules
+wide-opener-requires : tie.Need-wide-opener-requires
+wide-opener-requires c κs = search rules
 
 kind-requires-2 : tie.Need-kind-requires-2
 kind-requires-2 c κs = search rules
 
-returns-4 : tie.Need-returns-4
-returns-4 c =
+returns-then-kind-ne-FINISH : tie.Need-returns-then-kind-ne-FINISH
+returns-then-kind-ne-FINISH c =
     let a = c.before.before.before.before.before.before.before.before.before.before.args in
-    finish_other (kinds a.tree.now) c.before.before.wide.result a.step.0 (opener c.before.before)
-    (λ e. c.if4.true (c.before.kind2.ensures ∙ e))
+    finish_other (kinds a.tree.now) c.before.before.wide-opener.result a.step.0 (opener c.before.before)
+    (λ e. c.if-kind-ne-FINISH.true (c.before.kind-2.ensures ∙ e))
 
-add-t6 : tie.Need-overflow-add-t6
-add-t6 c = omega (arith, (opener c.before.before).before)
+overflow_add-result : tie.Need-overflow_add-result
+overflow_add-result c = omega (arith, (opener c.before.before).before)
 
-returns-5 : tie.Need-returns-5
-returns-5 c =
+returns : tie.Need-returns
+returns c =
     let a = c.before.before.before.before.before.before.before.before.before.before.args in
-    finish_opened (kinds a.tree.now) c.before.before.wide.result a.step.0 (opener c.before.before)
-    (sym c.before.before.before.before.before.kind.ensures ∙ omega arith) (sym c.before.kind2.ensures ∙ omega arith)
+    finish_opened (kinds a.tree.now) c.before.before.wide-opener.result a.step.0 (opener c.before.before)
+    (sym c.before.before.before.before.before.kind.ensures ∙ omega arith) (sym c.before.kind-2.ensures ∙ omega arith)
 
-pub finish-by-spec : {M : Type 1} → statement M
-finish-by-spec =
+pub finish_by_spec : {M : Type 1} → statement M
+finish_by_spec =
     tie.close
     (tie.spec
-    finish-before-requires
-    returns
-    returns-2
-    sub_wide
+    finish_before-requires
+    returns-then-openers-j
+    returns-then-j-eq0
+    overflow_sub-j
     kind-requires
-    returns-3
-    mul_wide
-    shared-slice-read-wide
-    wide-requires
+    returns-then-kind-ne-END
+    offset_bounds-openers-j
+    bounds-openers-j
+    wide-opener-requires
     kind-requires-2
-    returns-4
-    add-t6
-    returns-5)
+    returns-then-kind-ne-FINISH
+    overflow_add-result
+    returns)

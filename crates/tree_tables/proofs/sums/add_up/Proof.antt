@@ -12,63 +12,63 @@ use Rattle.tree_tables.proofs.sums.add_up.Statement.{statement}
 use Rattle.tree_tables.proofs.sums.add_up.Tie as tie
 
 -- Past the sums.
-abbrev entry : tie.After-add-weights → tie.Start
+abbrev entry : tie.After-add_weights-marks → tie.Start
 entry c = c.before.before.before.before
 
-add-weights-requires : tie.Need-add-weights-requires
-add-weights-requires c κs =
+add_weights-marks-requires : tie.Need-add_weights-marks-requires
+add_weights-marks-requires c κs =
     let at = c.before.before.before in
     (at.requires.0, at.requires.1.0)
 
-mul-classes : tie.Need-overflow-mul-classes
-mul-classes c =
+offset_bounds-sums-n : tie.Need-offset_bounds-sums-n
+offset_bounds-sums-n c =
     let at = entry c.before.before.before in
-    omega (arith, length-kinds at.args.tree.now, at.pre.0)
+    omega (arith, length-kinds at.args.tree.now, at.requires.0)
 
-slice-read-classes : tie.Need-slice-read-classes
-slice-read-classes c =
+bounds-sums-n : tie.Need-bounds-sums-n
+bounds-sums-n c =
     let summed = c.before.before.before.before in
     let at = entry summed in
-    omega (arith, length-kinds at.args.tree.now, summed.add-weights.auto.1.0, at.pre.1.0)
+    omega (arith, length-kinds at.args.tree.now, summed.add_weights-marks.auto.sums, at.requires.1.0)
 
-element-write-classes : tie.Need-element-write-classes
-element-write-classes c = search rules
+bounds-classes-0 : tie.Need-bounds-classes-0
+bounds-classes-0 c = search rules
 
-same_length : tie.Need-same-length
-same_length c = search rules
+shape_of-sums-then-marks-eq0 : tie.Need-shape_of-sums-then-marks-eq0
+shape_of-sums-then-marks-eq0 c = search rules
 
-returns : tie.Need-returns
-returns c =
-    let summed = c.before.before.before.before in
+returns-then-marks-eq0 : tie.Need-returns-then-marks-eq0
+returns-then-marks-eq0 c =
+    let summed = c.before.before.before.before.before in
     let at = entry summed in
     let tree = at.args.tree.now in
     let n = length (kinds tree) in
-    let sums = summed.add-weights.ensures.0 in
-    let none : weight_before (classes tree) n ≡ 0 = omega (arith, summed.add-weights.ensures.1, c.before.if1.true) in
+    let sums = summed.add_weights-marks.ensures.0 in
+    let none : weight_before (classes tree) n ≡ 0 = omega (arith, summed.add_weights-marks.ensures.1, c.before.if-marks-eq0.true) in
     let all = zeros-all (classes tree) (weights tree) (length_paired tree) n (sum_zeros (classes tree) n none) in
-    (sums, rw (at.pre.1.1.1, ← length-kinds tree, sums n (omega arith)) (sym all))
+    (sums, rw (at.requires.1.1.1, ← length-kinds tree, sums n (omega arith)) (sym all))
 
 charge-requires : tie.Need-charge-requires
 charge-requires c κs =
     let at = entry c.before.before.before.before in
-    (at.pre.0, (at.pre.1.1.0, at.pre.1.1.1))
+    (at.requires.0, (at.requires.1.1.0, at.requires.1.1.1))
 
-same-length-2 : tie.Need-same-length-2
-same-length-2 c = search rules
+shape_of-sums : tie.Need-shape_of-sums
+shape_of-sums c = search rules
 
-returns-2 : tie.Need-returns-2
-returns-2 c = (c.before.before.before.before.before.add-weights.ensures.0, c.charge.ensures)
+returns : tie.Need-returns
+returns c = (c.before.before.before.before.before.add_weights-marks.ensures.0, c.charge.ensures)
 
-pub add-up-spec : {M : Type 1} → statement M
-add-up-spec =
+pub add_up_spec : {M : Type 1} → statement M
+add_up_spec =
     tie.close
     (tie.spec
-    add-weights-requires
-    mul-classes
-    slice-read-classes
-    element-write-classes
-    same_length
-    returns
+    add_weights-marks-requires
+    offset_bounds-sums-n
+    bounds-sums-n
+    bounds-classes-0
+    shape_of-sums-then-marks-eq0
+    returns-then-marks-eq0
     charge-requires
-    same-length-2
-    returns-2)
+    shape_of-sums
+    returns)

@@ -10,101 +10,101 @@ use Rattle.tree_tables.specs.Laws.Charging.{Charged, charge_start, charge-turn, 
 use Rattle.tree_tables.proofs.sums.charge.Statement.{statement}
 use Rattle.tree_tables.proofs.sums.charge.Tie as tie
 
-abbrev invariant-loop : tie.invariant-loop
-invariant-loop tree classes₀ n j₀ charges j =
+abbrev invariant-loop-j : tie.invariant-loop-j
+invariant-loop-j tree classes₀ n j₀ charges j =
     Charged (classes tree) (weights tree) (length_paired tree) charges j × (j ≤ length (kinds tree))
 
-abbrev decreases-loop : tie.decreases-loop
-decreases-loop tree classes₀ n j₀ charges j = n - j
+abbrev decreases-loop-j : tie.decreases-loop-j
+decreases-loop-j tree classes₀ n j₀ charges j = n - j
 
 -- ---- what is known at a place
 
-abbrev entry : tie.At-loop invariant-loop decreases-loop → tie.Start invariant-loop decreases-loop
+abbrev entry : tie.At-loop-j invariant-loop-j decreases-loop-j → tie.Start invariant-loop-j decreases-loop-j
 entry c = c.before.before
 
-abbrev top : tie.After-class invariant-loop decreases-loop → tie.At-loop invariant-loop decreases-loop
+abbrev top : tie.After-class-k invariant-loop-j decreases-loop-j → tie.At-loop-j invariant-loop-j decreases-loop-j
 top c = c.before.before
 
 -- There is a step to charge, and it has a class.
-more : (c : tie.After-class invariant-loop decreases-loop) → (top c).loop.j < length (kinds (entry (top c)).args.tree.now)
+more : (c : tie.After-class-k invariant-loop-j decreases-loop-j) → (top c).loop-j.j < length (kinds (entry (top c)).args.tree.now)
 more c = omega (arith, length-kinds (entry (top c)).args.tree.now)
 
-few : (c : tie.After-class invariant-loop decreases-loop) → c.class.result < 16
-few c = omega (arith, c.class.ensures, (entry (top c)).pre.1.0 (top c).loop.j (more c))
+few : (c : tie.After-class-k invariant-loop-j decreases-loop-j) → c.class-k.result < 16
+few c = omega (arith, c.class-k.ensures, (entry (top c)).requires.1.0 (top c).loop-j.j (more c))
 
 -- ---- the needs
 
-loop-holds : tie.Need-loop-init invariant-loop decreases-loop
-loop-holds c =
+loop-j-init : tie.Need-loop-j-init invariant-loop-j decreases-loop-j
+loop-j-init c =
     let at = c.before in
     let tree = at.args.tree.now in
     (rw at.requires.1.1 (charge_start (classes tree) (weights tree) (length_paired tree)), omega arith)
 
-class-requires : tie.Need-class-requires invariant-loop decreases-loop
-class-requires c κs = tt
+class-k-requires : tie.Need-class-k-requires invariant-loop-j decreases-loop-j
+class-k-requires c κs = tt
 
-cast-k : tie.Need-overflow-cast-k invariant-loop decreases-loop
-cast-k c = omega arith
+overflow_cast-k : tie.Need-overflow_cast-k invariant-loop-j decreases-loop-j
+overflow_cast-k c = omega arith
 
-weight-requires : tie.Need-weight-requires invariant-loop decreases-loop
+weight-requires : tie.Need-weight-requires invariant-loop-j decreases-loop-j
 weight-requires c κs = tt
 
-cast-classes : tie.Need-overflow-cast-classes invariant-loop decreases-loop
-cast-classes c = omega arith
+overflow_cast-classes : tie.Need-overflow_cast-classes invariant-loop-j decreases-loop-j
+overflow_cast-classes c = omega arith
 
-mul-classes : tie.Need-overflow-mul-classes invariant-loop decreases-loop
-mul-classes c = omega (arith, few c.before)
+offset_bounds-classes-k : tie.Need-offset_bounds-classes-k invariant-loop-j decreases-loop-j
+offset_bounds-classes-k c = omega (arith, few c.before)
 
-element-copy-out-classes : tie.Need-element-copy-out-classes invariant-loop decreases-loop
-element-copy-out-classes c = few c.before
+bounds-classes-k : tie.Need-bounds-classes-k invariant-loop-j decreases-loop-j
+bounds-classes-k c = few c.before.before
 
-add-classes : tie.Need-overflow-add-classes invariant-loop decreases-loop
-add-classes c =
-    let at = c.before.before in
-    omega (arith, (top at).loop.invariant.0.small _ (few at), (top at).loop.invariant.1, (entry (top at)).pre.0)
+overflow_add-classes : tie.Need-overflow_add-classes invariant-loop-j decreases-loop-j
+overflow_add-classes c =
+    let at = c.before.before.before in
+    omega (arith, (top at).loop-j.invariant.0.small _ (few at), (top at).loop-j.invariant.1, (entry (top at)).requires.0)
 
-element-write-classes : tie.Need-element-write-classes invariant-loop decreases-loop
-element-write-classes c = few c.before.before
+bounds-classes-k-in-loop-j : tie.Need-bounds-classes-k-in-loop-j invariant-loop-j decreases-loop-j
+bounds-classes-k-in-loop-j c = few c.before.before.before
 
-add-j : tie.Need-overflow-add-j invariant-loop decreases-loop
-add-j c = omega arith
+overflow_add-j : tie.Need-overflow_add-j invariant-loop-j decreases-loop-j
+overflow_add-j c = omega arith
 
-loop-less : tie.Need-loop-smaller invariant-loop decreases-loop
-loop-less c = omega arith
+loop-j-smaller : tie.Need-loop-j-smaller invariant-loop-j decreases-loop-j
+loop-j-smaller c = omega arith
 
-loop-again : tie.Need-loop-preserved invariant-loop decreases-loop
-loop-again c =
-    let weighed = c.before in
+loop-j-preserved : tie.Need-loop-j-preserved invariant-loop-j decreases-loop-j
+loop-j-preserved c =
+    let weighed = c.before.before in
     let at = weighed.before in
     let tree = (entry (top at)).args.tree.now in (
-      charge-turn (classes tree) (weights tree) (length_paired tree) (top at).loop.classes at.class.result (top at).loop.j
-          weighed.weight.result at.class.ensures weighed.weight.ensures (few at) (omega arith) (top at).loop.invariant.0,
+      charge-turn (classes tree) (weights tree) (length_paired tree) (top at).loop-j.classes at.class-k.result (top at).loop-j.j
+          weighed.weight.result at.class-k.ensures weighed.weight.ensures (few at) (omega arith) (top at).loop-j.invariant.0,
       omega (arith, more at),
     )
 
-returns : tie.Need-returns invariant-loop decreases-loop
+returns : tie.Need-returns invariant-loop-j decreases-loop-j
 returns c =
     let at = c.before in
     let tree = (entry at).args.tree.now in
-    let end : at.loop.j ≡ length (kinds tree) = omega (arith, length-kinds tree, at.loop.invariant.1) in
-    rw (← end) (charged_all (classes tree) (weights tree) (length_paired tree) at.loop.classes at.loop.j at.loop.invariant.0)
+    let end : at.loop-j.j ≡ length (kinds tree) = omega (arith, length-kinds tree, at.loop-j.invariant.1) in
+    rw (← end) (charged_all (classes tree) (weights tree) (length_paired tree) at.loop-j.classes at.loop-j.j at.loop-j.invariant.0)
 
-pub charge-spec : {M : Type 1} → statement M
-charge-spec =
+pub charge_spec : {M : Type 1} → statement M
+charge_spec =
     tie.close
     (tie.spec
-    invariant-loop
-    decreases-loop
-    loop-holds
-    class-requires
-    cast-k
+    invariant-loop-j
+    decreases-loop-j
+    loop-j-init
+    class-k-requires
+    overflow_cast-k
     weight-requires
-    cast-classes
-    mul-classes
-    element-copy-out-classes
-    add-classes
-    element-write-classes
-    add-j
-    loop-less
-    loop-again
+    overflow_cast-classes
+    offset_bounds-classes-k
+    bounds-classes-k
+    overflow_add-classes
+    bounds-classes-k-in-loop-j
+    overflow_add-j
+    loop-j-smaller
+    loop-j-preserved
     returns)
