@@ -9,7 +9,7 @@ ghost use Rattle.dag_span.specs.Terms.{Measured, refusal};
 use tree::{MOST_STEPS, Step, steps, weight};
 
 // What a call answers: its refusal and position, or the work, the span and how many steps the chain has.
-#[derive(Drop)]
+#[derive(Clone, Copy)]
 pub struct Spanned {
     pub number: u8,
     pub position: usize,

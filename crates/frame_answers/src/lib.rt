@@ -15,7 +15,7 @@ use tree::CLASSES;
 
 // A start's refusal and position, or the first state. The state beside a refusal is all 0.
 #[repr(C)]
-#[derive(Drop)]
+#[derive(Clone, Copy)]
 pub struct FrameStart {
     pub number: usize,
     pub position: usize,
@@ -37,7 +37,7 @@ pub fn flat_start(started: Started) -> FrameStart
 // An event's refusal and position, which is always 0, or what it did: `what` is 1 for a run, of `step` in `phase`, and 2 for a
 // steal, whose trace record has `trace`. What is not answered is 0.
 #[repr(C)]
-#[derive(Drop)]
+#[derive(Clone, Copy)]
 pub struct FrameOutcome {
     pub number: usize,
     pub position: usize,
@@ -81,7 +81,7 @@ pub fn flat_outcome(outcome: Outcome) -> FrameOutcome
 
 // An event's outcome with the next state, which after a refusal is the very state given.
 #[repr(C)]
-#[derive(Drop)]
+#[derive(Clone, Copy)]
 pub struct FrameEvent {
     pub outcome: FrameOutcome,
     pub state: RunState,
@@ -101,7 +101,7 @@ pub fn flat_event(answer: Answer) -> FrameEvent
 
 // The idle workers: worker w is bit w of `set`; how many; the lowest, 16 for none.
 #[repr(C)]
-#[derive(Drop)]
+#[derive(Clone, Copy)]
 pub struct FrameIdle {
     pub set: usize,
     pub count: usize,
@@ -122,7 +122,7 @@ pub fn flat_idle(idle: Idle) -> FrameIdle
 // A recording's refusal and position, or the counts of log and trace records, whether every step has run (1 or 0), each
 // worker's load, the heaviest worker and each class's load. What is not answered is 0.
 #[repr(C)]
-#[derive(Drop)]
+#[derive(Clone, Copy)]
 pub struct FrameRecord {
     pub number: usize,
     pub position: usize,
@@ -155,7 +155,7 @@ pub fn flat_record(recorded: Recorded) -> FrameRecord
 // A replay's refusal and position, or the count of phases, each worker's load, the heaviest worker and each class's load. What is
 // not answered is 0.
 #[repr(C)]
-#[derive(Drop)]
+#[derive(Clone, Copy)]
 pub struct FrameReplay {
     pub number: usize,
     pub position: usize,
@@ -183,7 +183,7 @@ pub fn flat_replay(replayed: Replayed) -> FrameReplay
 
 // A schedule's refusal and position, or how many events its list has. What is not answered is 0.
 #[repr(C)]
-#[derive(Drop)]
+#[derive(Clone, Copy)]
 pub struct FrameSchedule {
     pub number: usize,
     pub position: usize,

@@ -7,7 +7,7 @@ ghost use Rattle.frame_dag.specs.Contract.{flat_span};
 
 // A refusal and position, or the work, the span and how many steps the chain has. What is not answered is 0.
 #[repr(C)]
-#[derive(Drop)]
+#[derive(Clone, Copy)]
 pub struct FrameSpan {
     pub number: usize,
     pub position: usize,

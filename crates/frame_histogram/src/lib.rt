@@ -11,7 +11,7 @@ use policy::Setup;
 
 // What a replay answers, and the next histogram.
 #[repr(C)]
-#[derive(Drop)]
+#[derive(Clone, Copy)]
 pub struct FrameAdded {
     pub replay: FrameReplay,
     pub histogram: Histogram,

@@ -11,7 +11,7 @@ use tree::Step;
 
 // A tree's refusal and position, or its count of steps. What is not answered is 0.
 #[repr(C)]
-#[derive(Drop)]
+#[derive(Clone, Copy)]
 pub struct FrameTree {
     pub number: usize,
     pub position: usize,
@@ -66,7 +66,7 @@ pub extern "C" fn frame_cont(tree: &[u8], step: usize) -> usize
 
 // A step's task, named by the task's first step, and the step's ordinal in it.
 #[repr(C)]
-#[derive(Drop)]
+#[derive(Clone, Copy)]
 pub struct FrameTask {
     pub first: usize,
     pub ordinal: usize,
@@ -98,7 +98,7 @@ pub extern "C" fn frame_finish_before(tree: &[u8], step: usize) -> usize
 // The step that running a step holds next and the one that it pushes, and 1 in `opens`; for an end, or a step beyond the tree, all
 // three are 0.
 #[repr(C)]
-#[derive(Drop)]
+#[derive(Clone, Copy)]
 pub struct FrameRunning {
     pub opens: usize,
     pub hold: usize,

@@ -14,14 +14,14 @@ pub const MOST_TRACES: u32 = 65535;
 // How many traces have been added, and how many of their phases are in each bucket: in that of load 0, then in those of the limits.
 // The fields leave no byte between them, so two histograms are equal where their bytes are.
 #[repr(C)]
-#[derive(Drop)]
+#[derive(Clone, Copy)]
 pub struct Histogram {
     pub traces: u32,
     pub counts: [u32; BUCKETS],
 }
 
 // What replay answers on a trace, and the next histogram.
-#[derive(Drop)]
+#[derive(Clone, Copy)]
 pub struct Added {
     pub replayed: Replayed,
     pub histogram: Histogram,

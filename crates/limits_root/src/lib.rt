@@ -9,7 +9,7 @@ ghost use Rattle.limits_root.specs.Terms.{base, value, number, Rounded, Extended
 const BASE: u64 = 17592186044416;
 
 // A number of two digits. Those met here are below 2 to the power 93, so twice a digit fits its word.
-#[derive(Drop)]
+#[derive(Clone, Copy)]
 struct Wide {
     high: u64,
     low: u64,
@@ -64,7 +64,7 @@ fn minus(a: Wide, b: Wide) -> Wide
 }
 
 // The square root of a number, rounded down, and what its square leaves of the number.
-#[derive(Drop)]
+#[derive(Clone, Copy)]
 struct Root {
     root: Wide,
     rest: Wide,
@@ -91,7 +91,7 @@ fn extended(r: Root, pair: u64) -> Root
 }
 
 // The square root of a number, and the square root of that.
-#[derive(Drop)]
+#[derive(Clone, Copy)]
 struct Roots {
     square: Root,
     fourth: Root,

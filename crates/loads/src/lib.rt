@@ -58,7 +58,7 @@ fn heaviest(loads: &[u64; WORKERS]) -> usize
 }
 
 // What a call answers of its workers' work.
-#[derive(Drop)]
+#[derive(Clone, Copy)]
 pub struct Totals {
     pub loads: [u64; WORKERS],
     pub heaviest: usize,

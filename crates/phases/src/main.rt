@@ -10,7 +10,7 @@ use phases_text::TEXT_BYTES;
 use phases_text::input::MOST_INPUT;
 
 // How many bytes of standard input stand at the front of a buffer, and whether the last read failed.
-#[derive(Drop)]
+#[derive(Clone, Copy)]
 struct Reading {
     count: usize,
     failed: bool,

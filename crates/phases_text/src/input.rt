@@ -30,7 +30,7 @@ pub fn place(input: &[u8], i: usize) -> usize
 }
 
 // The policy of an input, and the places where its tree starts and where its tree ends and its trace starts.
-#[derive(Drop)]
+#[derive(Clone, Copy)]
 pub struct Input {
     pub policy: u8,
     pub start: usize,

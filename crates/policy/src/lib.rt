@@ -1,5 +1,7 @@
 // What a run is set up with, its policies and workers, and what running a step holds next and pushes under a policy (document 01,
 // "Scheduling"). In a run the policies differ in `pushes_child` alone; what a trace's numbers count is in `trace::number`.
+#![tactic(auto)]
+
 ghost use Rattle.std.specs.Prelude.{◌≡◌, ◌<◌, length, leb};
 ghost use Rattle.rules.specs.Tree.{kinds};
 ghost use Rattle.rules.specs.Scheduling.{pushes_child, holds, pushes};
@@ -25,14 +27,14 @@ pub const MOST_STEALS: usize = 2047;
 pub const MOST_PHASES: usize = 2048;
 
 // What a run is set up with: its policy, and how many workers it has.
-#[derive(Drop)]
+#[derive(Clone, Copy)]
 pub struct Setup {
     pub policy: u8,
     pub workers: u16,
 }
 
 // What running a step does to its worker: it holds a step and pushes one, or it pops.
-#[derive(Drop)]
+#[derive(Clone, Copy)]
 pub enum Running {
     Opens { hold: Step, push: Step },
     Ends,

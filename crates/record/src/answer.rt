@@ -7,7 +7,7 @@ use tree::CLASSES;
 
 // Its refusal and position, or the counts of log and trace records, whether every step has run, each worker's load, the heaviest
 // worker and each class's load.
-#[derive(Drop)]
+#[derive(Clone, Copy)]
 pub struct Recorded {
     pub number: u8,
     pub position: usize,

@@ -16,7 +16,7 @@ use tree::{MOST_STEPS, Step};
 use tree_tables::wide;
 
 // What the walk over the events comes to.
-#[derive(Drop)]
+#[derive(Clone, Copy)]
 pub struct Ended {
     pub number: u8,
     pub position: usize,

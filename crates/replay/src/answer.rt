@@ -6,7 +6,7 @@ use policy::WORKERS;
 use tree::CLASSES;
 
 // Its refusal and position, or the count of phases, each worker's load, the heaviest worker and each class's load.
-#[derive(Drop)]
+#[derive(Clone, Copy)]
 pub struct Replayed {
     pub number: u8,
     pub position: usize,

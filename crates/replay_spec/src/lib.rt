@@ -10,7 +10,7 @@ pub const NO_PHASE: u16 = 65535;
 pub const FREE: u16 = 65535;
 
 // The step that a trace number names, or none.
-#[derive(Drop)]
+#[derive(Clone, Copy)]
 pub enum Named {
     At(Step),
     Nothing,
@@ -18,7 +18,7 @@ pub enum Named {
 
 // A phase that begins: its worker `thief` steals `step` from phase `from`. The step's ordinal is that of a work-first trace; from
 // a help-first one it is 0, and not asked for.
-#[derive(Drop)]
+#[derive(Clone, Copy)]
 pub struct Begun {
     pub phase: Phase,
     pub from: Phase,

@@ -17,7 +17,7 @@ use tree::Phase;
 use tree_tables::wide;
 
 // What the walk over the records comes to.
-#[derive(Drop)]
+#[derive(Clone, Copy)]
 pub struct Ended {
     pub number: u8,
     pub position: usize,

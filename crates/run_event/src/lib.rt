@@ -21,7 +21,7 @@ use tree::{MOST_STEPS, Ordinal, Phase, Step};
 use tree_tables::wide;
 
 // An event's outcome with the count of steals after it.
-#[derive(Drop)]
+#[derive(Clone, Copy)]
 pub struct Moved {
     pub outcome: Outcome,
     pub steals: u16,

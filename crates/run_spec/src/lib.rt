@@ -8,21 +8,21 @@ use tree::{Ordinal, Phase, Step};
 pub const NO_STEP: u16 = 65535;
 
 // An event's two bytes: equal, that worker runs its step; different, the first steals from the second.
-#[derive(Drop)]
+#[derive(Clone, Copy)]
 pub struct Event {
     pub first: u8,
     pub second: u8,
 }
 
 // The step that was looked for, or none: the pusher of a step of a deque, or a step that has not run.
-#[derive(Drop)]
+#[derive(Clone, Copy)]
 pub enum Found {
     At(Step),
     Nothing,
 }
 
 // A stolen step with the step that pushed it and, work-first, its ordinal.
-#[derive(Drop)]
+#[derive(Clone, Copy)]
 pub struct Stolen {
     pub pusher: Step,
     pub step: Step,
@@ -30,7 +30,7 @@ pub struct Stolen {
 }
 
 // What a steal takes from a deque: its oldest step, or nothing.
-#[derive(Drop)]
+#[derive(Clone, Copy)]
 pub enum Taken {
     Of(Stolen),
     Nothing,
@@ -38,7 +38,7 @@ pub enum Taken {
 
 // What an event did: the phase and the step that it ran, or the trace number of the step that it stole, or its refusal, whose
 // position is always 0.
-#[derive(Drop)]
+#[derive(Clone, Copy)]
 pub enum Outcome {
     Ran { phase: Phase, step: Step },
     Stole(TraceNumber),

@@ -16,7 +16,7 @@ use tree_tables::wide;
 
 // The state of a run.
 #[repr(C)]
-#[derive(Drop)]
+#[derive(Clone, Copy)]
 pub struct RunState {
     // for each step NOT_RUN, RUN, or the worker in whose deque the step is that it pushed
     pub place: [u8; MOST_STEPS],
@@ -36,14 +36,14 @@ pub struct RunState {
 }
 
 // An event's outcome with the next state.
-#[derive(Drop)]
+#[derive(Clone, Copy)]
 pub struct Answer {
     pub outcome: Outcome,
     pub state: RunState,
 }
 
 // A start's refusal and position with the first state.
-#[derive(Drop)]
+#[derive(Clone, Copy)]
 pub struct Started {
     pub number: u8,
     pub position: usize,
@@ -51,7 +51,7 @@ pub struct Started {
 }
 
 // The idle workers as a set, how many they are and the lowest, with the state.
-#[derive(Drop)]
+#[derive(Clone, Copy)]
 pub struct Idle {
     pub set: u16,
     pub count: u32,

@@ -13,7 +13,7 @@ use policy::Setup;
 use tree::MOST_STEPS;
 
 // What a schedule call answers: its refusal and position, or how many events the list has.
-#[derive(Drop)]
+#[derive(Clone, Copy)]
 pub struct Scheduled {
     pub number: u8,
     pub position: usize,

@@ -16,7 +16,7 @@ use tree::{END, MOST_STEPS, Step, kind};
 use tree_tables::wide;
 
 // What the turns so far have come to, beside the arrays: the seed, and how many steals and runs the list has.
-#[derive(Drop)]
+#[derive(Clone, Copy)]
 pub struct Turned {
     pub seed: u32,
     pub steals: u16,

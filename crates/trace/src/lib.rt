@@ -1,5 +1,7 @@
 // The records of a trace, a log and a run list (document 01, "Trace, log, run list"): each is four bytes. What the number of a trace
 // record counts only the policy says: that is in module `number`.
+#![tactic(auto)]
+
 pub mod number;
 
 ghost use Rattle.std.specs.Prelude.{◌≡◌, ◌+◌, ◌*◌, ◌/◌, ◌%◌, ◌≤◌, ◌<◌, length};
@@ -10,11 +12,11 @@ use buffers::RECORD;
 use tree::{Phase, Step};
 
 // The number of a trace record, as its bytes have it: neither an ordinal nor a serial number before the policy is asked.
-#[derive(Drop)]
+#[derive(Clone, Copy)]
 pub struct RecordNumber(pub usize);
 
 // What a trace record says.
-#[derive(Drop)]
+#[derive(Clone, Copy)]
 pub struct TraceRecord {
     pub thief: u8,
     pub victim: u8,

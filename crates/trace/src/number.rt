@@ -10,7 +10,7 @@ use policy::WORK_FIRST;
 use tree::{Ordinal, Step};
 
 // The number of a trace record by the policy: an ordinal or a serial number.
-#[derive(Drop)]
+#[derive(Clone, Copy)]
 pub enum TraceNumber {
     ByOrdinal(Ordinal),
     BySerial(Step),

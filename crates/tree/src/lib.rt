@@ -9,15 +9,15 @@ ghost use Rattle.std.specs.Prelude.{◌≡◌, map, ◌<◌, length, get_or};
 ghost use Rattle.rules.specs.Tree.{tree_records, kinds, kind_at, classes, weights};
 
 // The serial number of a step.
-#[derive(Drop)]
+#[derive(Clone, Copy)]
 pub struct Step(pub usize);
 
 // The number of children that a step's task opened before it.
-#[derive(Drop)]
+#[derive(Clone, Copy)]
 pub struct Ordinal(pub usize);
 
 // The number of a phase.
-#[derive(Drop)]
+#[derive(Clone, Copy)]
 pub struct Phase(pub usize);
 
 // Bytes of a record.
@@ -70,7 +70,7 @@ pub fn class(tree: &[u8], step: Step) -> u8
 }
 
 // The answer on a tree: refusal and position, or the count of steps.
-#[derive(Drop)]
+#[derive(Clone, Copy)]
 pub struct Accepted {
     pub number: u8,
     pub position: usize,

@@ -12,29 +12,29 @@ use Rattle.policy.proofs.held_after.Tie as tie
 kind-requires : tie.Need-kind-requires
 kind-requires c κs = search rules
 
-pushes-child-requires : tie.Need-pushes-child-requires
-pushes-child-requires c κs = search rules
+pushes_child-requires : tie.Need-pushes_child-requires
+pushes_child-requires c κs = search rules
 
-cont-by-requires : tie.Need-cont-by-requires
-cont-by-requires c κs = search rules
+cont_by-requires : tie.Need-cont_by-requires
+cont_by-requires c κs = search rules
+
+returns-then-pushes_child : tie.Need-returns-then-pushes_child
+returns-then-pushes_child c =
+    let a = c.args in
+    let pushed = sym c.pushes_child.ensures ∙ c.if-pushes_child.true in
+    let child = rw c.kind.ensures at pushed in
+    c.cont_by.ensures ∙ holds-cont a.policy (kinds a.tree.now) a.step.0 child
+
+overflow_add-result : tie.Need-overflow_add-result
+overflow_add-result c =
+    omega (arith, length-kinds c.args.tree.now)
 
 returns : tie.Need-returns
 returns c =
-    let a = c.before.before.before.before.before.before.args in
-    let pushed = sym c.before.before.pushes-child.ensures ∙ c.before.if1.true in
-    let child = rw c.before.before.before.kind.ensures at pushed in
-    c.cont-by.ensures ∙ holds-cont a.policy (kinds a.tree.now) a.step.0 child
+    let a = c.args in
+    let other = sym c.pushes_child.ensures ∙ c.if-pushes_child.false in
+    holds-next a.policy (kinds a.tree.now) a.step.0 (rw c.kind.ensures at other)
 
-add-t8 : tie.Need-overflow-add-t8
-add-t8 c =
-    omega (arith, length-kinds c.before.before.before.before.before.args.tree.now)
-
-returns-2 : tie.Need-returns-2
-returns-2 c =
-    let a = c.before.before.before.before.before.args in
-    let other = sym c.before.pushes-child.ensures ∙ c.if1.false in
-    holds-next a.policy (kinds a.tree.now) a.step.0 (rw c.before.before.kind.ensures at other)
-
-pub held-after-spec : {M : Type 1} → statement M
-held-after-spec =
-    tie.close (tie.spec kind-requires pushes-child-requires cont-by-requires returns add-t8 returns-2)
+pub held_after_spec : {M : Type 1} → statement M
+held_after_spec =
+    tie.close (tie.spec kind-requires pushes_child-requires cont_by-requires returns-then-pushes_child overflow_add-result returns)

@@ -6,16 +6,16 @@ use Rattle.policy.specs.Laws.Workers.{limit_is, limit_beyond}
 use Rattle.policy.proofs.limit.Statement.{statement}
 use Rattle.policy.proofs.limit.Tie as tie
 
-wide-requires : tie.Need-wide-requires
-wide-requires c κs = search rules
+wide-count-requires : tie.Need-wide-count-requires
+wide-count-requires c κs = search rules
 
-returns : tie.Need-returns
-returns c =
-    let wide = c.before.wide in
+returns-then-count-lt-WORKERS : tie.Need-returns-then-count-lt-WORKERS
+returns-then-count-lt-WORKERS c =
+    let wide = c.wide-count in
     wide.ensures ∙ sym (limit_is _ (omega (arith, wide.ensures)))
 
-returns-2 : tie.Need-returns-2
-returns-2 c = sym (limit_beyond _ (omega (arith, c.before.wide.ensures)))
+returns : tie.Need-returns
+returns c = sym (limit_beyond _ (omega (arith, c.wide-count.ensures)))
 
-pub limit-spec : {M : Type 1} → statement M
-limit-spec = tie.close (tie.spec wide-requires returns returns-2)
+pub limit_spec : {M : Type 1} → statement M
+limit_spec = tie.close (tie.spec wide-count-requires returns-then-count-lt-WORKERS returns)

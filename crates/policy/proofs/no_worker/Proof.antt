@@ -9,7 +9,7 @@ limit-requires : tie.Need-limit-requires
 limit-requires c κs = search rules
 
 returns : tie.Need-returns
-returns c = ap (λ limit. leb limit c.before.args.worker) c.limit.ensures
+returns c = ap (λ limit. leb limit c.args.worker) c.limit.ensures
 
-pub no-worker-spec : {M : Type 1} → statement M
-no-worker-spec = tie.close (tie.spec limit-requires returns)
+pub no_worker_spec : {M : Type 1} → statement M
+no_worker_spec = tie.close (tie.spec limit-requires returns)

@@ -12,29 +12,29 @@ use Rattle.policy.proofs.pushed_by.Tie as tie
 kind-requires : tie.Need-kind-requires
 kind-requires c κs = search rules
 
-pushes-child-requires : tie.Need-pushes-child-requires
-pushes-child-requires c κs = search rules
+pushes_child-requires : tie.Need-pushes_child-requires
+pushes_child-requires c κs = search rules
 
-add-t8 : tie.Need-overflow-add-t8
-add-t8 c =
-    omega (arith, length-kinds c.before.before.before.before.before.args.tree.now)
+overflow_add-result : tie.Need-overflow_add-result
+overflow_add-result c =
+    omega (arith, length-kinds c.args.tree.now)
+
+returns-then-pushes_child : tie.Need-returns-then-pushes_child
+returns-then-pushes_child c =
+    let a = c.args in
+    let pushed = sym c.pushes_child.ensures ∙ c.if-pushes_child.true in
+    pushes-next a.policy (kinds a.tree.now) a.step.0 (rw c.kind.ensures at pushed)
+
+cont_by-requires : tie.Need-cont_by-requires
+cont_by-requires c κs = search rules
 
 returns : tie.Need-returns
 returns c =
-    let a = c.before.before.before.before.before.args in
-    let pushed = sym c.before.pushes-child.ensures ∙ c.if1.true in
-    pushes-next a.policy (kinds a.tree.now) a.step.0 (rw c.before.before.kind.ensures at pushed)
+    let a = c.args in
+    let other = sym c.pushes_child.ensures ∙ c.if-pushes_child.false in
+    let kept = rw c.kind.ensures at other in
+    c.cont_by.ensures ∙ pushes-cont a.policy (kinds a.tree.now) a.step.0 kept
 
-cont-by-requires : tie.Need-cont-by-requires
-cont-by-requires c κs = search rules
-
-returns-2 : tie.Need-returns-2
-returns-2 c =
-    let a = c.before.before.before.before.before.before.args in
-    let other = sym c.before.before.pushes-child.ensures ∙ c.before.if1.false in
-    let kept = rw c.before.before.before.kind.ensures at other in
-    c.cont-by.ensures ∙ pushes-cont a.policy (kinds a.tree.now) a.step.0 kept
-
-pub pushed-by-spec : {M : Type 1} → statement M
-pushed-by-spec =
-    tie.close (tie.spec kind-requires pushes-child-requires add-t8 returns cont-by-requires returns-2)
+pub pushed_by_spec : {M : Type 1} → statement M
+pushed_by_spec =
+    tie.close (tie.spec kind-requires pushes_child-requires overflow_add-result returns-then-pushes_child cont_by-requires returns)

@@ -5,13 +5,13 @@ use Rattle.rules.specs.Tree.{is_async}
 use Rattle.policy.proofs.pushes_child.Statement.{statement}
 use Rattle.policy.proofs.pushes_child.Tie as tie
 
+returns-then-policy-eq-HELP_FIRST : tie.Need-returns-then-policy-eq-HELP_FIRST
+unfolding pushes_child is_async
+returns-then-policy-eq-HELP_FIRST c = simp (eq-eqb c.args.policy 2 c.if-policy-eq-HELP_FIRST.true)
+
 returns : tie.Need-returns
 unfolding pushes_child is_async
-returns c = simp (eq-eqb c.before.args.policy 2 c.if1.true)
+returns c = simp (ne_eqb c.args.policy 2 c.if-policy-eq-HELP_FIRST.false)
 
-returns-2 : tie.Need-returns-2
-unfolding pushes_child is_async
-returns-2 c = simp (ne_eqb c.before.args.policy 2 c.if1.false)
-
-pub pushes-child-spec : {M : Type 1} → statement M
-pushes-child-spec = tie.close (tie.spec returns returns-2)
+pub pushes_child_spec : {M : Type 1} → statement M
+pushes_child_spec = tie.close (tie.spec returns-then-policy-eq-HELP_FIRST returns)

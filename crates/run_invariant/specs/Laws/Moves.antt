@@ -166,7 +166,8 @@ module _ (p : ℕ) (ks : List ℕ) (i : ℕ) (xs : List ℕ) where
   unfolding holds_step pop
   after_idle k =
       by_kind (λ h. holds_step (record { hand = h; phase = k }) ≡ false → h.deque ≡ [])
-      (elim xs [ [] ↦ λ n. refl | y ∷ ys ↦ λ n. absurd (true≢false n) ]) (λ e n. absurd (true≢false n))
+      (elim xs as (λ l. holds_step (record { hand = pop l; phase = k }) ≡ false → (pop l).deque ≡ [])
+      [ [] ↦ λ n. refl | y ∷ ys ↦ λ n. absurd (true≢false n) ]) (λ e n. absurd (true≢false n))
 
   -- An opening step pushes one step, an end pops one, where there is one.
   pub after-length :
@@ -176,7 +177,7 @@ module _ (p : ℕ) (ks : List ℕ) (i : ℕ) (xs : List ℕ) where
       elim (is_end (kind_at ks i)) as
       (λ b. length (cond b (pop xs) (record { held = some (holds p ks i); deque = pushes p ks i ∷ xs })).deque
       ≡ cond b (pred (length xs)) (suc (length xs)))
-      [ true ↦ elim xs [ [] ↦ refl | y ∷ ys ↦ refl ] | false ↦ refl ]
+      [ true ↦ elim xs as (λ l. length (pop l).deque ≡ pred (length l)) [ [] ↦ refl | y ∷ ys ↦ refl ] | false ↦ refl ]
 
   pub after_deque : length (after_run (λ x. false) p ks i xs).deque ≤ length xs + opening ks i
   unfolding opening

@@ -3,7 +3,7 @@
 use Prim.Native.Nat.{ℕ, suc, ◌+◌, ◌-◌, ◌≤◌, ◌<◌}
 use Rattle.std.specs.Prelude.{◌≡◌, Bool, take, eqb}
 use Rattle.std.proofs.Math.Path.{refl}
-use Rattle.std.proofs.Common.{ap, ◌∙◌, eqb-true}
+use Rattle.std.proofs.Common.{sym, ap, ◌∙◌, eqb-true}
 use Rattle.std.proofs.Math.Bool.{true, false, and-false}
 use mathlib.Core.List.{List, [], ◌∷◌, ◌++◌, drop_last, append_assoc}
 use Rattle.std.proofs.Math.Option.{some}
@@ -215,8 +215,11 @@ module _ (p : ℕ) (ks : List ℕ) (sh : Shape (length ks) (end_at ks) (size_at 
         (runs-into (holds p ks i ∷ pushes p ks i ∷ deque) (λ whole each v. omega (arith, run_weighs ks sh p whole each v i here e))
         (i, refl, e, inside.0, inside.1, f.chain)
         (λ gone n. kept-opens p ks gone i deque e (or_none (gone (holds p ks i)) false n).0)
-        (λ w. rw (first_holds p ks i w, first-pushes p ks i w)
-        (refl, ends_same ks (frontier_end ks ph) i (cont ks i) deque (cont-inside ks sh i here e).3 (f.frontier w))))
+        (λ w.
+            let pushed = sym (first-pushes p ks i w) in
+            let ends = ends_same ks (frontier_end ks ph) i (cont ks i) deque (cont-inside ks sh i here e).3 (f.frontier w) in
+            rw (first_holds p ks i w)
+            (pushed, subst (λ (x : ℕ). EndToEnd ks (x ∷ deque) (frontier_end ks ph)) pushed ends)))
 
   pub phase_runs : (ph : Phase) (log : List ℕ) (i : ℕ) (deque : List ℕ) → PhaseFacts p ks ph log (i ∷ deque)
       → PhaseFacts p ks ph (log ++ (i ∷ [])) (stack (after_run (λ x. false) p ks i deque))
