@@ -1,5 +1,7 @@
 // What a call is given, judged before any event or trace record is looked at or made (refusals 1 to 7 of document 01, 16 of document
 // 02): policy, worker count and tree, the length of the events or the trace, and the room of the lent outputs.
+#![tactic(auto)]
+
 ghost use Rattle.std.specs.Prelude.{◌≡◌, ◌≤◌};
 ghost use Rattle.rules.specs.Tree.{most_steps};
 ghost use Rattle.tree.specs.declared.Accepted.{Accepted};

@@ -6,38 +6,34 @@ use Rattle.arguments.specs.Terms.{judged}
 use Rattle.arguments.proofs.judge_call.Statement.{statement}
 use Rattle.arguments.proofs.judge_call.Tie as tie
 
-returns : tie.Need-returns
+returns-then-start-ne0 : tie.Need-returns-then-start-ne0
 unfolding judged
-returns c = rw (ne_eqb c.before.before.args.start.number 0 c.if1.true) refl
+returns-then-start-ne0 c = rw (ne_eqb c.args.start.number 0 c.if-start-ne0.true) refl
 
 refused-requires : tie.Need-refused-requires
 refused-requires c κs = search rules
 
-returns-2 : tie.Need-returns-2
+returns-then-not-whole : tie.Need-returns-then-not-whole
 unfolding judged
-returns-2 c =
-    let two = c.before in
-    let a = two.before.before.before.args in
-    c.refused.ensures ∙ rw (eq-eqb a.start.number 0 two.before.if1.false, not-true a.whole two.if2.true) refl
+returns-then-not-whole c =
+    let a = c.args in
+    c.refused.ensures ∙ rw (eq-eqb a.start.number 0 c.if-start-ne0.false, not-true a.whole c.if-not-whole.true) refl
 
-refused-requires-2 : tie.Need-refused-requires-2
-refused-requires-2 c κs = search rules
+refused-requires-then-short : tie.Need-refused-requires-then-short
+refused-requires-then-short c κs = search rules
 
-returns-3 : tie.Need-returns-3
+returns-then-short : tie.Need-returns-then-short
 unfolding judged
-returns-3 c =
-    let three = c.before in
-    let two = three.before in
-    let a = two.before.before.before.args in
-    c.refused2.ensures
-    ∙ rw (eq-eqb a.start.number 0 two.before.if1.false, not-false a.whole two.if2.false, three.if3.true) refl
+returns-then-short c =
+    let a = c.args in
+    c.refused-then-short.ensures
+    ∙ rw (eq-eqb a.start.number 0 c.if-start-ne0.false, not-false a.whole c.if-not-whole.false, c.if-short.true) refl
 
-returns-4 : tie.Need-returns-4
+returns : tie.Need-returns
 unfolding judged
-returns-4 c =
-    let two = c.before in
-    let a = two.before.before.before.args in
-    rw (eq-eqb a.start.number 0 two.before.if1.false, not-false a.whole two.if2.false, c.if3.false) refl
+returns c =
+    let a = c.args in
+    rw (eq-eqb a.start.number 0 c.if-start-ne0.false, not-false a.whole c.if-not-whole.false, c.if-short.false) refl
 
-pub judge-call-spec : {M : Type 1} → statement M
-judge-call-spec = tie.close (tie.spec returns refused-requires returns-2 refused-requires-2 returns-3 returns-4)
+pub judge_call_spec : {M : Type 1} → statement M
+judge_call_spec = tie.close (tie.spec returns-then-start-ne0 refused-requires returns-then-not-whole refused-requires-then-short returns-then-short returns)

@@ -10,30 +10,27 @@ use Rattle.arguments.specs.Laws.Cases.{few-steps, judged-is}
 use Rattle.arguments.proofs.judge_replay.Statement.{statement}
 use Rattle.arguments.proofs.judge_replay.Tie as tie
 
-judge-start-requires : tie.Need-judge-start-requires
-judge-start-requires c κs = search rules
+judge_start-start-requires : tie.Need-judge_start-start-requires
+judge_start-start-requires c κs = search rules
 
-whole-records-requires : tie.Need-whole-records-requires
-whole-records-requires c κs = search rules
+whole_records-whole-requires : tie.Need-whole_records-whole-requires
+whole_records-whole-requires c κs = search rules
 
-mul-short : tie.Need-overflow-mul-short
-mul-short c =
-    let start = c.before.before in
-    let a = start.before.before.before.args in
-    omega (arith, few-steps _ _ a.tree.now start.judge-start.result start.judge-start.ensures)
+overflow_mul-short : tie.Need-overflow_mul-short
+overflow_mul-short c =
+    let a = c.args in
+    omega (arith, few-steps _ _ a.tree.now c.judge_start-start.result c.judge_start-start.ensures)
 
-judge-call-requires : tie.Need-judge-call-requires
-judge-call-requires c κs = search rules
+judge_call-requires : tie.Need-judge_call-requires
+judge_call-requires c κs = search rules
 
 returns : tie.Need-returns
 unfolding replay_judged
 returns c =
-    let whole = c.before.before in
-    let start = whole.before in
-    let a = start.before.before.before.args in
-    c.judge-call.ensures
-    ∙ rw whole.whole-records.ensures
-    (judged-is _ _ a.tree.now start.judge-start.result start.judge-start.ensures _ (λ (n : ℕ). ltb a.list (4 * n)))
+    let a = c.args in
+    c.judge_call.ensures
+    ∙ rw c.whole_records-whole.ensures
+    (judged-is _ _ a.tree.now c.judge_start-start.result c.judge_start-start.ensures _ (λ (n : ℕ). ltb a.list (4 * n)))
 
-pub judge-replay-spec : {M : Type 1} → statement M
-judge-replay-spec = tie.close (tie.spec judge-start-requires whole-records-requires mul-short judge-call-requires returns)
+pub judge_replay_spec : {M : Type 1} → statement M
+judge_replay_spec = tie.close (tie.spec judge_start-start-requires whole_records-whole-requires overflow_mul-short judge_call-requires returns)

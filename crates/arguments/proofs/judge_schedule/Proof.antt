@@ -9,27 +9,25 @@ use Rattle.arguments.specs.Laws.Cases.{few-steps, judged-is}
 use Rattle.arguments.proofs.judge_schedule.Statement.{statement}
 use Rattle.arguments.proofs.judge_schedule.Tie as tie
 
-judge-start-requires : tie.Need-judge-start-requires
-judge-start-requires c κs = search rules
+judge_start-start-requires : tie.Need-judge_start-start-requires
+judge_start-start-requires c κs = search rules
 
-list-short-requires : tie.Need-list-short-requires
-list-short-requires c κs =
-    let a = c.before.before.args in
-    few-steps _ _ a.tree.now c.judge-start.result c.judge-start.ensures
+list_short-short-requires : tie.Need-list_short-short-requires
+list_short-short-requires c κs =
+    let a = c.args in
+    few-steps _ _ a.tree.now c.judge_start-start.result c.judge_start-start.ensures
 
-judge-call-requires : tie.Need-judge-call-requires
-judge-call-requires c κs = search rules
+judge_call-requires : tie.Need-judge_call-requires
+judge_call-requires c κs = search rules
 
 returns : tie.Need-returns
 unfolding schedule_judged
 returns c =
-    let short = c.before in
-    let start = short.before in
-    let a = start.before.before.args in
-    c.judge-call.ensures
-    ∙ rw short.list-short.ensures
-    (judged-is _ _ a.tree.now start.judge-start.result start.judge-start.ensures true (λ (n : ℕ). list_short n a.events))
+    let a = c.args in
+    c.judge_call.ensures
+    ∙ rw c.list_short-short.ensures
+    (judged-is _ _ a.tree.now c.judge_start-start.result c.judge_start-start.ensures true (λ (n : ℕ). list_short n a.events))
 
-pub judge-schedule-spec : {M : Type 1} → statement M
-judge-schedule-spec =
-    tie.close (tie.spec judge-start-requires list-short-requires judge-call-requires returns)
+pub judge_schedule_spec : {M : Type 1} → statement M
+judge_schedule_spec =
+    tie.close (tie.spec judge_start-start-requires list_short-short-requires judge_call-requires returns)

@@ -11,88 +11,83 @@ use Rattle.arguments.proofs.judge_start.Tie as tie
 
 -- ---- places and facts
 
-abbrev start : tie.After-wide → tie.Start
+abbrev start : tie.After-wide-workers → tie.Start
 start c = c.before.before
 
 -- The policy is one of the two.
-abbrev asked : tie.Else2 → tie.After-wide
+abbrev asked : tie.Else-policy-gt-HELP_FIRST → tie.After-wide-workers
 asked c = c.before.before
 
-one_of : (c : tie.Else2) → let p = (start (asked c)).args.setup.policy in (1 ≤ p) × (p ≤ 2)
-one_of c = (omega (arith, c.before.if1.false), omega (arith, c.if2.false))
+one_of : (c : tie.Else-policy-gt-HELP_FIRST) → let p = (start (asked c)).args.setup.policy in (1 ≤ p) × (p ≤ 2)
+one_of c = (omega (arith, c.if-policy-lt-WORK_FIRST.false), omega (arith, c.if-policy-gt-HELP_FIRST.false))
 
 -- ---- the needs
 
-wide-requires : tie.Need-wide-requires
-wide-requires c κs = search rules
+wide-workers-requires : tie.Need-wide-workers-requires
+wide-workers-requires c κs = search rules
 
 refused-requires : tie.Need-refused-requires
 refused-requires c κs = search rules
 
-returns : tie.Need-returns
-returns c =
+returns-then-policy-lt-WORK_FIRST : tie.Need-returns-then-policy-lt-WORK_FIRST
+returns-then-policy-lt-WORK_FIRST c =
     let a = (start c.before.before).args in
     c.refused.ensures
-    ∙ start_policy a.setup.workers a.setup.policy a.tree.now (λ e. absurd (omega (arith, c.before.if1.true)))
-    (λ e. absurd (omega (arith, c.before.if1.true)))
+    ∙ start_policy a.setup.workers a.setup.policy a.tree.now (λ e. absurd (omega (arith, c.if-policy-lt-WORK_FIRST.true)))
+    (λ e. absurd (omega (arith, c.if-policy-lt-WORK_FIRST.true)))
 
-refused-requires-2 : tie.Need-refused-requires-2
-refused-requires-2 c κs = search rules
+refused-requires-then-policy-gt-HELP_FIRST : tie.Need-refused-requires-then-policy-gt-HELP_FIRST
+refused-requires-then-policy-gt-HELP_FIRST c κs = search rules
 
-returns-2 : tie.Need-returns-2
-returns-2 c =
+returns-then-policy-gt-HELP_FIRST : tie.Need-returns-then-policy-gt-HELP_FIRST
+returns-then-policy-gt-HELP_FIRST c =
     let a = (start c.before.before.before).args in
-    c.refused2.ensures
-    ∙ start_policy a.setup.workers a.setup.policy a.tree.now (λ e. absurd (omega (arith, c.before.if2.true)))
-    (λ e. absurd (omega (arith, c.before.if2.true)))
+    c.refused-then-policy-gt-HELP_FIRST.ensures
+    ∙ start_policy a.setup.workers a.setup.policy a.tree.now (λ e. absurd (omega (arith, c.if-policy-gt-HELP_FIRST.true)))
+    (λ e. absurd (omega (arith, c.if-policy-gt-HELP_FIRST.true)))
 
-refused-requires-3 : tie.Need-refused-requires-3
-refused-requires-3 c κs = search rules
+refused-requires-then-workers-eq0 : tie.Need-refused-requires-then-workers-eq0
+refused-requires-then-workers-eq0 c κs = search rules
 
-returns-3 : tie.Need-returns-3
-returns-3 c =
-    let e = c.before.before in
-    let a = (start (asked e)).args in
-    c.refused3.ensures
-    ∙ start-count a.setup.workers a.setup.policy a.tree.now (one_of e)
-    (inl (omega (arith, (asked e).wide.ensures, c.before.if3.true)))
+returns-then-workers-eq0 : tie.Need-returns-then-workers-eq0
+returns-then-workers-eq0 c =
+    let a = (start (asked c.before.before)).args in
+    c.refused-then-workers-eq0.ensures
+    ∙ start-count a.setup.workers a.setup.policy a.tree.now (one_of c.before.before)
+    (inl (omega (arith, (asked c.before.before).wide.ensures, c.if-workers-eq0.true)))
 
-refused-requires-4 : tie.Need-refused-requires-4
-refused-requires-4 c κs = search rules
+refused-requires-then-workers-gt-WORKERS : tie.Need-refused-requires-then-workers-gt-WORKERS
+refused-requires-then-workers-gt-WORKERS c κs = search rules
 
-returns-4 : tie.Need-returns-4
-returns-4 c =
-    let e = c.before.before.before in
-    let a = (start (asked e)).args in
-    c.refused4.ensures
-    ∙ start-count a.setup.workers a.setup.policy a.tree.now (one_of e)
-    (inr (omega (arith, (asked e).wide.ensures, c.before.if4.true)))
+returns-then-workers-gt-WORKERS : tie.Need-returns-then-workers-gt-WORKERS
+returns-then-workers-gt-WORKERS c =
+    let a = (start (asked c.before.before.before)).args in
+    c.refused-then-workers-gt-WORKERS.ensures
+    ∙ start-count a.setup.workers a.setup.policy a.tree.now (one_of c.before.before.before)
+    (inr (omega (arith, (asked c.before.before.before).wide.ensures, c.if-workers-gt-WORKERS.true)))
 
 accept-requires : tie.Need-accept-requires
 accept-requires c κs = search rules
 
-returns-5 : tie.Need-returns-5
-returns-5 c =
-    let most = c.before in
-    let some = most.before in
-    let e = some.before in
-    let a = (start (asked e)).args in
-    let wide = (asked e).wide.ensures in
-    start-tree a.setup.workers a.setup.policy a.tree.now (one_of e)
-    (omega (arith, wide, some.if3.false), omega (arith, wide, most.if4.false)) c.accept.result c.accept.ensures
+returns : tie.Need-returns
+returns c =
+    let a = (start (asked c.before.before.before)).args in
+    let wide = (asked c.before.before.before).wide.ensures in
+    start-tree a.setup.workers a.setup.policy a.tree.now (one_of c.before.before.before)
+    (omega (arith, wide, c.if-workers-eq0.false), omega (arith, wide, c.if-workers-gt-WORKERS.false)) c.accept.result c.accept.ensures
 
-pub judge-start-spec : {M : Type 1} → statement M
-judge-start-spec =
+pub judge_start_spec : {M : Type 1} → statement M
+judge_start_spec =
     tie.close
     (tie.spec
-    wide-requires
+    wide-workers-requires
     refused-requires
-    returns
-    refused-requires-2
-    returns-2
-    refused-requires-3
-    returns-3
-    refused-requires-4
-    returns-4
+    returns-then-policy-lt-WORK_FIRST
+    refused-requires-then-policy-gt-HELP_FIRST
+    returns-then-policy-gt-HELP_FIRST
+    refused-requires-then-workers-eq0
+    returns-then-workers-eq0
+    refused-requires-then-workers-gt-WORKERS
+    returns-then-workers-gt-WORKERS
     accept-requires
-    returns-5)
+    returns)

@@ -19,20 +19,20 @@ some_steps : (n events : ℕ) → ltb events (2 * (n + (n - 1) / 2)) ≡ list_sh
 unfolding list_short most_made
 some_steps n events = refl
 
+returns-then-steps-eq0 : tie.Need-returns-then-steps-eq0
+returns-then-steps-eq0 c = no_steps _ _ c.if-steps-eq0.true
+
+overflow_sub-result : tie.Need-overflow_sub-result
+overflow_sub-result c = search rules
+
+overflow_add-result : tie.Need-overflow_add-result
+overflow_add-result c = search rules
+
+overflow_mul-result : tie.Need-overflow_mul-result
+overflow_mul-result c = search rules
+
 returns : tie.Need-returns
-returns c = no_steps _ _ c.if1.true
+returns c = some_steps _ _
 
-sub-result : tie.Need-overflow-sub-result
-sub-result c = search rules
-
-add-result : tie.Need-overflow-add-result
-add-result c = search rules
-
-mul-result : tie.Need-overflow-mul-result
-mul-result c = search rules
-
-returns-2 : tie.Need-returns-2
-returns-2 c = some_steps _ _
-
-pub list-short-spec : {M : Type 1} → statement M
-list-short-spec = tie.close (tie.spec returns sub-result add-result mul-result returns-2)
+pub list_short_spec : {M : Type 1} → statement M
+list_short_spec = tie.close (tie.spec returns-then-steps-eq0 overflow_sub-result overflow_add-result overflow_mul-result returns)

@@ -5,53 +5,52 @@ use Rattle.trace.specs.Laws.Records.{record_bytes}
 use Rattle.trace.proofs.record_at.Statement.{statement}
 use Rattle.trace.proofs.record_at.Tie as tie
 
-mul_at : tie.Need-overflow-mul-at
-mul_at c = search rules
+overflow_mul-at : tie.Need-overflow_mul-at
+overflow_mul-at c = search rules
 
-add-two-bytes : tie.Need-overflow-add-two-bytes
-add-two-bytes c = search rules
+overflow_add-at : tie.Need-overflow_add-at
+overflow_add-at c = search rules
 
-shared-slice-read-two-bytes : tie.Need-shared-slice-read-two-bytes
-shared-slice-read-two-bytes c = search rules
+bounds-trace-at : tie.Need-bounds-trace-at
+bounds-trace-at c = search rules
 
-add-two-bytes-2 : tie.Need-overflow-add-two-bytes-2
-add-two-bytes-2 c = search rules
+overflow_add-at-2 : tie.Need-overflow_add-at-2
+overflow_add-at-2 c = search rules
 
-shared-slice-read-two-bytes-2 : tie.Need-shared-slice-read-two-bytes-2
-shared-slice-read-two-bytes-2 c = search rules
+bounds-trace-at-2 : tie.Need-bounds-trace-at-2
+bounds-trace-at-2 c = search rules
 
-two-bytes-requires : tie.Need-two-bytes-requires
-two-bytes-requires c κs = search rules
+two_bytes-number-requires : tie.Need-two_bytes-number-requires
+two_bytes-number-requires c κs = search rules
 
-shared-slice-read-t7 : tie.Need-shared-slice-read-t7
-shared-slice-read-t7 c = search rules
+bounds-trace-at-3 : tie.Need-bounds-trace-at-3
+bounds-trace-at-3 c = search rules
 
-add-t5 : tie.Need-overflow-add-t5
-add-t5 c = search rules
+overflow_add-result : tie.Need-overflow_add-result
+overflow_add-result c = search rules
 
-shared-slice-read-t10 : tie.Need-shared-slice-read-t10
-shared-slice-read-t10 c = search rules
+bounds-trace-at-4 : tie.Need-bounds-trace-at-4
+bounds-trace-at-4 c = search rules
 
-cast-t8 : tie.Need-overflow-cast-t8
-cast-t8 c = search rules
+overflow_cast-result : tie.Need-overflow_cast-result
+overflow_cast-result c = search rules
 
 returns : tie.Need-returns
 returns c =
-    let read = c.before.before in
-    record_bytes _ _ _ read.before.before.before.before.requires (omega arith) read.two_bytes.ensures
+    record_bytes _ _ _ c.requires (omega arith) c.two_bytes-number.ensures
 
-pub record-at-spec : {M : Type 1} → statement M
-record-at-spec =
+pub record_at_spec : {M : Type 1} → statement M
+record_at_spec =
     tie.close
     (tie.spec
-    mul_at
-    add-two-bytes
-    shared-slice-read-two-bytes
-    add-two-bytes-2
-    shared-slice-read-two-bytes-2
-    two-bytes-requires
-    shared-slice-read-t7
-    add-t5
-    shared-slice-read-t10
-    cast-t8
+    overflow_mul-at
+    overflow_add-at
+    bounds-trace-at
+    overflow_add-at-2
+    bounds-trace-at-2
+    two_bytes-number-requires
+    bounds-trace-at-3
+    overflow_add-result
+    bounds-trace-at-4
+    overflow_cast-result
     returns)

@@ -4,15 +4,15 @@ use Rattle.trace.specs.Laws.Numbers.{number-ordinal, number_serial}
 use Rattle.trace.proofs.number.trace_number.Statement.{statement}
 use Rattle.trace.proofs.number.trace_number.Tie as tie
 
+returns-then-policy-eq-WORK_FIRST : tie.Need-returns-then-policy-eq-WORK_FIRST
+returns-then-policy-eq-WORK_FIRST c =
+    let a = c.args in
+    number-ordinal a.policy a.ordinal a.step.0 c.if-policy-eq-WORK_FIRST.true
+
 returns : tie.Need-returns
 returns c =
-    let a = c.before.args in
-    number-ordinal a.policy a.ordinal a.step.0 c.if1.true
+    let a = c.args in
+    number_serial a.policy a.ordinal.0 a.step c.if-policy-eq-WORK_FIRST.false
 
-returns-2 : tie.Need-returns-2
-returns-2 c =
-    let a = c.before.args in
-    number_serial a.policy a.ordinal.0 a.step c.if1.false
-
-pub trace-number-spec : {M : Type 1} → statement M
-trace-number-spec = tie.close (tie.spec returns returns-2)
+pub trace_number_spec : {M : Type 1} → statement M
+trace_number_spec = tie.close (tie.spec returns-then-policy-eq-WORK_FIRST returns)
