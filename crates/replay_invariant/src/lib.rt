@@ -1,1 +1,2 @@
 // What is so of every trace that replay accepts, as theorems in specs/. No code.
+#![tactic(auto)]

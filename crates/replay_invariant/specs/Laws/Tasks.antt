@@ -56,7 +56,9 @@ module _ (ks : List ℕ) (sh : Shape (length ks) (end_at ks) (size_at ks)) where
 
   step_rest : (q : ℕ) → q < length ks → is_end (kind_at ks q) ≡ false → StepOf q → StepOf (cont ks q)
   unfolding StepOf task_step end_at
-  step_rest q h e s = rw (ordinal-cont ks sh q h e, cont-task ks sh q h e, s)
+  step_rest q h e s =
+      rw (ordinal-cont ks sh q h e)
+      (ap (λ t. cont ks (task_step ks t (ordinal ks q))) (cont-task ks sh q h e) ∙ ap (cont ks) s)
 
   pub step_of : (x : ℕ) → x < length ks → task_step ks (task ks x) (ordinal ks x) ≡ x
   unfolding StepOf
