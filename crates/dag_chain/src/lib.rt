@@ -1,2 +1,3 @@
 // Work, span and the heaviest chain (document 02, #105): what is claimed of them, and the walk that finds the chain. Theorems in `specs`
 // alone, no code.
+#![tactic(auto)]
