@@ -1,9 +1,11 @@
 // The loads of the workers, in recording and in replay (document 01, "Trace, log, run list"): at a steal the weight from the stolen
 // step to the end of its task, with all that is spawned there, leaves the victim's load for the thief's; and the totals that a call
 // answers at its end, which are each worker's load, the heaviest worker, and each class's load (document 02, #103).
+#![tactic(auto)]
+
 ghost use Rattle.std.specs.Prelude.{◌≡◌, ◌+◌, ◌≤◌, ◌<◌, length, get_or};
 ghost use Rattle.rules.specs.Scheduling.{most_workers};
-ghost use Rattle.rules.specs.Traces.{heaviest as heaviestOf};
+ghost use Rattle.rules.specs.Traces.{heaviest as heaviest_of};
 ghost use Rattle.loads.specs.Terms.{load_moved, weight_between, Movable, totals_of};
 
 use policy::WORKERS;
@@ -43,7 +45,7 @@ pub fn move_part(
 // The heaviest worker, the lowest numbered among equals.
 fn heaviest(loads: &[u64; WORKERS]) -> usize
     requires { length loads.now ≡ most_workers }
-    ensures { result ≡ heaviestOf loads.now }
+    ensures { result ≡ heaviest_of loads.now }
 {
     let mut best = 0;
     let mut w = 1;

@@ -6,67 +6,65 @@ use Rattle.loads.specs.Laws.Heaviest.{Leads, leads_start, leads-more, leads-stil
 use Rattle.loads.proofs.heaviest.Statement.{statement}
 use Rattle.loads.proofs.heaviest.Tie as tie
 
-abbrev invariant-loop : tie.invariant-loop
-invariant-loop loads best₀ w₀ best w = Leads loads best w
+abbrev invariant-loop-w : tie.invariant-loop-w
+invariant-loop-w loads best₀ w₀ best w = Leads loads best w
 
-abbrev decreases-loop : tie.decreases-loop
-decreases-loop loads best₀ w₀ best w = 16 - w
+abbrev decreases-loop-w : tie.decreases-loop-w
+decreases-loop-w loads best₀ w₀ best w = 16 - w
 
-loop-holds : tie.Need-loop-init invariant-loop decreases-loop
-loop-holds c = leads_start c.args.loads.now
+loop-w-init : tie.Need-loop-w-init invariant-loop-w decreases-loop-w
+loop-w-init c = leads_start c.args.loads.now
 
-add-w : tie.Need-overflow-add-w invariant-loop decreases-loop
-add-w c = omega arith
+overflow_add-w : tie.Need-overflow_add-w invariant-loop-w decreases-loop-w
+overflow_add-w c = omega arith
 
-mul-if1 : tie.Need-overflow-mul-if1 invariant-loop decreases-loop
-mul-if1 c = omega (arith, c.before.loop.invariant.below)
+offset_bounds-loads-best : tie.Need-offset_bounds-loads-best invariant-loop-w decreases-loop-w
+offset_bounds-loads-best c = omega (arith, c.loop-w.invariant.below)
 
-element-copy-out-if1 : tie.Need-element-copy-out-if1 invariant-loop decreases-loop
-element-copy-out-if1 c = omega (arith, c.before.loop.invariant.below)
+bounds-loads-best : tie.Need-bounds-loads-best invariant-loop-w decreases-loop-w
+bounds-loads-best c = omega (arith, c.loop-w.invariant.below)
 
-mul-if1-2 : tie.Need-overflow-mul-if1-2 invariant-loop decreases-loop
-mul-if1-2 c = omega arith
+offset_bounds-loads-k : tie.Need-offset_bounds-loads-k invariant-loop-w decreases-loop-w
+offset_bounds-loads-k c = omega arith
 
-element-copy-out-if1-2 : tie.Need-element-copy-out-if1-2 invariant-loop decreases-loop
-element-copy-out-if1-2 c = omega arith
+bounds-loads-k : tie.Need-bounds-loads-k invariant-loop-w decreases-loop-w
+bounds-loads-k c = omega arith
 
-loop-less : tie.Need-loop-smaller invariant-loop decreases-loop
-loop-less c = omega arith
+loop-w-smaller-then-loads-best : tie.Need-loop-w-smaller-then-loads-best invariant-loop-w decreases-loop-w
+loop-w-smaller-then-loads-best c = omega arith
 
-loop-again : tie.Need-loop-preserved invariant-loop decreases-loop
-loop-again c =
-    let at = c.before.before.before.before in
-    let loop = at.loop in
-    leads-more at.before.args.loads.now loop.best loop.w loop.invariant (omega arith) c.if1.true
+loop-w-preserved-then-loads-best : tie.Need-loop-w-preserved-then-loads-best invariant-loop-w decreases-loop-w
+loop-w-preserved-then-loads-best c =
+    let loop = c.loop-w in
+    leads-more c.args.loads.now loop.best loop.w loop.invariant (omega arith) c.if-loads-best.true
 
-loop-less-2 : tie.Need-loop-smaller-2 invariant-loop decreases-loop
-loop-less-2 c = omega arith
+loop-w-smaller : tie.Need-loop-w-smaller invariant-loop-w decreases-loop-w
+loop-w-smaller c = omega arith
 
-loop-again-2 : tie.Need-loop-preserved-2 invariant-loop decreases-loop
-loop-again-2 c =
-    let at = c.before.before.before.before in
-    let loop = at.loop in
-    leads-still at.before.args.loads.now loop.best loop.w loop.invariant (omega arith) c.if1.false
+loop-w-preserved : tie.Need-loop-w-preserved invariant-loop-w decreases-loop-w
+loop-w-preserved c =
+    let loop = c.loop-w in
+    leads-still c.args.loads.now loop.best loop.w loop.invariant (omega arith) c.if-loads-best.false
 
-returns : tie.Need-returns invariant-loop decreases-loop
+returns : tie.Need-returns invariant-loop-w decreases-loop-w
 returns c =
-    let loop = c.before.loop in
-    leads_done c.before.before.args.loads.now loop.best loop.w loop.invariant (omega arith) c.before.before.requires
+    let loop = c.loop-w in
+    leads_done c.args.loads.now loop.best loop.w loop.invariant (omega arith) c.requires
 
-pub heaviest-spec : {M : Type 1} → statement M
-heaviest-spec =
+pub heaviest_spec : {M : Type 1} → statement M
+heaviest_spec =
     tie.close
     (tie.spec
-    invariant-loop
-    decreases-loop
-    loop-holds
-    add-w
-    mul-if1
-    element-copy-out-if1
-    mul-if1-2
-    element-copy-out-if1-2
-    loop-less
-    loop-again
-    loop-less-2
-    loop-again-2
+    invariant-loop-w
+    decreases-loop-w
+    loop-w-init
+    overflow_add-w
+    offset_bounds-loads-best
+    bounds-loads-best
+    offset_bounds-loads-k
+    bounds-loads-k
+    loop-w-smaller-then-loads-best
+    loop-w-preserved-then-loads-best
+    loop-w-smaller
+    loop-w-preserved
     returns)

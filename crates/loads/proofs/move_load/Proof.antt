@@ -10,47 +10,47 @@ use Rattle.loads.specs.Terms.{load_moved}
 use Rattle.loads.proofs.move_load.Statement.{statement}
 use Rattle.loads.proofs.move_load.Tie as tie
 
-mul-loads : tie.Need-overflow-mul-loads
-mul-loads c = search rules
+offset_bounds-loads-victim : tie.Need-offset_bounds-loads-victim
+offset_bounds-loads-victim c = search rules
 
-element-copy-out-loads : tie.Need-element-copy-out-loads
-element-copy-out-loads c = search rules
+bounds-loads-victim : tie.Need-bounds-loads-victim
+bounds-loads-victim c = search rules
 
-sub-loads : tie.Need-overflow-sub-loads
-sub-loads c = search rules
+overflow_sub-loads : tie.Need-overflow_sub-loads
+overflow_sub-loads c = search rules
 
-element-write-loads : tie.Need-element-write-loads
-element-write-loads c = search rules
+bounds-loads-victim-2 : tie.Need-bounds-loads-victim-2
+bounds-loads-victim-2 c = search rules
 
-mul-loads-2 : tie.Need-overflow-mul-loads-2
-mul-loads-2 c = search rules
+offset_bounds-loads-thief : tie.Need-offset_bounds-loads-thief
+offset_bounds-loads-thief c = search rules
 
-element-copy-out-loads-2 : tie.Need-element-copy-out-loads-2
-element-copy-out-loads-2 c = search rules
+bounds-loads-thief : tie.Need-bounds-loads-thief
+bounds-loads-thief c = search rules
 
-add-loads : tie.Need-overflow-add-loads
-add-loads c =
-    let a = c.before.before.args in
+overflow_add-loads : tie.Need-overflow_add-loads
+overflow_add-loads c =
+    let a = c.args in
     let lighter = get_or a.loads.now a.victim 0 - a.weight in
-    omega (arith, get_or-set_other a.loads.now a.victim a.thief lighter 0 c.before.before.requires.0.2)
+    omega (arith, get_or-set_other a.loads.now a.victim a.thief lighter 0 c.requires.0.2)
 
-element-write-loads-2 : tie.Need-element-write-loads-2
-element-write-loads-2 c = search rules
+bounds-loads-thief-2 : tie.Need-bounds-loads-thief-2
+bounds-loads-thief-2 c = search rules
 
 returns : tie.Need-returns
 unfolding load_moved
 returns c = refl
 
-pub move-load-spec : {M : Type 1} → statement M
-move-load-spec =
+pub move_load_spec : {M : Type 1} → statement M
+move_load_spec =
     tie.close
     (tie.spec
-    mul-loads
-    element-copy-out-loads
-    sub-loads
-    element-write-loads
-    mul-loads-2
-    element-copy-out-loads-2
-    add-loads
-    element-write-loads-2
+    offset_bounds-loads-victim
+    bounds-loads-victim
+    overflow_sub-loads
+    bounds-loads-victim-2
+    offset_bounds-loads-thief
+    bounds-loads-thief
+    overflow_add-loads
+    bounds-loads-thief-2
     returns)

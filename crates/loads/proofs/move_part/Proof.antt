@@ -10,57 +10,55 @@ use Rattle.loads.proofs.move_part.Statement.{statement}
 use Rattle.loads.proofs.move_part.Tie as tie
 
 -- The difference of the two sums is that weight.
-weighs : (c : tie.After-wide) → let a = c.before.before.before.before.args in
-    get_or a.sums.now c.wide.result 0 - get_or a.sums.now a.step.0 0 ≡ weight_between a.ends.now a.sums.now a.step.0
+weighs : (c : tie.After-wide-end) → let a = c.args in
+    get_or a.sums.now c.wide-end.result 0 - get_or a.sums.now a.step.0 0 ≡ weight_between a.ends.now a.sums.now a.step.0
 unfolding weight_between
-weighs c = rw c.wide.ensures refl
+weighs c = rw c.wide-end.ensures refl
 
-mul_wide : tie.Need-overflow-mul-wide
-mul_wide c = search rules
+offset_bounds-ends-first : tie.Need-offset_bounds-ends-first
+offset_bounds-ends-first c = search rules
 
-shared-slice-read-wide : tie.Need-shared-slice-read-wide
-shared-slice-read-wide c = search rules
+bounds-ends-first : tie.Need-bounds-ends-first
+bounds-ends-first c = search rules
 
-wide-requires : tie.Need-wide-requires
-wide-requires c κs = search rules
+wide-end-requires : tie.Need-wide-end-requires
+wide-end-requires c κs = search rules
 
-mul-weight : tie.Need-overflow-mul-weight
-mul-weight c = search rules
+offset_bounds-sums-end : tie.Need-offset_bounds-sums-end
+offset_bounds-sums-end c = search rules
 
-shared-slice-read-weight : tie.Need-shared-slice-read-weight
-shared-slice-read-weight c = search rules
+bounds-sums-end : tie.Need-bounds-sums-end
+bounds-sums-end c = search rules
 
-mul-weight-2 : tie.Need-overflow-mul-weight-2
-mul-weight-2 c = search rules
+offset_bounds-sums-first : tie.Need-offset_bounds-sums-first
+offset_bounds-sums-first c = search rules
 
-shared-slice-read-weight-2 : tie.Need-shared-slice-read-weight-2
-shared-slice-read-weight-2 c = search rules
+bounds-sums-first : tie.Need-bounds-sums-first
+bounds-sums-first c = search rules
 
-sub-weight : tie.Need-overflow-sub-weight
-sub-weight c =
-    let at = c.before.before in
-    rw at.wide.ensures at.before.before.before.before.requires.1.rises
+overflow_sub-weight : tie.Need-overflow_sub-weight
+overflow_sub-weight c =
+    rw c.wide-end.ensures c.requires.1.rises
 
-move-load-requires : tie.Need-move-load-requires
-move-load-requires c κs =
-    let at = c.before.before.before in
-    let movable = at.before.before.before.before.requires.1 in
-    ((omega arith, omega arith, omega arith), (rw (weighs at) movable.leaves, rw (weighs at) movable.fits))
+move_load-requires : tie.Need-move_load-requires
+move_load-requires c κs =
+    let movable = c.requires.1 in
+    ((omega arith, omega arith, omega arith), (rw (weighs c.before.before.before) movable.leaves, rw (weighs c.before.before.before) movable.fits))
 
 returns : tie.Need-returns
-returns c = rw (← weighs c.before.before.before.before) c.Move-Load.ensures
+returns c = rw (← weighs c.before.before.before.before) c.move_load.ensures
 
-pub move-part-spec : {M : Type 1} → statement M
-move-part-spec =
+pub move_part_spec : {M : Type 1} → statement M
+move_part_spec =
     tie.close
     (tie.spec
-    mul_wide
-    shared-slice-read-wide
-    wide-requires
-    mul-weight
-    shared-slice-read-weight
-    mul-weight-2
-    shared-slice-read-weight-2
-    sub-weight
-    move-load-requires
+    offset_bounds-ends-first
+    bounds-ends-first
+    wide-end-requires
+    offset_bounds-sums-end
+    bounds-sums-end
+    offset_bounds-sums-first
+    bounds-sums-first
+    overflow_sub-weight
+    move_load-requires
     returns)

@@ -7,20 +7,19 @@ use Rattle.loads.specs.Terms.{totals_of}
 use Rattle.loads.proofs.totals_of.Statement.{statement}
 use Rattle.loads.proofs.totals_of.Tie as tie
 
+returns-then-number-ne0 : tie.Need-returns-then-number-ne0
+unfolding totals_of
+returns-then-number-ne0 c = rw (ne_eqb c.args.number 0 c.if-number-ne0.true) refl
+
+heaviest-most-requires : tie.Need-heaviest-most-requires
+heaviest-most-requires c κs = search rules
+
 returns : tie.Need-returns
 unfolding totals_of
-returns c = rw (ne_eqb c.before.args.number 0 c.if1.true) refl
+returns c =
+    let a = c.args in
+    rw (eq-eqb a.number 0 c.if-number-ne0.false)
+    (λ k. record { loads = a.loads; heaviest = c.heaviest-most.ensures k; classes = a.classes })
 
-heaviest-requires : tie.Need-heaviest-requires
-heaviest-requires c κs = search rules
-
-returns-2 : tie.Need-returns-2
-unfolding totals_of
-returns-2 c =
-    let one = c.before.before in
-    let a = one.before.args in
-    rw (eq-eqb a.number 0 one.if1.false)
-    (λ k. record { loads = a.t2; heaviest = c.heaviest.ensures k; classes = a.classes })
-
-pub totals-of-spec : {M : Type 1} → statement M
-totals-of-spec = tie.close (tie.spec returns heaviest-requires returns-2)
+pub totals_of_spec : {M : Type 1} → statement M
+totals_of_spec = tie.close (tie.spec returns-then-number-ne0 heaviest-most-requires returns)
