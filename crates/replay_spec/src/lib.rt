@@ -1,6 +1,8 @@
 // One trace record and one phase in the tables of replay (document 01, "Trace, log, run list"): what reading a steal, beginning a
 // phase and running a phase alone come to, as definitions and laws in `specs`, and the types that they speak of. The functions
 // are in the crates above.
+#![tactic(auto)]
+
 use tree::{Ordinal, Phase, Step};
 
 // The latest phase of a worker that has had none.

@@ -2,7 +2,7 @@
 -- behind the step that is run next, and the records so far stand at the front of the phase's part of the list. This is so at
 -- the start and after each kind of turn, and at the end it is the phase's whole order.
 use Rattle.std.specs.Prelude.{ℕ, ◌+◌, ◌-◌, ◌*◌, ◌/◌, ◌%◌, ◌≤◌, ◌<◌, ◌≡◌, refl, true, false, not, length, get_or, set}
-use Rattle.std.proofs.Common.{sym, ap, ◌∙◌, arith, length-append, length-set, get_or-set_same, get_or-set_other}
+use Rattle.std.proofs.Common.{sym, subst, ap, ◌∙◌, arith, length-append, length-set, get_or-set_same, get_or-set_other}
 use mathlib.Core.List.{List, [], ◌∷◌, ◌++◌, map-append, flatten}
 use borrow.Author.Tests.{eq-eqb, ne_eqb}
 use Rattle.rules.specs.Bytes.{two_bytes}
@@ -242,5 +242,7 @@ module _ {p : ℕ} {tree labels : List ℕ} {k first : ℕ} {before stack list :
         let so = o.turn.so in
         let room : length so.deque < length stack = omega (arith, push-fits, so.room, so.deep) in
         rw o.holding (goes_on o.turn (set stack depth pushed) (holds p (kinds tree) i) (pushed ∷ so.deque) pending
-        (length-set stack depth pushed ∙ so.room) (rw so.deep (stacked_push so.deque stack pushed room so.stacked))
+        (length-set stack depth pushed ∙ so.room)
+        (subst (λ (x : ℕ). Stacked (set stack x pushed) (pushed ∷ so.deque)) (sym so.deep)
+        (stacked_push so.deque stack pushed room so.stacked))
         (depth + 1) (omega (arith, so.deep)))
