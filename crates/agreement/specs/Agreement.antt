@@ -153,7 +153,7 @@ module _ {S : Type 0} (calls : Compared S) (tree : List ℕ) (es : List Event) w
       pub record Same : Type 0 where
         pub log_count : recorded.log_count ≡ runs_in live
         pub trace_count : recorded.trace_count ≡ length steals
-        pub fewSteals : length steals ≤ (length (kinds tree) - 1) / 2
+        pub few_steals : length steals ≤ (length (kinds tree) - 1) / 2
         -- As many phases live and replayed,
         pub phase_count : replayed.phase_count ≡ suc (length steals)
         -- with the same worker,

@@ -52,18 +52,18 @@ module _ (tree lent : List ℕ) where
 
   pub record WorkAndSpan : Type 0 where
     -- "Each step starts when every step that must precede it has ended": not before,
-    pub notBefore : (i j : ℕ) → j < n → Precedes ks i j → ends i ≤ starts j
+    pub not_before : (i j : ℕ) → j < n → Precedes ks i j → ends i ≤ starts j
     -- and not later: at once, or with the end of one of them.
     pub at_once : (j : ℕ) → j < n → (starts j ≡ 0) ⊎ ((i : ℕ) × Precedes ks i j × (ends i ≡ starts j))
     -- It "lasts its weight".
     pub lasting : (j : ℕ) → j < n → ends j ≡ starts j + get_or ws j 0
     -- "The span is the latest end."
     pub latest : (j : ℕ) → j < n → ends j ≤ (span_call tree lent).span
-    pub latestEnds : (j : ℕ) × (j < n) × (ends j ≡ (span_call tree lent).span)
+    pub latest_ends : (j : ℕ) × (j < n) × (ends j ≡ (span_call tree lent).span)
     -- "The end of a task and the end of all that it spawned are defined through each other": so defined, how long the rest of a task
     -- lasts with all that it spawned is from the start of the step to the latest of these ends; for a task it is from its first step on.
-    pub restEnds : (i j : ℕ) → i < n → FromStep ks i j → ends j ≤ starts i + lasts ks ws i
-    pub restEndsThen : (i : ℕ) → i < n → (j : ℕ) × FromStep ks i j × (ends j ≡ starts i + lasts ks ws i)
+    pub rest_ends : (i j : ℕ) → i < n → FromStep ks i j → ends j ≤ starts i + lasts ks ws i
+    pub rest_ends_then : (i : ℕ) → i < n → (j : ℕ) × FromStep ks i j × (ends j ≡ starts i + lasts ks ws i)
     -- "Also list, and answer the length of,
     pub counted : length listed ≡ (span_call tree lent).chain_length
     -- one chain of one or more steps, each required before the next over any number of links,
@@ -71,10 +71,10 @@ module _ (tree lent : List ℕ) where
     -- whose weights add up to the span."
     pub weighs : weigh ws listed ≡ (span_call tree lent).span
     -- "No chain weighs more."
-    pub noHeavier : (steps : List ℕ) → Chain ks steps → weigh ws steps ≤ (span_call tree lent).span
+    pub no_heavier : (steps : List ℕ) → Chain ks steps → weigh ws steps ≤ (span_call tree lent).span
     -- "Among equal chains" it is the first.
     pub first : (steps : List ℕ) → Chain ks steps → weigh ws steps ≡ (span_call tree lent).span
         → (steps ≡ listed) ⊎ (goes_before listed steps ≡ true)
     -- "Span is at most work, and work at most n × span."
-    pub spanAtMost : (span_call tree lent).span ≤ (span_call tree lent).work
-    pub workAtMost : (span_call tree lent).work ≤ n * (span_call tree lent).span
+    pub span_at_most : (span_call tree lent).span ≤ (span_call tree lent).work
+    pub work_at_most : (span_call tree lent).work ≤ n * (span_call tree lent).span

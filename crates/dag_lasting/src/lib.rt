@@ -4,7 +4,7 @@
 // and both stand behind it. The stack is as deep as tasks are open together: at most 64.
 ghost use Rattle.std.specs.Prelude.{◌≡◌, suc, ◌≤◌, length};
 ghost use Rattle.rules.specs.Tree.{is_finish, kinds, weights, kind_at, task as first_of, tree_verdict};
-ghost use Rattle.dag_chain.specs.Terms.{joined as joinedBy};
+ghost use Rattle.dag_chain.specs.Terms.{joined as joined_by};
 ghost use Rattle.dag_lasting.specs.Terms.{longest, Lasting, Filled, Tabled, Room};
 ghost use Rattle.tree_tables.specs.Terms.{Ends, Openers};
 
@@ -14,7 +14,7 @@ use tree::{END, FINISH, Step, kind, steps, weight};
 fn joined(kind: u8, own: u32, child: u64, rest: u64) -> u64
     requires child_le_longest { child ≤ longest }
     requires rest_le_longest { rest ≤ longest }
-    ensures { result ≡ joinedBy (is_finish kind) own child rest }
+    ensures { result ≡ joined_by (is_finish kind) own child rest }
 {
     let own = own as u64;
     if kind == FINISH {

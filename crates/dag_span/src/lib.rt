@@ -2,7 +2,7 @@
 // where it is lent. Nothing is refused once the first step is written.
 ghost use Rattle.std.specs.Prelude.{◌≡◌, ◌*◌, ◌≤◌, length};
 ghost use Rattle.rules.specs.Tree.{kinds, weights, tree_verdict};
-ghost use Rattle.rules_dag.specs.Spans.{work as workOf, span_call};
+ghost use Rattle.rules_dag.specs.Spans.{work as work_of, span_call};
 ghost use Rattle.dag_span.specs.Contract.{answers};
 ghost use Rattle.dag_span.specs.Terms.{Measured, refusal};
 
@@ -34,7 +34,7 @@ fn refused(number: u8, position: usize) -> Spanned
 // What all steps of an accepted tree weigh.
 fn work(tree: &[u8]) -> u64
     requires { (tree_verdict tree.now).number ≡ 0 }
-    ensures { result ≡ workOf (weights tree.now) }
+    ensures { result ≡ work_of (weights tree.now) }
 {
     let n = steps(tree);
     let mut j = 0;

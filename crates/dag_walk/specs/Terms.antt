@@ -2,7 +2,7 @@
 use Rattle.std.specs.Prelude.{ℕ, suc, ◌+◌, ◌≤◌, ◌<◌, ◌≡◌, List, ◌++◌, length}
 use Rattle.rules.specs.Tree.{kinds, weights, tree_verdict}
 use Rattle.rules.specs.Calls.{written}
-use Rattle.rules_dag.specs.Spans.{chain as chainSteps, chain_bytes}
+use Rattle.rules_dag.specs.Spans.{chain as chain_steps, chain_bytes}
 use Rattle.tree_tables.specs.Terms.{Ends, Openers}
 use Rattle.dag_chain.specs.Terms.{path, walked, Pending, remains}
 use Rattle.dag_lasting.specs.Terms.{Lasting}
@@ -37,5 +37,5 @@ pub record Walking (ks ws lent chain : List ℕ) (c left count : ℕ) : Type 0 w
 
 -- The chain's length is answered, and its steps stand at the front of the lent buffer.
 pub record ChainWritten (ks ws lent : List ℕ) (count : ℕ) (after : List ℕ) : Type 0 where
-  pub counted : count ≡ length (chainSteps ks ws)
-  pub listed : after ≡ written (chain_bytes (chainSteps ks ws)) lent
+  pub counted : count ≡ length (chain_steps ks ws)
+  pub listed : after ≡ written (chain_bytes (chain_steps ks ws)) lent

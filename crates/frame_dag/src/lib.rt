@@ -2,7 +2,7 @@
 // a linker takes only the objects that are used.
 ghost use Rattle.std.specs.Prelude.{◌≡◌};
 ghost use Rattle.rules_dag.specs.Spans.{span_call};
-ghost use Rattle.dag_span.specs.Contract.{answers as spanAnswers};
+ghost use Rattle.dag_span.specs.Contract.{answers as span_answers};
 ghost use Rattle.frame_dag.specs.Contract.{flat_span};
 
 // A refusal and position, or the work, the span and how many steps the chain has. What is not answered is 0.
@@ -20,7 +20,7 @@ pub struct FrameSpan {
 // bytes. A refusal changes no byte.
 #[unsafe(no_mangle)]
 pub extern "C" fn frame_span(tree: &[u8], chain: &mut [u8]) -> FrameSpan
-    ensures answers { result ≡ flat_span (spanAnswers (span_call tree.now chain.old)) }
+    ensures answers { result ≡ flat_span (span_answers (span_call tree.now chain.old)) }
     ensures chain { chain.new ≡ (span_call tree.now chain.old).chain }
 {
     let spanned = dag_span::span(tree, chain);

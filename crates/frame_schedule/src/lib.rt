@@ -2,7 +2,7 @@
 // calls them where they have one caller.
 ghost use Rattle.std.specs.Prelude.{◌≡◌};
 ghost use Rattle.rules_schedule.specs.Schedules.{schedule_call};
-ghost use Rattle.schedule.specs.Contract.{answers as scheduleAnswers};
+ghost use Rattle.schedule.specs.Contract.{answers as schedule_answers};
 ghost use Rattle.frame_answers.specs.Contract.{flat_schedule};
 
 use frame_answers::FrameSchedule;
@@ -19,7 +19,7 @@ pub extern "C" fn frame_schedule(
     events: &mut [u8],
 ) -> FrameSchedule
     ensures answers { let call = schedule_call workers policy tree.now seed events.old in
-        result ≡ flat_schedule (scheduleAnswers call) }
+        result ≡ flat_schedule (schedule_answers call) }
     ensures events { let call = schedule_call workers policy tree.now seed events.old in
         events.new ≡ call.events }
 {

@@ -2,8 +2,8 @@
 // flat structs of numbers, and a slice is a pointer and a length. Every function takes any bytes and any numbers.
 ghost use Rattle.std.specs.Prelude.{◌≡◌};
 ghost use Rattle.rules.specs.Calls.{record_call, replay_call};
-ghost use Rattle.record.specs.Contract.{answers as recordAnswers};
-ghost use Rattle.replay.specs.Contract.{answers as replayAnswers};
+ghost use Rattle.record.specs.Contract.{answers as record_answers};
+ghost use Rattle.replay.specs.Contract.{answers as replay_answers};
 ghost use Rattle.frame_answers.specs.Contract.{flat_record, flat_replay};
 
 use frame_answers::{FrameRecord, FrameReplay};
@@ -21,7 +21,7 @@ pub extern "C" fn frame_record(
     trace: &mut [u8],
 ) -> FrameRecord
     ensures answers { let call = record_call workers policy tree.now events.now log.old trace.old in
-        result ≡ flat_record (recordAnswers call) }
+        result ≡ flat_record (record_answers call) }
     ensures log { let call = record_call workers policy tree.now events.now log.old trace.old in
         log.new ≡ call.log }
     ensures trace { let call = record_call workers policy tree.now events.now log.old trace.old in
@@ -45,7 +45,7 @@ pub extern "C" fn frame_replay(
     list: &mut [u8],
 ) -> FrameReplay
     ensures answers { let call = replay_call workers policy tree.now trace.now list.old in
-        result ≡ flat_replay (replayAnswers call) }
+        result ≡ flat_replay (replay_answers call) }
     ensures list { let call = replay_call workers policy tree.now trace.now list.old in
         list.new ≡ call.list }
 {

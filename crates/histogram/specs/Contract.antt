@@ -1,6 +1,6 @@
 -- What the calls on a histogram take and answer, by the rules.
 use Rattle.rules_histogram.specs.Histograms.{Histogram as Ruled, Added as Call}
-use Rattle.replay.specs.Contract.{answers as replayAnswers}
+use Rattle.replay.specs.Contract.{answers as replay_answers}
 use Rattle.histogram.specs.declared.Histogram.{Histogram}
 use Rattle.histogram.specs.declared.Added.{Added}
 
@@ -13,4 +13,4 @@ stored h = record { traces = h.traces; counts = h.counts }
 
 -- The answers of a call, beside what it leaves in the lent run list.
 unfoldable pub answers : Call → Added
-answers c = record { replayed = replayAnswers c.replayed; histogram = stored c.histogram }
+answers c = record { replayed = replay_answers c.replayed; histogram = stored c.histogram }

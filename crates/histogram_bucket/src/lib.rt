@@ -4,7 +4,7 @@
 // compiler knows: read at a place that varies, it would be laid out anew for each load.
 ghost use Rattle.std.specs.Prelude.{◌≡◌, ◌/◌, ◌^◌, ◌≤◌, ◌<◌};
 ghost use Rattle.rules_histogram.specs.Limits.{limits, place};
-ghost use Rattle.histogram_limits.specs.Terms.{power_count, Near, passes as passesOf};
+ghost use Rattle.histogram_limits.specs.Terms.{power_count, Near, passes as passes_of};
 
 // Limit k is the largest whole number whose fourth power is at most 2 to the power k.
 pub const LIMITS: [u64; 176] = [
@@ -214,7 +214,7 @@ fn top_bit(load: u64) -> u32
 // 1 where a limit, halved some times, does not exceed the load, else 0.
 fn passes(load: u64, limit: u64, halvings: u32) -> usize
     requires { halvings < power_count }
-    ensures passes { result ≡ passesOf load (limit / 2 ^ halvings) }
+    ensures passes { result ≡ passes_of load (limit / 2 ^ halvings) }
     ensures most { result ≤ 1 }
 {
     (limit >> halvings <= load) as usize

@@ -73,7 +73,7 @@ module _ (more : ℕ → ℕ) (c : Call) (h : Histogram) where
     pub full : most_traces ≤ h.traces → (alone c).verdict.number ≡ 0
         → result.replayed.verdict ≡ record { number = 17; position = 0 }
     -- and only then.
-    pub onlyFull : result.replayed.verdict.number ≡ 17 → (most_traces ≤ h.traces) × ((alone c).verdict.number ≡ 0)
+    pub only_full : result.replayed.verdict.number ≡ 17 → (most_traces ≤ h.traces) × ((alone c).verdict.number ≡ 0)
     -- "Adds all its phases": one trace more, and the load of each of the phases answered,
     pub adds : result.replayed.verdict.number ≡ 0
         → result.histogram ≡ record { traces = suc h.traces; counts = add_loads more h.counts (loads_of c) }
@@ -98,7 +98,7 @@ module _ (calls : List Call) where
     -- "A bucket for load 0 and 176 limits."
     pub buckets : length reached.counts ≡ bucket_count
     -- "The counts add up to the phases of all traces added since the start." A refused call answers 0 phases.
-    pub addsUp : sum (λ count. count) reached.counts ≡ sum (λ answer. answer.phase_count) answered
+    pub adds_up : sum (λ count. count) reached.counts ≡ sum (λ answer. answer.phase_count) answered
     -- Each is the number of those phases whose load goes to its bucket.
     pub each : (b : ℕ) → get_or reached.counts b 0 ≡ sum (λ load. cond (eqb (place load) b) 1 0) (loads_added wrapping empty calls)
     -- "Refused ones do not count": the traces added are those of the calls accepted,
@@ -108,5 +108,5 @@ module _ (calls : List Call) where
     -- No count of four bytes ever wraps: any next call does what it would do counting without end,
     pub exact : (c : Call) → called wrapping c reached ≡ called suc c reached
     -- and so did all calls up to here.
-    pub sameHistogram : reached ≡ after_calls suc empty calls
-    pub sameAnswers : answered ≡ answers suc empty calls
+    pub same_histogram : reached ≡ after_calls suc empty calls
+    pub same_answers : answered ≡ answers suc empty calls

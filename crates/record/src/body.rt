@@ -2,7 +2,7 @@
 // and trace, which are written to arrays of the call's own, are copied out once every event is accepted. The classes are charged with
 // what the tree's steps weigh: the phases cover all of them (document 02, #103).
 ghost use Rattle.std.specs.Prelude.{◌≡◌, ◌*◌, length, replicate};
-ghost use Rattle.rules.specs.Tree.{most_steps, class_count, kinds, classes as classesOf, weights};
+ghost use Rattle.rules.specs.Tree.{most_steps, class_count, kinds, classes as classes_of, weights};
 ghost use Rattle.rules.specs.Calls.{most_trace_records, start_verdict};
 ghost use Rattle.tree_tables.specs.Terms.{classes_before};
 ghost use Rattle.record_walk.specs.Terms.{Walks};
@@ -33,7 +33,7 @@ fn walk_events(
     requires classes_value { classes.old ≡ replicate class_count 0 }
     ensures walks { Walks setup.workers setup.policy tree.now events.now result log.new trace.new }
     ensures classes { let file = tree.now in
-        classes.new ≡ classes_before (classesOf file) (weights file) (length (kinds file)) }
+        classes.new ≡ classes_before (classes_of file) (weights file) (length (kinds file)) }
 {
     let n = tree::steps(tree);
     let mut ends: [u16; MOST_STEPS] = [0; MOST_STEPS];

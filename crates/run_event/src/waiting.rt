@@ -5,7 +5,7 @@ ghost use Rattle.std.specs.Prelude.{◌≡◌, ◌+◌, ◌≤◌, ◌<◌, ◌|
 ghost use Rattle.rules.specs.Tree.{kinds, most_steps};
 ghost use Rattle.tree_tables.specs.Terms.{Openers};
 ghost use Rattle.run_spec.specs.Deques.{unrun_mark, newest_mark, found_of};
-ghost use Rattle.run_spec.specs.Running.{all_run, awaits as awaitsBy};
+ghost use Rattle.run_spec.specs.Running.{all_run, awaits as awaits_by};
 
 use run_deques::NOT_RUN;
 use run_spec::Found;
@@ -68,7 +68,7 @@ pub fn last_unrun(place: &[u8; MOST_STEPS], first: Step, end: Step) -> Found
 // The step that a held step waits for, or none.
 pub fn awaits(tree: &[u8], openers: &[u16], place: &[u8; MOST_STEPS], step: Step) -> Found
     requires { (step.0 ≤ most_steps) × Openers (kinds tree.now) openers.now (length openers.now) }
-    ensures { result ≡ found_of (awaitsBy (kinds tree.now) place.now step.0) }
+    ensures { result ≡ found_of (awaits_by (kinds tree.now) place.now step.0) }
 {
     match finish_by(tree, openers, step) {
         FinishChild::From(first) => last_unrun(place, first, step),

@@ -23,6 +23,6 @@ module _ (w p : ℕ) (tree : List ℕ) (es : List (List ℕ)) where
     pub invariant : Invariant p (kinds tree) ruled
     pub tells : outcomes tree (start_answer w p tree).state es ≡ told_all p (kinds tree) (start w) es
     pub shows : Shows p (kinds tree) (fields reached) ruled
-    pub idleAs : (idle_answer reached).set ≡ idle_set ruled.workers
-    pub idleMany : (idle_answer reached).count ≡ idle_count ruled.workers
-    pub idleFrom : (idle_answer reached).lowest ≡ idle_lowest 0 ruled.workers
+    pub idle_as : (idle_answer reached).set ≡ idle_set ruled.workers
+    pub idle_many : (idle_answer reached).count ≡ idle_count ruled.workers
+    pub idle_from : (idle_answer reached).lowest ≡ idle_lowest 0 ruled.workers

@@ -1,11 +1,11 @@
 // The maker's draw: the next seed, and the worker that it names.
 ghost use Rattle.std.specs.Prelude.{◌≡◌, ◌<◌};
 ghost use Rattle.rules.specs.Scheduling.{most_workers};
-ghost use Rattle.rules_schedule.specs.Schedules.{draw as drawOf, named as named_by};
+ghost use Rattle.rules_schedule.specs.Schedules.{draw as draw_of, named as named_by};
 
 // "Adds 2,654,435,769 to the seed modulo 2 to the power 32."
 pub fn next_seed(seed: u32) -> u32
-    ensures { result ≡ drawOf seed }
+    ensures { result ≡ draw_of seed }
 {
     std::num::wrapping_add_u32(seed, 2_654_435_769)
 }

@@ -1,7 +1,7 @@
 // The children of a task (document 01, "The tree file"): where the child that a step opens has ended, and which finish child
 // ends just before a step. A scan reads only the records between the step asked for and the answer.
 ghost use Rattle.std.specs.Prelude.{◌≡◌};
-ghost use Rattle.rules.specs.Tree.{kinds, cont as contAt, finish_before};
+ghost use Rattle.rules.specs.Tree.{kinds, cont as cont_at, finish_before};
 ghost use Rattle.tree_scan.specs.Contract.{child_of};
 
 use super::{FinishChild, task_of};
@@ -10,7 +10,7 @@ use tree::{END, FINISH, Step, TREE_RECORD, kind};
 // The step after the end of the child that a step opens: its continuation. Where the tree has no such step, or ends before
 // the child does, the count of steps.
 pub fn cont(tree: &[u8], step: Step) -> Step
-    ensures { result.0 ≡ contAt (kinds tree.now) step.0 }
+    ensures { result.0 ≡ cont_at (kinds tree.now) step.0 }
 {
     let n = tree.len() / TREE_RECORD;
     let i = step.0;

@@ -1,6 +1,6 @@
 // What is looked up in the tables of a tree. A lookup past a table's end scans the tree.
 ghost use Rattle.std.specs.Prelude.{◌≡◌, length};
-ghost use Rattle.rules.specs.Tree.{kinds, cont as contAt, finish_before};
+ghost use Rattle.rules.specs.Tree.{kinds, cont as cont_at, finish_before};
 ghost use Rattle.tree_scan.specs.Contract.{child_of};
 ghost use Rattle.tree_tables.specs.Terms.{Ends, Openers};
 
@@ -12,7 +12,7 @@ use tree_scan::children::{cont, finish_before};
 // The step after the end of the child that a step opens: its continuation.
 pub fn cont_by(tree: &[u8], ends: &[u16], step: Step) -> Step
     requires { Ends (kinds tree.now) ends.now (length ends.now) }
-    ensures { result.0 ≡ contAt (kinds tree.now) step.0 }
+    ensures { result.0 ≡ cont_at (kinds tree.now) step.0 }
 {
     let i = step.0;
     if ends.len() <= i {

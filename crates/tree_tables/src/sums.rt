@@ -1,7 +1,7 @@
 // The table of what all steps before each step weigh (document 01, "The tree file"), and what the steps of each class weigh (document
 // 02, #103).
 ghost use Rattle.std.specs.Prelude.{◌≡◌, ◌≤◌, ◌<◌, length, replicate};
-ghost use Rattle.rules.specs.Tree.{most_steps, class_count, kinds, classes as classesOf, weights};
+ghost use Rattle.rules.specs.Tree.{most_steps, class_count, kinds, classes as classes_of, weights};
 ghost use Rattle.tree_tables.specs.Terms.{weight_before, Sums, Classed, classes_before};
 
 use tree::{CLASSES, MOST_STEPS, Step, TREE_RECORD, class, weight};
@@ -16,7 +16,7 @@ fn add_weights(tree: &[u8], sums: &mut [u64]) -> u64
     ensures sums { let file = tree.now in
         Sums (weights file) sums.new (length (kinds file)) }
     ensures answer { let file = tree.now in
-        result ≡ weight_before (classesOf file) (length (kinds file)) }
+        result ≡ weight_before (classes_of file) (length (kinds file)) }
 {
     let n = tree.len() / TREE_RECORD;
     sums[0] = 0;
@@ -35,10 +35,10 @@ fn add_weights(tree: &[u8], sums: &mut [u64]) -> u64
 // Charges each class with the weights of its steps.
 fn charge(tree: &[u8], classes: &mut [u64; CLASSES])
     requires tree_len_bound { length (kinds tree.now) ≤ most_steps }
-    requires classed { Classed (classesOf tree.now) (length (kinds tree.now)) }
+    requires classed { Classed (classes_of tree.now) (length (kinds tree.now)) }
     requires classes_value { classes.old ≡ replicate class_count 0 }
     ensures { let file = tree.now in
-        classes.new ≡ classes_before (classesOf file) (weights file) (length (kinds file)) }
+        classes.new ≡ classes_before (classes_of file) (weights file) (length (kinds file)) }
 {
     let n = tree.len() / TREE_RECORD;
     let mut j = 0;
@@ -54,12 +54,12 @@ fn charge(tree: &[u8], classes: &mut [u64; CLASSES])
 pub fn add_up(tree: &[u8], sums: &mut [u64], classes: &mut [u64; CLASSES])
     requires tree_len_bound { length (kinds tree.now) ≤ most_steps }
     requires tree_in_bounds { length (kinds tree.now) < length sums.old }
-    requires classed { Classed (classesOf tree.now) (length (kinds tree.now)) }
+    requires classed { Classed (classes_of tree.now) (length (kinds tree.now)) }
     requires classes_value { classes.old ≡ replicate class_count 0 }
     ensures sums { let file = tree.now in
         Sums (weights file) sums.new (length (kinds file)) }
     ensures classes { let file = tree.now in
-        classes.new ≡ classes_before (classesOf file) (weights file) (length (kinds file)) }
+        classes.new ≡ classes_before (classes_of file) (weights file) (length (kinds file)) }
 {
     let n = tree.len() / TREE_RECORD;
     let marks = add_weights(tree, sums);

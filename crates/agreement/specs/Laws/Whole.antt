@@ -158,7 +158,7 @@ module _ (w p : ℕ) (tree : List ℕ) (starts : (start_verdict w p tree).number
             record {
               log_count = log-count ∙ sym (live_runs w p tree starts es);
               trace_count = trace-count ∙ ap (λ (l : List Steal). length l) (sym steals_are);
-              fewSteals = rw steals_are few_steals;
+              few_steals = rw steals_are few_steals;
               phase_count = rw steals_are (phase-count ∙ phases_are);
               workers = workers-are;
               firsts = λ k h.

@@ -164,18 +164,18 @@ module _ (tree lent : List ℕ) (accepts : (span_call tree lent).verdict.number 
   unfolding ends starts ended begun
   work-and-span =
       record {
-        notBefore = λ i j h p. precedes-ended (kinds tree) (weights tree) shape h p;
+        not_before = λ i j h p. precedes-ended (kinds tree) (weights tree) shape h p;
         at_once = λ j h. starts_with (kinds tree) (weights tree) shape j h;
         lasting = λ j h. ended_is (kinds tree) (weights tree) j h;
         latest = λ j h. rw span-is (ended-most (kinds tree) (weights tree) shape j);
-        latestEnds = latest_ends;
-        restEnds = λ i j h w. inside-ends (kinds tree) (weights tree) shape i j h (from-inside i j h w);
-        restEndsThen = rest_ends_then;
+        latest_ends = latest_ends;
+        rest_ends = λ i j h w. inside-ends (kinds tree) (weights tree) shape i j h (from-inside i j h w);
+        rest_ends_then = rest_ends_then;
         counted = counted;
         linked = rw (listed-is, best.starts) (linked_chain (kinds tree) (weights tree) shape 0 best.rest best.linked);
         weighs = rw listed-is (best.weighs ∙ last-is);
-        noHeavier = no_heavier;
+        no_heavier = no_heavier;
         first = is-first;
-        spanAtMost = rw (span-is, work-is) (span-weight (kinds tree) (weights tree) shape frame.some);
-        workAtMost = rw (span-is, work-is) (weight-span (kinds tree) (weights tree) shape (length (kinds tree)) (omega arith));
+        span_at_most = rw (span-is, work-is) (span-weight (kinds tree) (weights tree) shape frame.some);
+        work_at_most = rw (span-is, work-is) (weight-span (kinds tree) (weights tree) shape (length (kinds tree)) (omega arith));
       }

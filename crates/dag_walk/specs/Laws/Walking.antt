@@ -8,7 +8,7 @@ use native.Mathlib.Omega.{arith}
 use Rattle.std.proofs.Math.ListN.{length}
 use Rattle.rules.specs.Bytes.{two_bytes}
 use Rattle.rules.specs.Calls.{written}
-use Rattle.rules_dag.specs.Spans.{lasts, chain as chainSteps, chain_bytes}
+use Rattle.rules_dag.specs.Spans.{lasts, chain as chain_steps, chain_bytes}
 use Rattle.buffers.specs.Terms.{event_put}
 use Rattle.buffers.specs.Laws.Records.{flat-one}
 use Rattle.buffers.specs.Laws.Fronts.{event_written, length-written}
@@ -75,7 +75,7 @@ module _ (ks ws : List ℕ) (sh : Shape (length ks) (end_at ks) (size_at ks)) (l
       pub walk_last : left ≤ own → ChainWritten ks ws lent (count + 1) after
       walk_last all =
           let last = path-last ks ws sh w.more c (remains ks ws c w.qs) w.qs (omega (arith, w.rest)) in
-          let same : chainSteps ks ws ≡ w.done ++ (c ∷ []) =
+          let same : chain_steps ks ws ≡ w.done ++ (c ∷ []) =
           chain-walked ks ws sh (omega (arith, w.room)) ∙ (w.whole ∙ rw last refl) in
           record { counted = rw same (sym longer); listed = rw same (stored after put) }
 

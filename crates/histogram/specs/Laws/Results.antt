@@ -11,7 +11,7 @@ use Rattle.replay_invariant.specs.Splits.{phases_of}
 use Rattle.replay_invariant.specs.Laws.Consequences.{replay_frame}
 use Rattle.replay_invariant.specs.Laws.Entries.{listed_room}
 use Rattle.replay.specs.declared.answer.Replayed.{Replayed}
-use Rattle.replay.specs.Contract.{answers as replayAnswers}
+use Rattle.replay.specs.Contract.{answers as replay_answers}
 use Rattle.replay.specs.Terms.{replay_unless}
 use Rattle.replay.specs.Laws.Unless.{unless_refused, unless-accepted, unless-room, unless_verdict}
 use Rattle.histogram_phases.specs.Terms.{entries_read, phase_loads}
@@ -31,16 +31,16 @@ module _ (w p : ℕ) (tree trace list : List ℕ) (h : Histogram) where
       (r ≡ answers call) × (out ≡ call.replayed.list)
 
   -- What replay answers and leaves, told whether there is room.
-  module _ (replayed : Replayed) (out : List ℕ) (answered : replayed ≡ replayAnswers (replay_unless full w p tree trace list))
+  module _ (replayed : Replayed) (out : List ℕ) (answered : replayed ≡ replay_answers (replay_unless full w p tree trace list))
       (left : out ≡ (replay_unless full w p tree trace list).list) where
     -- It is judged as the whole call is.
     number_is : replayed.number ≡ (add_verdict w p tree trace list (given h)).number
-    unfolding replayAnswers add_verdict
+    unfolding replay_answers add_verdict
     number_is =
         ap (λ (r : Replayed). r.number) answered ∙ ap (λ (v : Verdict). v.number) (unless_verdict full w p tree trace list)
 
     pub refused-meets : (replayed.number ≡ 0 → ⊥) → Meets (record { replayed = replayed; histogram = h }) out
-    unfolding add_call add_refused add_verdict answers replayAnswers
+    unfolding add_call add_refused add_verdict answers replay_answers
     refused-meets n =
         let bad : (add_verdict w p tree trace list (given h)).number ≡ 0 → ⊥ = λ z. n (number_is ∙ z) in
         let told = unless_refused full w p tree trace list _ refl bad in
@@ -68,7 +68,7 @@ module _ (w p : ℕ) (tree trace list : List ℕ) (h : Histogram) where
       pub added-meets : (counts : List ℕ)
           → counts ≡ add_loads wrapping h.counts (phase_loads (weights tree) (entries_read out (length (kinds tree))))
           → Meets (record { replayed = replayed; histogram = record { traces = h.traces + 1; counts = counts } }) out
-      unfolding add_call add_of add_verdict answers replayAnswers replay_of
+      unfolding add_call add_of add_verdict answers replay_answers replay_of
       added-meets counts e =
           let told = unless-accepted full w p tree trace list fine in
           let loads = listed-loads w p tree trace list accepts in

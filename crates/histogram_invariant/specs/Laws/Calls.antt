@@ -115,7 +115,7 @@ module _ (more : ℕ → ℕ) (c : Call) (h : Histogram) where
             let bad : (judged c).number ≡ 0 → ⊥ = rw alone-number at n in
             rw (refused_alike bad, alone-refused c bad) refl;
         full = λ many z. rw (refused_full (omega (arith, alone-number c)) many) refl;
-        onlyFull = by_cases (λ a. a.replayed.verdict.number ≡ 17 → (most_traces ≤ h.traces) × ((alone c).verdict.number ≡ 0))
+        only_full = by_cases (λ a. a.replayed.verdict.number ≡ 17 → (most_traces ≤ h.traces) × ((alone c).verdict.number ≡ 0))
             (λ n e. absurd (replay_other c.workers c.policy c.tree c.trace c.list e))
             (λ z many e. (omega arith, alone-number c ∙ z)) (λ z room e. absurd (omega arith));
         adds = λ e. let so = accepted-by e in rw (trace_added so.0 so.1) refl;

@@ -131,11 +131,11 @@ list_totals calls =
     let all = all_counted calls empty empty_reached in
     record {
       buckets = rw all.histograms all.keeps.size;
-      addsUp = rw (all.histograms, all.answered) (omega (arith, all.totals, empty-total));
+      adds_up = rw (all.histograms, all.answered) (omega (arith, all.totals, empty-total));
       each = λ b. rw (all.histograms, all.loads) (omega (arith, all.buckets b, empty-bucket b));
       counted = rw (all.histograms, all.answered) (omega (arith, all.traces));
       most = rw all.histograms (omega (arith, all.keeps.most));
       exact = λ c. rw all.histograms (call_exact c _ all.keeps);
-      sameHistogram = all.histograms;
-      sameAnswers = all.answered;
+      same_histogram = all.histograms;
+      same_answers = all.answered;
     }

@@ -23,7 +23,7 @@ use Rattle.tree_scan.specs.Laws.Frames.{Frame, accepted-frame}
 use Rattle.tree_tables.specs.Terms.{Ends, Sums, weight_before}
 use Rattle.run_invariant.specs.Invariant.{Invariant}
 use Rattle.run_invariant.specs.Laws.Weights.{span}
-use Rattle.run_invariant.specs.Laws.Moves.{sum_one, ran as ranBy, run_is, begin-length, begin-robbed, enriched, steal-thief}
+use Rattle.run_invariant.specs.Laws.Moves.{sum_one, ran as ran_by, run_is, begin-length, begin-robbed, enriched, steal-thief}
 use Rattle.run_invariant.specs.Laws.Moves.{victim-rich, first_within, second_within, run_held, event_runs, event_steals}
 use Rattle.run_invariant.specs.Laws.Always.{start_invariant, event_keeps}
 use Rattle.run_invariant.specs.Laws.Consequences.{covered_once, runs_most, steals_most}
@@ -67,7 +67,7 @@ record Runs (p : ℕ) (ks : List ℕ) (r : Run) (e : List ℕ) (a phase step : �
   small : a < length r.workers
   holding : (worker_at r a).hand.held ≡ some step
   latest : phase ≡ (worker_at r a).phase
-  next : next_run p ks r e ≡ ranBy p ks r a step
+  next : next_run p ks r e ≡ ran_by p ks r a step
 
 -- By the rules the event e of the run r is a steal, by worker a from b, and `number` goes into its trace record.
 record Steals (p : ℕ) (ks : List ℕ) (r : Run) (e : List ℕ) (a b number : ℕ) : Type 0 where
@@ -240,13 +240,13 @@ module _ (w p : ℕ) (tree events : List ℕ) (accepts : (start_verdict w p tree
         runs = rw first_byte at (told_run p (kinds tree) so.run event phase step (sym tells ∙ ran))
 
         abbrev ran-run : Run
-        ran-run = ranBy p (kinds tree) so.run a step
+        ran-run = ran_by p (kinds tree) so.run a step
 
         ran-known : Known p (kinds tree) (event_move s tree a b).after ran-run
         ran-known = next_known runs.fine ran-run runs.next
 
         ran-count : logs + 1 ≡ length ran-run.log
-        unfolding ranBy
+        unfolding ran_by
         ran-count =
             omega (arith, length-append so.run.log (record { phase = (worker_at so.run a).phase; step = step } ∷ []), so.log_count)
 
@@ -255,7 +255,7 @@ module _ (w p : ℕ) (tree events : List ℕ) (accepts : (start_verdict w p tree
 
         pub ran-next : Recording w p tree events (k + 1) (event_move s tree a b).after
             (record_put log logs (phase % 256) (phase / 256 % 256) step) trace ls (logs + 1) steals
-        unfolding ranBy
+        unfolding ran_by
         ran-next =
             let entries = so.run.log in
             record {

@@ -96,24 +96,24 @@ module _ (phs : List Phase) (t k s m : ℕ) (begun : k < length phs) (count : m 
     abbrev q : ℕ
     q = get_or openers s 0
 
-    abbrev newBases : List ℕ
-    newBases = bases_begun openers bases k m s
+    abbrev new_bases : List ℕ
+    new_bases = bases_begun openers bases k m s
 
     -- What stands there for the new phase, for the robbed one and for the others.
-    base-new : get_or newBases m 0 ≡ s
+    base-new : get_or new_bases m 0 ≡ s
     unfolding bases_begun
     base-new = set_new bases k m _ _ (omega arith) room
 
-    base-old : get_or newBases k 0 ≡ q + 1
+    base-old : get_or new_bases k 0 ≡ q + 1
     unfolding bases_begun
     base-old = set_old bases k m _ _ (omega arith) room
 
-    base-other : (i : ℕ) → i < m → (i ≡ k → ⊥) → get_or newBases i 0 ≡ get_or bases i 0
+    base-other : (i : ℕ) → i < m → (i ≡ k → ⊥) → get_or new_bases i 0 ≡ get_or bases i 0
     unfolding bases_begun
     base-other = set_other bases k m _ _ (omega arith) room
 
     pub bases-within : ((i : ℕ) → i < length phs → get_or bases i 0 < length ks)
-        → (i : ℕ) → i < length (begin phs t k s) → get_or newBases i 0 < length ks
+        → (i : ℕ) → i < length (begin phs t k s) → get_or new_bases i 0 < length ks
     bases-within within i h =
         let inside = part_inside ks sh q s of in
         by_phase i h (λ e. rw (e, base-new) inside.3) (λ e. rw (e, base-old) (omega (arith, inside)))
@@ -123,34 +123,34 @@ module _ (phs : List Phase) (t k s m : ℕ) (begun : k < length phs) (count : m 
         (based : p ≡ work_first → (i : ℕ) → i < length phs → Based ks sh (phase_at phs i) (get_or bases i 0) (get_or ordinals i 0))
         (allowed : number_allowed p ks (phase_at phs k) number ≡ true) (named : s ≡ stolen_step p ks (phase_at phs k) number)
         (taken : Taken p ks (phase_at phs k) s) where
-      abbrev newOrdinals : List ℕ
-      newOrdinals = ordinals_begun ordinals k m own
+      abbrev new_ordinals : List ℕ
+      new_ordinals = ordinals_begun ordinals k m own
 
-      ordinal-new : get_or newOrdinals m 0 ≡ own
+      ordinal-new : get_or new_ordinals m 0 ≡ own
       unfolding ordinals_begun
       ordinal-new = set_new ordinals k m _ _ (omega arith) also
 
-      ordinal-old : get_or newOrdinals k 0 ≡ 0
+      ordinal-old : get_or new_ordinals k 0 ≡ 0
       unfolding ordinals_begun
       ordinal-old = set_old ordinals k m _ _ (omega arith) also
 
-      ordinal-other : (i : ℕ) → i < m → (i ≡ k → ⊥) → get_or newOrdinals i 0 ≡ get_or ordinals i 0
+      ordinal-other : (i : ℕ) → i < m → (i ≡ k → ⊥) → get_or new_ordinals i 0 ≡ get_or ordinals i 0
       unfolding ordinals_begun
       ordinal-other = set_other ordinals k m _ _ (omega arith) also
 
-      new-based : p ≡ work_first → Based ks sh (phase_at (begin phs t k s) m) (get_or newBases m 0) (get_or newOrdinals m 0)
+      new-based : p ≡ work_first → Based ks sh (phase_at (begin phs t k s) m) (get_or new_bases m 0) (get_or new_ordinals m 0)
       new-based w =
           let is = ordinal-is ks sh p w (phase_at phs k) _ _ number (based w k begun) allowed in
           let same : ordinal ks s ≡ own = rw (named, counted w) is in
           based_at ks sh new_is base-new (ordinal-new ∙ sym same) (based_fresh ks sh t s (part_inside ks sh q s of).3)
 
-      old-based : p ≡ work_first → Based ks sh (phase_at (begin phs t k s) k) (get_or newBases k 0) (get_or newOrdinals k 0)
+      old-based : p ≡ work_first → Based ks sh (phase_at (begin phs t k s) k) (get_or new_bases k 0) (get_or new_ordinals k 0)
       old-based w =
           based_at ks sh (begin-robbed phs t k s begun) (base-old ∙ add-one q) ordinal-old
           (child-named ks sh p w (phase_at phs k) _ _ number (based w k begun) allowed q s named of taken)
 
       pub bases-next : p ≡ work_first → (i : ℕ) → i < length (begin phs t k s)
-          → Based ks sh (phase_at (begin phs t k s) i) (get_or newBases i 0) (get_or newOrdinals i 0)
+          → Based ks sh (phase_at (begin phs t k s) i) (get_or new_bases i 0) (get_or new_ordinals i 0)
       bases-next w i h =
           by_phase i h (λ e. rw e (new-based w)) (λ e. rw e (old-based w))
           (λ l n. based_at ks sh (begin_other phs t k s i (omega arith) n) (base-other i l n) (ordinal-other i l n)

@@ -227,7 +227,7 @@ module _ {w p : ℕ} {tree trace : List ℕ} {k : ℕ} {labels firsts bases ordi
         unfolding bases_begun ordinals_begun
         retrace-begun =
             let room = read_ready.0 in
-            let baseFits : k + 1 < length bases = omega (arith, j.so.base_room) in
+            let base_fits : k + 1 < length bases = omega (arith, j.so.base_room) in
             let begun = own.0 in
             record {
               either = j.so.either;
@@ -252,9 +252,9 @@ module _ {w p : ℕ} {tree trace : List ℕ} {k : ℕ} {labels firsts bases ordi
                   (firsts-next j.so.phs thief from s (k + 1) begun j.so.many firsts
                   (omega (arith, j.so.first_room)) j.so.begins);
               within = rw (base, robs)
-                  (bases-within j.so.phs thief from s (k + 1) begun j.so.many ks sh openers opener bases baseFits j.so.within);
+                  (bases-within j.so.phs thief from s (k + 1) begun j.so.many ks sh openers opener bases base_fits j.so.within);
               based = rw (base, ordinal, robs)
-                  (bases-next j.so.phs thief from s (k + 1) begun j.so.many ks sh openers opener bases baseFits ordinals
+                  (bases-next j.so.phs thief from s (k + 1) begun j.so.many ks sh openers opener bases base_fits ordinals
                   (omega (arith, j.so.ordinal_room)) p number o counted j.so.based allowed step_is taken);
               latests = rw (last, j.so.many)
                   (latest_next j.so.phs latest j.so.latests thief from s (omega (arith, j.so.latest_room, two_workers.0)) begun);

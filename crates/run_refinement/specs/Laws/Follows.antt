@@ -65,7 +65,7 @@ follows w p tree accepts es =
       invariant = inv;
       tells = rw first both.0;
       shows = rw first both.1;
-      idleAs = rw first (idle_set-shown p tree frame after run inv both.1);
-      idleMany = rw first (idle_count-shown p tree frame after run inv both.1);
-      idleFrom = rw first (idle_lowest-shown p tree frame after run inv both.1);
+      idle_as = rw first (idle_set-shown p tree frame after run inv both.1);
+      idle_many = rw first (idle_count-shown p tree frame after run inv both.1);
+      idle_from = rw first (idle_lowest-shown p tree frame after run inv both.1);
     }

@@ -15,11 +15,11 @@ use Rattle.tree.proofs.validation.judge_record.Statement.{statement}
 use Rattle.tree.proofs.validation.judge_record.Tie as tie
 
 -- Record i of a tree.
-abbrev recordAt : List ℕ → ℕ → List ℕ
-recordAt tree i = get_or (tree_records tree) i []
+abbrev record_at : List ℕ → ℕ → List ℕ
+record_at tree i = get_or (tree_records tree) i []
 
 -- The record is well formed.
-formed-here : (c : tie.Else-not-well_formed) → let a = c.before.before.before.args in well_formed (recordAt a.tree.now a.i) ≡ true
+formed-here : (c : tie.Else-not-well_formed) → let a = c.before.before.before.args in well_formed (record_at a.tree.now a.i) ≡ true
 formed-here c = sym c.before.well_formed-2.ensures ∙ c.if-not-well_formed.false
 
 well_formed-requires : tie.Need-well_formed-requires
@@ -29,7 +29,7 @@ returns-then-not-well_formed : tie.Need-returns-then-not-well_formed
 returns-then-not-well_formed c =
     let a = c.before.before.before.args in
     let malformed = sym c.before.well_formed-2.ensures ∙ c.if-not-well_formed.true in
-    sym (judge_malformed a.depth (recordAt a.tree.now a.i) malformed)
+    sym (judge_malformed a.depth (record_at a.tree.now a.i) malformed)
 
 overflow_mul-i : tie.Need-overflow_mul-i
 overflow_mul-i c = omega (arith, length-kinds c.before.before.before.before.args.tree.now)
@@ -44,7 +44,7 @@ returns-then-tree-i-eq-END c =
     let formed = formed-here c.before.before.before in
     let full = c.before.before.if-depth-eq-MOST_OPEN.true in
     let kind = record_kind a.tree.now a.i at.requires in
-    sym (judge_last_end a.depth (recordAt a.tree.now a.i) formed full (kind ∙ c.if-tree-i-eq-END.true))
+    sym (judge_last_end a.depth (record_at a.tree.now a.i) formed full (kind ∙ c.if-tree-i-eq-END.true))
 
 returns-then-depth-eq-MOST_OPEN : tie.Need-returns-then-depth-eq-MOST_OPEN
 returns-then-depth-eq-MOST_OPEN c =
@@ -53,18 +53,18 @@ returns-then-depth-eq-MOST_OPEN c =
     let formed = formed-here c.before.before.before in
     let full = c.before.before.if-depth-eq-MOST_OPEN.true in
     let kind = record_kind a.tree.now a.i at.requires in
-    sym (judge_full a.depth (recordAt a.tree.now a.i) formed full (λ e. c.if-tree-i-eq-END.false (sym kind ∙ e)))
+    sym (judge_full a.depth (record_at a.tree.now a.i) formed full (λ e. c.if-tree-i-eq-END.false (sym kind ∙ e)))
 
 returns-then-depth-eq0 : tie.Need-returns-then-depth-eq0
 returns-then-depth-eq0 c =
     let a = c.before.before.before.before.before.args in
-    sym (judge_after a.depth (recordAt a.tree.now a.i) (formed-here c.before.before) c.if-depth-eq0.true)
+    sym (judge_after a.depth (record_at a.tree.now a.i) (formed-here c.before.before) c.if-depth-eq0.true)
 
 returns : tie.Need-returns
 returns c =
     let a = c.before.before.before.before.before.args in
     let formed = formed-here c.before.before in
-    sym (judge_fine a.depth (recordAt a.tree.now a.i) formed c.before.if-depth-eq-MOST_OPEN.false c.if-depth-eq0.false)
+    sym (judge_fine a.depth (record_at a.tree.now a.i) formed c.before.if-depth-eq-MOST_OPEN.false c.if-depth-eq0.false)
 
 pub judge_record_spec : {M : Type 1} → statement M
 judge_record_spec =
