@@ -18,7 +18,7 @@ start c = c.before.before
 abbrev asked : tie.Else-policy-gt-HELP_FIRST → tie.After-wide-workers
 asked c = c.before.before
 
-one_of : (c : tie.Else-policy-gt-HELP_FIRST) → let p = (start (asked c)).args.setup.policy in (1 ≤ p) × (p ≤ 2)
+one_of : (c : tie.Else-policy-gt-HELP_FIRST) → let p = c.args.setup.policy in (1 ≤ p) × (p ≤ 2)
 one_of c = (omega (arith, c.if-policy-lt-WORK_FIRST.false), omega (arith, c.if-policy-gt-HELP_FIRST.false))
 
 -- ---- the needs
@@ -31,7 +31,7 @@ refused-requires c κs = search rules
 
 returns-then-policy-lt-WORK_FIRST : tie.Need-returns-then-policy-lt-WORK_FIRST
 returns-then-policy-lt-WORK_FIRST c =
-    let a = (start c.before.before).args in
+    let a = c.args in
     c.refused.ensures
     ∙ start_policy a.setup.workers a.setup.policy a.tree.now (λ e. absurd (omega (arith, c.if-policy-lt-WORK_FIRST.true)))
     (λ e. absurd (omega (arith, c.if-policy-lt-WORK_FIRST.true)))
@@ -41,7 +41,7 @@ refused-requires-then-policy-gt-HELP_FIRST c κs = search rules
 
 returns-then-policy-gt-HELP_FIRST : tie.Need-returns-then-policy-gt-HELP_FIRST
 returns-then-policy-gt-HELP_FIRST c =
-    let a = (start c.before.before.before).args in
+    let a = c.args in
     c.refused-then-policy-gt-HELP_FIRST.ensures
     ∙ start_policy a.setup.workers a.setup.policy a.tree.now (λ e. absurd (omega (arith, c.if-policy-gt-HELP_FIRST.true)))
     (λ e. absurd (omega (arith, c.if-policy-gt-HELP_FIRST.true)))
@@ -51,28 +51,28 @@ refused-requires-then-workers-eq0 c κs = search rules
 
 returns-then-workers-eq0 : tie.Need-returns-then-workers-eq0
 returns-then-workers-eq0 c =
-    let a = (start (asked c.before.before)).args in
+    let a = c.args in
     c.refused-then-workers-eq0.ensures
     ∙ start-count a.setup.workers a.setup.policy a.tree.now (one_of c.before.before)
-    (inl (omega (arith, (asked c.before.before).wide.ensures, c.if-workers-eq0.true)))
+    (inl (omega (arith, c.wide-workers.ensures, c.if-workers-eq0.true)))
 
 refused-requires-then-workers-gt-WORKERS : tie.Need-refused-requires-then-workers-gt-WORKERS
 refused-requires-then-workers-gt-WORKERS c κs = search rules
 
 returns-then-workers-gt-WORKERS : tie.Need-returns-then-workers-gt-WORKERS
 returns-then-workers-gt-WORKERS c =
-    let a = (start (asked c.before.before.before)).args in
+    let a = c.args in
     c.refused-then-workers-gt-WORKERS.ensures
     ∙ start-count a.setup.workers a.setup.policy a.tree.now (one_of c.before.before.before)
-    (inr (omega (arith, (asked c.before.before.before).wide.ensures, c.if-workers-gt-WORKERS.true)))
+    (inr (omega (arith, c.wide-workers.ensures, c.if-workers-gt-WORKERS.true)))
 
 accept-requires : tie.Need-accept-requires
 accept-requires c κs = search rules
 
 returns : tie.Need-returns
 returns c =
-    let a = (start (asked c.before.before.before)).args in
-    let wide = (asked c.before.before.before).wide.ensures in
+    let a = c.args in
+    let wide = c.wide-workers.ensures in
     start-tree a.setup.workers a.setup.policy a.tree.now (one_of c.before.before.before)
     (omega (arith, wide, c.if-workers-eq0.false), omega (arith, wide, c.if-workers-gt-WORKERS.false)) c.accept.result c.accept.ensures
 
