@@ -70,8 +70,8 @@ module _ (w p : ℕ) (tree : List ℕ) (starts : (start_verdict w p tree).number
   steals_are = live_steals_lem w p tree starts es
 
   -- Its phases and its steals are few.
-  few_steals : length run.steals ≤ (length ks - 1) / 2
-  few_steals = steals_most p ks frame.some frame.shape run inv
+  few_steals_lem : length run.steals ≤ (length ks - 1) / 2
+  few_steals_lem = steals_most p ks frame.some frame.shape run inv
 
   phases_are : length run.phases ≡ suc (length run.steals)
   phases_are = phases-count p ks frame.some frame.shape run inv
@@ -79,7 +79,7 @@ module _ (w p : ℕ) (tree : List ℕ) (starts : (start_verdict w p tree).number
   -- So what is written fits its bytes.
   small : (entries : List Entry) → PhasesBelow (length run.phases) entries → StepsBelow (length ks) entries → Small entries
   small =
-      below_small (length run.phases) (length ks) (omega (arith, phases_are, few_steals, frame.most))
+      below_small (length run.phases) (length ks) (omega (arith, phases_are, few_steals_lem, frame.most))
       (omega (arith, frame.most))
 
   log_small : Small run.log
@@ -158,7 +158,7 @@ module _ (w p : ℕ) (tree : List ℕ) (starts : (start_verdict w p tree).number
             record {
               log_count = log-count ∙ sym (live_runs w p tree starts es);
               trace_count = trace-count ∙ ap (λ (l : List Steal). length l) (sym steals_are);
-              few_steals = rw steals_are few_steals;
+              few_steals = rw steals_are few_steals_lem;
               phase_count = rw steals_are (phase-count ∙ phases_are);
               workers = workers-are;
               firsts = λ k h.

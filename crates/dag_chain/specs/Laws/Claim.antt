@@ -133,9 +133,9 @@ module _ (tree lent : List ℕ) (accepts : (span_call tree lent).verdict.number 
   inside-from : (i j : ℕ) → i < length (kinds tree) → Inside (size_at (kinds tree)) i j → FromStep (kinds tree) i j
   inside-from i j h w = (w.0, omega (arith, w.1, end_size (kinds tree) shape i h))
 
-  no_heavier : (steps : List ℕ) → Chain (kinds tree) steps → weigh (weights tree) steps ≤ (span_call tree lent).span
-  no_heavier [] c = absurd c
-  no_heavier (x ∷ r) c =
+  no_heavier_lem : (steps : List ℕ) → Chain (kinds tree) steps → weigh (weights tree) steps ≤ (span_call tree lent).span
+  no_heavier_lem [] c = absurd c
+  no_heavier_lem (x ∷ r) c =
       let l = chain_linked (kinds tree) (weights tree) shape x r c in
       omega (arith, chain_bound (kinds tree) (weights tree) shape x r l, last-is)
 
@@ -146,17 +146,17 @@ module _ (tree lent : List ℕ) (accepts : (span_call tree lent).verdict.number 
       let l = chain_linked (kinds tree) (weights tree) shape x r c in
       rw listed-is (best.leads x r l (w ∙ sym last-is))
 
-  latest_ends : (j : ℕ) × (j < length (kinds tree)) × (ends tree lent j ≡ (span_call tree lent).span)
+  latest_ends_lem : (j : ℕ) × (j < length (kinds tree)) × (ends tree lent j ≡ (span_call tree lent).span)
   unfolding ends ended
-  latest_ends =
+  latest_ends_lem =
       let top = inside-last (kinds tree) (weights tree) shape 0 frame.some in
       let first = begun-root (kinds tree) (weights tree) shape in
       (top.0, omega (arith, top.1, shape.whole), omega (arith, top.2, first, last-is))
 
-  rest_ends_then : (i : ℕ) → i < length (kinds tree)
+  rest_ends_then_lem : (i : ℕ) → i < length (kinds tree)
       → (j : ℕ) × FromStep (kinds tree) i j × (ends tree lent j ≡ starts tree lent i + lasts (kinds tree) (weights tree) i)
   unfolding ends starts ended begun
-  rest_ends_then i h =
+  rest_ends_then_lem i h =
       let top = inside-last (kinds tree) (weights tree) shape i h in
       (top.0, inside-from i top.0 h top.1, top.2)
 
@@ -168,13 +168,13 @@ module _ (tree lent : List ℕ) (accepts : (span_call tree lent).verdict.number 
         at_once = λ j h. starts_with (kinds tree) (weights tree) shape j h;
         lasting = λ j h. ended_is (kinds tree) (weights tree) j h;
         latest = λ j h. rw span-is (ended-most (kinds tree) (weights tree) shape j);
-        latest_ends = latest_ends;
+        latest_ends = latest_ends_lem;
         rest_ends = λ i j h w. inside-ends (kinds tree) (weights tree) shape i j h (from-inside i j h w);
-        rest_ends_then = rest_ends_then;
+        rest_ends_then = rest_ends_then_lem;
         counted = counted;
         linked = rw (listed-is, best.starts) (linked_chain (kinds tree) (weights tree) shape 0 best.rest best.linked);
         weighs = rw listed-is (best.weighs ∙ last-is);
-        no_heavier = no_heavier;
+        no_heavier = no_heavier_lem;
         first = is-first;
         span_at_most = rw (span-is, work-is) (span-weight (kinds tree) (weights tree) shape frame.some);
         work_at_most = rw (span-is, work-is) (weight-span (kinds tree) (weights tree) shape (length (kinds tree)) (omega arith));
