@@ -1,6 +1,8 @@
 // The labels of the steps in replay, by which the phases' steps are kept: a step is labelled with the phase that has it once it
 // can be stolen no more, because a phase begins with it or with a step in its part. So each step is labelled once, and the
 // nearest labelled step above another tells whose that one is.
+#![tactic(auto)]
+
 ghost use Rattle.std.specs.Prelude.{◌≡◌, not, ◌≤◌, ◌<◌, length};
 ghost use Rattle.replay_invariant.specs.Terms.{free, label_of};
 ghost use Rattle.policy.specs.Contract.{most_phases};

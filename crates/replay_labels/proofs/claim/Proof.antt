@@ -8,129 +8,129 @@ use Rattle.replay_spec.specs.Laws.Claims.{Claiming, claim_start, claim-room, cla
 use Rattle.replay_labels.proofs.claim.Statement.{statement}
 use Rattle.replay_labels.proofs.claim.Tie as tie
 
-abbrev invariant-loop : tie.invariant-loop
-invariant-loop openers labels₀ label from j₀ labels j = Claiming openers labels₀ from label labels j
+abbrev invariant-loop-labels : tie.invariant-loop-labels
+invariant-loop-labels openers labels₀ label from j₀ labels j = Claiming openers labels₀ from label labels j
 
-abbrev decreases-loop : tie.decreases-loop
-decreases-loop openers labels₀ label from j₀ labels j = j
+abbrev decreases-loop-labels : tie.decreases-loop-labels
+decreases-loop-labels openers labels₀ label from j₀ labels j = j
 
 -- ---- the places
 
-abbrev entry : tie.At-loop invariant-loop decreases-loop → tie.Start invariant-loop decreases-loop
+abbrev entry : tie.At-loop-labels invariant-loop-labels decreases-loop-labels → tie.Start invariant-loop-labels decreases-loop-labels
 entry c = c.before.before.before.before.before.before
 
 -- The climb stands at a step without a label.
-abbrev free_one : tie.Then1 invariant-loop decreases-loop → tie.At-loop invariant-loop decreases-loop
+abbrev free_one : tie.In-loop-labels invariant-loop-labels decreases-loop-labels → tie.At-loop-labels invariant-loop-labels decreases-loop-labels
 free_one c = c.before.before
 
 -- That step is labelled, and its opener is read.
-abbrev passed : tie.After-wide2 invariant-loop decreases-loop → tie.Then1 invariant-loop decreases-loop
+abbrev passed : tie.After-wide-j-in-loop-labels invariant-loop-labels decreases-loop-labels → tie.In-loop-labels invariant-loop-labels decreases-loop-labels
 passed c = c.before.before
 
 -- The climb stands at a labelled step, whose label is read.
-abbrev found : tie.After-wide3 invariant-loop decreases-loop → tie.Else1 invariant-loop decreases-loop
+abbrev found : tie.After-wide invariant-loop-labels decreases-loop-labels → tie.After-loop-labels invariant-loop-labels decreases-loop-labels
 found c = c.before.before
 
 -- ---- the facts
 
 -- The climb stands within both slices.
-room : (c : tie.At-loop invariant-loop decreases-loop)
-    → (c.loop.j < length (entry c).args.openers.now) × (c.loop.j < length c.loop.labels)
-room c = claim-room (entry c).requires.0 c.loop.invariant
+room : (c : tie.At-loop-labels invariant-loop-labels decreases-loop-labels)
+    → (c.loop-labels.j < length (entry c).args.openers.now) × (c.loop-labels.j < length c.loop-labels.labels)
+room c = claim-room (entry c).requires.0 c.loop-labels.invariant
 
 -- The opener stands before the step.
-less : (c : tie.Then1 invariant-loop decreases-loop)
-    → get_or (entry (free_one c)).args.openers.now (free_one c).loop.j 0 < (free_one c).loop.j
+less : (c : tie.In-loop-labels invariant-loop-labels decreases-loop-labels)
+    → get_or (entry (free_one c)).args.openers.now (free_one c).loop-labels.j 0 < (free_one c).loop-labels.j
 less c =
     let start = entry (free_one c) in
-    claim-less start.pre.0 (free_one c).loop.invariant start.pre.1.1 c.if1.true
+    claim-less start.requires.0 (free_one c).loop-labels.invariant start.requires.1.1 c.loop-labels-test.true
 
 -- ---- the needs
 
-cast-label : tie.Need-overflow-cast-label invariant-loop decreases-loop
-cast-label c = search rules
+overflow_cast-label : tie.Need-overflow_cast-label invariant-loop-labels decreases-loop-labels
+overflow_cast-label c = search rules
 
-mul_wide : tie.Need-overflow-mul-wide invariant-loop decreases-loop
-mul_wide c = omega arith
+offset_bounds-openers-from : tie.Need-offset_bounds-openers-from invariant-loop-labels decreases-loop-labels
+offset_bounds-openers-from c = omega arith
 
-shared-slice-read-wide : tie.Need-shared-slice-read-wide invariant-loop decreases-loop
-shared-slice-read-wide c = omega arith
+bounds-openers-from : tie.Need-bounds-openers-from invariant-loop-labels decreases-loop-labels
+bounds-openers-from c = omega arith
 
-wide-requires : tie.Need-wide-requires invariant-loop decreases-loop
-wide-requires c κs = search rules
+wide-j-requires : tie.Need-wide-j-requires invariant-loop-labels decreases-loop-labels
+wide-j-requires c κs = search rules
 
-loop-holds : tie.Need-loop-init invariant-loop decreases-loop
-loop-holds c = claim_start c.before.before.before.before.before.requires.0 c.wide.result c.wide.ensures
+loop-labels-init : tie.Need-loop-labels-init invariant-loop-labels decreases-loop-labels
+loop-labels-init c = claim_start c.requires.0 c.wide-j.result c.wide-j.ensures
 
-mul-if1 : tie.Need-overflow-mul-if1 invariant-loop decreases-loop
-mul-if1 c = omega (arith, room c)
+offset_bounds-labels-j : tie.Need-offset_bounds-labels-j invariant-loop-labels decreases-loop-labels
+offset_bounds-labels-j c = omega (arith, room c)
 
-slice-read-if1 : tie.Need-slice-read-if1 invariant-loop decreases-loop
-slice-read-if1 c = omega (arith, room c.before)
+bounds-labels-j : tie.Need-bounds-labels-j invariant-loop-labels decreases-loop-labels
+bounds-labels-j c = omega (arith, room c.before)
 
-mul-labels : tie.Need-overflow-mul-labels invariant-loop decreases-loop
-mul-labels c = omega (arith, room (free_one c))
+offset_bounds-labels-j-in-loop-labels : tie.Need-offset_bounds-labels-j-in-loop-labels invariant-loop-labels decreases-loop-labels
+offset_bounds-labels-j-in-loop-labels c = omega (arith, room (free_one c))
 
-slice-write-labels : tie.Need-slice-write-labels invariant-loop decreases-loop
-slice-write-labels c = omega (arith, room (free_one c))
+bounds-labels-j-in-loop-labels : tie.Need-bounds-labels-j-in-loop-labels invariant-loop-labels decreases-loop-labels
+bounds-labels-j-in-loop-labels c = omega (arith, room (free_one c))
 
-mul-wide-2 : tie.Need-overflow-mul-wide-2 invariant-loop decreases-loop
-mul-wide-2 c = omega (arith, room (free_one c))
+offset_bounds-openers-j : tie.Need-offset_bounds-openers-j invariant-loop-labels decreases-loop-labels
+offset_bounds-openers-j c = omega (arith, room (free_one c))
 
-shared-slice-read-wide-2 : tie.Need-shared-slice-read-wide-2 invariant-loop decreases-loop
-shared-slice-read-wide-2 c = omega (arith, room (free_one c.before))
+bounds-openers-j : tie.Need-bounds-openers-j invariant-loop-labels decreases-loop-labels
+bounds-openers-j c = omega (arith, room (free_one c.before))
 
-wide-requires-2 : tie.Need-wide-requires-2 invariant-loop decreases-loop
-wide-requires-2 c κs = search rules
+wide-j-requires-in-loop-labels : tie.Need-wide-j-requires-in-loop-labels invariant-loop-labels decreases-loop-labels
+wide-j-requires-in-loop-labels c κs = search rules
 
-loop-less : tie.Need-loop-smaller invariant-loop decreases-loop
-loop-less c = omega (arith, less (passed c), c.wide2.ensures)
+loop-labels-smaller : tie.Need-loop-labels-smaller invariant-loop-labels decreases-loop-labels
+loop-labels-smaller c = omega (arith, less (passed c), c.wide-j-in-loop-labels.ensures)
 
-loop-again : tie.Need-loop-preserved invariant-loop decreases-loop
-loop-again c =
+loop-labels-preserved : tie.Need-loop-labels-preserved invariant-loop-labels decreases-loop-labels
+loop-labels-preserved c =
     let at = passed c in
     let start = entry (free_one at) in
-    claim-turn start.pre.0 (free_one at).loop.inv start.pre.1.1 at.if1.taken c.wide2.result c.wide2.ensures
+    claim-turn start.requires.0 (free_one at).loop-labels.invariant start.requires.1.1 at.loop-labels-test.true c.wide-j-in-loop-labels.result c.wide-j-in-loop-labels.ensures
 
-mul-wide-3 : tie.Need-overflow-mul-wide-3 invariant-loop decreases-loop
-mul-wide-3 c = omega (arith, room c.before.before)
+offset_bounds-labels-j-2 : tie.Need-offset_bounds-labels-j-2 invariant-loop-labels decreases-loop-labels
+offset_bounds-labels-j-2 c = omega (arith, room c.before.before)
 
-slice-read-wide : tie.Need-slice-read-wide invariant-loop decreases-loop
-slice-read-wide c = omega (arith, room c.before.before.before)
+bounds-labels-j-2 : tie.Need-bounds-labels-j-2 invariant-loop-labels decreases-loop-labels
+bounds-labels-j-2 c = omega (arith, room c.before.before.before)
 
-wide-requires-3 : tie.Need-wide-requires-3 invariant-loop decreases-loop
-wide-requires-3 c κs = search rules
+wide-requires : tie.Need-wide-requires invariant-loop-labels decreases-loop-labels
+wide-requires c κs = search rules
 
-same_length : tie.Need-same-length invariant-loop decreases-loop
-same_length c = (found c).before.before.loop.invariant.size
+shape_of-labels : tie.Need-shape_of-labels invariant-loop-labels decreases-loop-labels
+shape_of-labels c = (found c).loop-labels.invariant.size
 
-returns : tie.Need-returns invariant-loop decreases-loop
+returns : tie.Need-returns invariant-loop-labels decreases-loop-labels
 returns c =
     let at = (found c).before.before in
-    rw c.wide3.ensures (claim-end (entry at).pre.0 at.loop.inv (found c).if1.false)
+    rw c.wide.ensures (claim-end (entry at).requires.0 at.loop-labels.invariant (found c).loop-labels-test.false)
 
-pub claim-spec : {M : Type 1} → statement M
-claim-spec =
+pub claim_spec : {M : Type 1} → statement M
+claim_spec =
     tie.close
     (tie.spec
-    invariant-loop
-    decreases-loop
-    cast-label
-    mul_wide
-    shared-slice-read-wide
+    invariant-loop-labels
+    decreases-loop-labels
+    overflow_cast-label
+    offset_bounds-openers-from
+    bounds-openers-from
+    wide-j-requires
+    loop-labels-init
+    offset_bounds-labels-j
+    bounds-labels-j
+    offset_bounds-labels-j-in-loop-labels
+    bounds-labels-j-in-loop-labels
+    offset_bounds-openers-j
+    bounds-openers-j
+    wide-j-requires-in-loop-labels
+    loop-labels-smaller
+    loop-labels-preserved
+    offset_bounds-labels-j-2
+    bounds-labels-j-2
     wide-requires
-    loop-holds
-    mul-if1
-    slice-read-if1
-    mul-labels
-    slice-write-labels
-    mul-wide-2
-    shared-slice-read-wide-2
-    wide-requires-2
-    loop-less
-    loop-again
-    mul-wide-3
-    slice-read-wide
-    wide-requires-3
-    same_length
+    shape_of-labels
     returns)

@@ -9,40 +9,40 @@ use Rattle.replay_labels.proofs.take.Statement.{statement}
 use Rattle.replay_labels.proofs.take.Tie as tie
 
 -- The step is a labelled one, or a free one.
-abbrev entry : tie.After-slice-known2 → tie.Start
+abbrev entry : tie.After-slice_known-2-1 → tie.Start
 entry c = c.before.before.before
 
 -- The steps above a free one have been labelled.
-abbrev climbed : tie.After-struct-known2 → tie.After-claim
+abbrev climbed : tie.After-struct_known-2-1 → tie.After-claim-found
 climbed c = c.before.before.before.before
 
 -- The step has a label.
 inside : (c : tie.Start) → c.args.step.0 < length c.args.labels.now
 inside c = omega (arith, c.requires.0)
 
-mul-if1 : tie.Need-overflow-mul-if1
-mul-if1 c = search rules
+offset_bounds-labels-at : tie.Need-offset_bounds-labels-at
+offset_bounds-labels-at c = search rules
 
-slice-read-if1 : tie.Need-slice-read-if1
-slice-read-if1 c = search rules
+bounds-labels-at : tie.Need-bounds-labels-at
+bounds-labels-at c = search rules
+
+returns-then-labels-at : tie.Need-returns-then-labels-at
+returns-then-labels-at c = take-labelled (inside (entry c.before)) c.if-labels-at.true _
+
+claim-found-requires : tie.Need-claim-found-requires
+claim-found-requires c κs =
+    let start = entry c.before.before in
+    let pre = start.requires.0 in
+    ((free_past _ _ start.requires.1.1 (inside start) c.if-labels-at.false, pre.0, pre.1, pre.2), start.requires.1)
+
+shape_of-labels : tie.Need-shape_of-labels
+shape_of-labels c = search rules
 
 returns : tie.Need-returns
-returns c = take-labelled (inside (entry c.before)) c.if1.true _
-
-claim-requires : tie.Need-claim-requires
-claim-requires c κs =
-    let start = entry c.before.before in
-    let pre = start.pre.0 in
-    ((free_past _ _ start.pre.1.1 (inside start) c.before.if1.false, pre.0, pre.1, pre.2), start.pre.1)
-
-same_length : tie.Need-same-length
-same_length c = search rules
-
-returns-2 : tie.Need-returns-2
-returns-2 c =
+returns c =
     let free_one = (climbed c).before.before in
-    take_claimed (inside (entry free_one.before)) free_one.if1.left _ _ (climbed c).claim.ensures
+    take_claimed (inside (entry free_one.before)) free_one.if-labels-at.false _ _ (climbed c).claim-found.ensures
 
 pub take_spec : {M : Type 1} → statement M
 take_spec =
-    tie.close (tie.spec mul-if1 slice-read-if1 returns claim-requires same_length returns-2)
+    tie.close (tie.spec offset_bounds-labels-at bounds-labels-at returns-then-labels-at claim-found-requires shape_of-labels returns)
