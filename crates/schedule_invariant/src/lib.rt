@@ -1,2 +1,3 @@
 // The schedule maker's rounds end, and every list made is accepted by recording, finishes and is short (document 02, #102).
 // Theorems in `specs` alone, no code.
+#![tactic(auto)]

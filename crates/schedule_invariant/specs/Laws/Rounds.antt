@@ -153,7 +153,11 @@ module _ (w p : ℕ) (ks : List ℕ) where
             many = suc later.many;
             within = omega (arith, later.within);
             same = rounds-next fuel m unfinished ∙ later.same;
-            before = λ j. elim j [ zero ↦ λ h. unfinished | suc i ↦ λ h. later.before i (omega arith) ];
+            before = λ j.
+                elim j as (λ i. i < suc later.many → finished ks (again w p ks i m).run ≡ false) [
+                  | zero ↦ λ h. unfinished
+                  | suc i ↦ λ h. later.before i (omega arith)
+                ];
           }
 
 module _ (w p : ℕ) (ks : List ℕ) (some-step : 1 ≤ length ks) (sh : Shape (length ks) (end_at ks) (size_at ks)) where
