@@ -3,6 +3,8 @@
 // `push`, `pop` and `take`. A deque is in the order of its pushers, so its newest step is that of its highest pusher, its
 // oldest that of its lowest. No links are kept: any bytes are safe to scan. Where a table of openers is lent, the newest step
 // is found by it instead.
+#![tactic(auto)]
+
 ghost use Rattle.std.specs.Prelude.{◌≡◌, ◌≤◌, ◌<◌, length, set};
 ghost use Rattle.rules.specs.Tree.{most_steps};
 ghost use Rattle.run_spec.specs.Deques.{newest_mark, oldest_mark, found_of, popped, robbed};

@@ -9,89 +9,81 @@ use Rattle.run_spec.specs.Laws.Marks.{newest_end, climb-less, climb-below, climb
 use Rattle.run_deques.proofs.climb.Statement.{statement}
 use Rattle.run_deques.proofs.climb.Tie as tie
 
-abbrev invariant-loop : tie.invariant-loop
-invariant-loop openers place worker low end j = (j ≤ end) × (newest_mark place worker low j ≡ newest_mark place worker low end)
+abbrev invariant-loop-j : tie.invariant-loop-j
+invariant-loop-j openers place worker low end j = (j ≤ end) × (newest_mark place worker low j ≡ newest_mark place worker low end)
 
-abbrev decreases-loop : tie.decreases-loop
-decreases-loop openers place worker low end j = j
+abbrev decreases-loop-j : tie.decreases-loop-j
+decreases-loop-j openers place worker low end j = j
 
-loop-holds : tie.Need-loop-init invariant-loop decreases-loop
-loop-holds c = (omega arith, refl)
+loop-j-init : tie.Need-loop-j-init invariant-loop-j decreases-loop-j
+loop-j-init c = (omega arith, refl)
 
-mul_wide : tie.Need-overflow-mul-wide invariant-loop decreases-loop
-mul_wide c = search rules
+offset_bounds-openers-j : tie.Need-offset_bounds-openers-j invariant-loop-j decreases-loop-j
+offset_bounds-openers-j c = search rules
 
-shared-slice-read-wide : tie.Need-shared-slice-read-wide invariant-loop decreases-loop
-shared-slice-read-wide c = search rules
+bounds-openers-j : tie.Need-bounds-openers-j invariant-loop-j decreases-loop-j
+bounds-openers-j c = search rules
 
-wide-requires : tie.Need-wide-requires invariant-loop decreases-loop
-wide-requires c κs = search rules
+wide-j-requires : tie.Need-wide-j-requires invariant-loop-j decreases-loop-j
+wide-j-requires c κs = search rules
 
 -- The opener stands before the step.
-less : (c : tie.After-wide invariant-loop decreases-loop) → c.wide.result < c.before.before.before.loop.j
+less : (c : tie.After-wide-j invariant-loop-j decreases-loop-j) → c.wide-j.result < c.loop-j.j
 less c =
-    let at = c in
-    let s = at.before.before.before.before.before in
-    let a = s.args in
-    let loop = at.before.before.before.loop in
-    climb-less a.openers.now a.place.now a.worker a.low.0 a.end.0 s.requires.2 loop.j (omega arith) loop.invariant.0
-    s.requires.1 loop.invariant.1 at.wide.result at.wide.ensures
+    let a = c.args in
+    let loop = c.loop-j in
+    climb-less a.openers.now a.place.now a.worker a.low.0 a.end.0 c.requires.2 loop.j (omega arith) loop.invariant.0
+    c.requires.1 loop.invariant.1 c.wide-j.result c.wide-j.ensures
 
-returns : tie.Need-returns invariant-loop decreases-loop
-returns c =
-    let at = c.before in
-    let s = at.before.before.before.before.before in
-    let a = s.args in
-    let loop = at.before.before.before.loop in
-    climb-below a.openers.now a.place.now a.worker a.low.0 a.end.0 s.requires.2 loop.j (omega arith) loop.invariant.0
-    s.requires.1 loop.invariant.1 at.wide.result at.wide.ensures c.if1.true
+returns-then-j-from : tie.Need-returns-then-j-from invariant-loop-j decreases-loop-j
+returns-then-j-from c =
+    let a = c.args in
+    let loop = c.loop-j in
+    climb-below a.openers.now a.place.now a.worker a.low.0 a.end.0 c.requires.2 loop.j (omega arith) loop.invariant.0
+    c.requires.1 loop.invariant.1 c.wide-j.result c.wide-j.ensures c.if-j-from.true
 
-element-copy-out-if2 : tie.Need-element-copy-out-if2 invariant-loop decreases-loop
-element-copy-out-if2 c =
-    omega (arith, less c.before)
+bounds-place-j : tie.Need-bounds-place-j invariant-loop-j decreases-loop-j
+bounds-place-j c =
+    omega (arith, less c.before.before)
 
-returns-2 : tie.Need-returns-2 invariant-loop decreases-loop
-returns-2 c =
-    let at = c.before.before.before in
-    let s = at.before.before.before.before.before in
-    let a = s.args in
-    let loop = at.before.before.before.loop in
-    climb-hit a.openers.now a.place.now a.worker a.low.0 a.end.0 s.requires.2 loop.j (omega arith) loop.invariant.0
-    s.requires.1 loop.invariant.1 at.wide.result at.wide.ensures (omega arith) c.if2.true
+returns-then-place-j : tie.Need-returns-then-place-j invariant-loop-j decreases-loop-j
+returns-then-place-j c =
+    let a = c.args in
+    let loop = c.loop-j in
+    climb-hit a.openers.now a.place.now a.worker a.low.0 a.end.0 c.requires.2 loop.j (omega arith) loop.invariant.0
+    c.requires.1 loop.invariant.1 c.wide-j.result c.wide-j.ensures (omega arith) c.if-place-j.true
 
-loop-less : tie.Need-loop-smaller invariant-loop decreases-loop
-loop-less c = less c.before.before.before
+loop-j-smaller : tie.Need-loop-j-smaller invariant-loop-j decreases-loop-j
+loop-j-smaller c = less c.before.before.before.before
 
-loop-again : tie.Need-loop-preserved invariant-loop decreases-loop
-loop-again c =
-    let at = c.before.before.before in
-    let s = at.before.before.before.before.before in
-    let a = s.args in
-    let loop = at.before.before.before.loop in
+loop-j-preserved : tie.Need-loop-j-preserved invariant-loop-j decreases-loop-j
+loop-j-preserved c =
+    let a = c.args in
+    let loop = c.loop-j in
     let missed =
-    climb-miss a.openers.now a.place.now a.worker a.low.0 a.end.0 s.requires.2 loop.j (omega arith) loop.invariant.0
-    s.requires.1 loop.invariant.1 at.wide.result at.wide.ensures (omega arith) c.if2.false in
-    (omega (arith, less at, loop.invariant.0), missed)
+    climb-miss a.openers.now a.place.now a.worker a.low.0 a.end.0 c.requires.2 loop.j (omega arith) loop.invariant.0
+    c.requires.1 loop.invariant.1 c.wide-j.result c.wide-j.ensures (omega arith) c.if-place-j.false in
+    (omega (arith, less c.before.before.before.before, loop.invariant.0), missed)
 
-returns-3 : tie.Need-returns-3 invariant-loop decreases-loop
-returns-3 c =
-    let a = c.before.before.before.args in
-    let loop = c.before.loop in
+returns : tie.Need-returns invariant-loop-j decreases-loop-j
+returns c =
+    let a = c.args in
+    let loop = c.loop-j in
     newest_end a.place.now a.worker a.low.0 a.end.0 loop.j (omega arith) loop.invariant.1
 
-pub climb-spec : {M : Type 1} → statement M
-climb-spec =
+pub climb_spec : {M : Type 1} → statement M
+climb_spec =
     tie.close
     (tie.spec
-    invariant-loop
-    decreases-loop
-    loop-holds
-    mul_wide
-    shared-slice-read-wide
-    wide-requires
-    returns
-    element-copy-out-if2
-    returns-2
-    loop-less
-    loop-again
-    returns-3)
+    invariant-loop-j
+    decreases-loop-j
+    loop-j-init
+    offset_bounds-openers-j
+    bounds-openers-j
+    wide-j-requires
+    returns-then-j-from
+    bounds-place-j
+    returns-then-place-j
+    loop-j-smaller
+    loop-j-preserved
+    returns)

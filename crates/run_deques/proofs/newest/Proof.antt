@@ -5,16 +5,16 @@ use Rattle.run_deques.proofs.newest.Statement.{statement}
 use Rattle.run_deques.proofs.newest.Tie as tie
 
 climb-requires : tie.Need-climb-requires
-climb-requires c κs = (c.before.before.requires.0, c.if1.true, c.before.before.requires.1 c.if1.true)
+climb-requires c κs = (c.requires.0, c.if-i-openers.true, c.requires.1 c.if-i-openers.true)
 
-returns : tie.Need-returns
-returns c = search rules
+returns-then-i-openers : tie.Need-returns-then-i-openers
+returns-then-i-openers c = search rules
 
 scan-requires : tie.Need-scan-requires
 scan-requires c κs = search rules
 
-returns-2 : tie.Need-returns-2
-returns-2 c = search rules
+returns : tie.Need-returns
+returns c = search rules
 
-pub newest-spec : {M : Type 1} → statement M
-newest-spec = tie.close (tie.spec climb-requires returns scan-requires returns-2)
+pub newest_spec : {M : Type 1} → statement M
+newest_spec = tie.close (tie.spec climb-requires returns-then-i-openers scan-requires returns)

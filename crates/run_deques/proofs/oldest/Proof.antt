@@ -8,52 +8,52 @@ use Rattle.run_spec.specs.Laws.Marks.{oldest_hit, oldest_miss, oldest_end}
 use Rattle.run_deques.proofs.oldest.Statement.{statement}
 use Rattle.run_deques.proofs.oldest.Tie as tie
 
-abbrev invariant-loop : tie.invariant-loop
-invariant-loop place worker end low j = oldest_mark place worker j end ≡ oldest_mark place worker low end
+abbrev invariant-loop-j : tie.invariant-loop-j
+invariant-loop-j place worker end low j = oldest_mark place worker j end ≡ oldest_mark place worker low end
 
-abbrev decreases-loop : tie.decreases-loop
-decreases-loop place worker end low j = end - j
+abbrev decreases-loop-j : tie.decreases-loop-j
+decreases-loop-j place worker end low j = end - j
 
-loop-holds : tie.Need-loop-init invariant-loop decreases-loop
-loop-holds c = refl
+loop-j-init : tie.Need-loop-j-init invariant-loop-j decreases-loop-j
+loop-j-init c = refl
 
-element-copy-out-if1 : tie.Need-element-copy-out-if1 invariant-loop decreases-loop
-element-copy-out-if1 c = omega arith
+bounds-place-j : tie.Need-bounds-place-j invariant-loop-j decreases-loop-j
+bounds-place-j c = omega arith
 
-returns : tie.Need-returns invariant-loop decreases-loop
+returns-then-place-j : tie.Need-returns-then-place-j invariant-loop-j decreases-loop-j
+returns-then-place-j c =
+    let a = c.args in
+    let loop = c.loop-j in
+    oldest_hit a.place.now a.worker a.low.0 a.end loop.j (omega arith) loop.invariant c.if-place-j.true
+
+overflow_add-j : tie.Need-overflow_add-j invariant-loop-j decreases-loop-j
+overflow_add-j c = omega arith
+
+loop-j-smaller : tie.Need-loop-j-smaller invariant-loop-j decreases-loop-j
+loop-j-smaller c = omega arith
+
+loop-j-preserved : tie.Need-loop-j-preserved invariant-loop-j decreases-loop-j
+loop-j-preserved c =
+    let a = c.args in
+    let loop = c.loop-j in
+    oldest_miss a.place.now a.worker a.low.0 a.end loop.j (omega arith) loop.invariant c.if-place-j.false
+
+returns : tie.Need-returns invariant-loop-j decreases-loop-j
 returns c =
-    let a = c.before.before.before.before.args in
-    let loop = c.before.before.before.loop in
-    oldest_hit a.place.now a.worker a.low.0 a.end loop.j (omega arith) loop.invariant c.if1.true
-
-add-j : tie.Need-overflow-add-j invariant-loop decreases-loop
-add-j c = omega arith
-
-loop-less : tie.Need-loop-smaller invariant-loop decreases-loop
-loop-less c = omega arith
-
-loop-again : tie.Need-loop-preserved invariant-loop decreases-loop
-loop-again c =
-    let a = c.before.before.before.before.args in
-    let loop = c.before.before.before.loop in
-    oldest_miss a.place.now a.worker a.low.0 a.end loop.j (omega arith) loop.invariant c.if1.false
-
-returns-2 : tie.Need-returns-2 invariant-loop decreases-loop
-returns-2 c =
-    let a = c.before.before.args in
-    let loop = c.before.loop in
+    let a = c.args in
+    let loop = c.loop-j in
     oldest_end a.place.now a.worker a.low.0 a.end loop.j (omega arith) loop.invariant
 
-pub oldest-spec : {M : Type 1} → statement M
-oldest-spec =
+pub oldest_spec : {M : Type 1} → statement M
+oldest_spec =
     tie.close
     (tie.spec
-    invariant-loop
-    decreases-loop
-    loop-holds
-    element-copy-out-if1
-    returns
-    add-j
-    loop-less
-    loop-again
-    returns-2)
+    invariant-loop-j
+    decreases-loop-j
+    loop-j-init
+    bounds-place-j
+    returns-then-place-j
+    overflow_add-j
+    loop-j-smaller
+    loop-j-preserved
+    returns)

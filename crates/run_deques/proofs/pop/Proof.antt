@@ -4,7 +4,9 @@ use Prim.Native.Nat.{ℕ}
 use mathlib.Core.Path.{◌≡◌, sym, ◌∙◌}
 use mathlib.Core.Option.{Option, some}
 use native.Mathlib.Omega.{arith}
+use Rattle.tree.specs.declared.Step.{Step}
 use Rattle.tree.specs.Laws.Highest.{highest-is}
+use Rattle.run_spec.specs.declared.Found.TheVariants.{At}
 use Rattle.run_spec.specs.Deques.{newest_mark, marked}
 use Rattle.run_spec.specs.Laws.Marks.{found_at, found_nothing, popped-at, popped-nothing}
 use borrow.Author.Rules.{rules}
@@ -14,66 +16,60 @@ use Rattle.run_deques.proofs.pop.Tie as tie
 newest-requires : tie.Need-newest-requires
 newest-requires c κs = search rules
 
-enum-known-q : tie.Need-enum-known-q
-enum-known-q c = search rules
+enum_known-q : tie.Need-enum_known-q
+enum_known-q c = search rules
 
 -- ---- what is found
 
-abbrev start : tie.After-newest → tie.Start
-start c = c.before.before.before
-
 abbrev mark : tie.After-newest → Option ℕ
 mark c =
-    let a = (start c).args in
+    let a = c.args in
     newest_mark a.place.now a.worker a.low.0 a.step.0
 
-abbrev looked : tie.After-q → tie.After-newest
-looked c = c.before.before
-
-found : (c : tie.After-q) → mark (looked c) ≡ some c.q.given.0.0.0
-found c = found_at (mark (looked c)) (looked c).newest.result (looked c).newest.ensures c.q.given.0.0 c.q.given.1
+found : (c : tie.After-newest) (q : Step) → c.newest.result ≡ At q → mark c ≡ some q.0
+found c q is = found_at (mark c) c.newest.result c.newest.ensures q is
 
 -- ---- the needs
 
-element-write-place : tie.Need-element-write-place
-element-write-place c = search rules
+bounds-place-i : tie.Need-bounds-place-i
+bounds-place-i c = search rules
 
-element-write-place-2 : tie.Need-element-write-place-2
-element-write-place-2 c =
-    let at = c.before in
-    let a = (start (looked at)).args in
-    omega (arith, (highest-is (marked a.place.now a.worker) a.low.0 a.step.0 at.q.given.0.0.0 (found at)).before)
+bounds-place-p : tie.Need-bounds-place-p
+bounds-place-p c =
+    let a = c.args in
+    let q = c.in-At.q in
+    let is = found c.before.before q c.in-At.is in
+    omega (arith, (highest-is (marked a.place.now a.worker) a.low.0 a.step.0 q.0 is).before)
 
-enum_told : tie.Need-enum-told
-enum_told c = search rules
+enum_told-1 : tie.Need-enum_told-1
+enum_told-1 c = search rules
 
-element-write-place-3 : tie.Need-element-write-place-3
-element-write-place-3 c = search rules
+bounds-place-i-in-Nothing : tie.Need-bounds-place-i-in-Nothing
+bounds-place-i-in-Nothing c = search rules
 
-returns : tie.Need-returns
-returns c =
-    let at = c.before in
-    let a = (start (looked at)).args in (
-      sym at.q.given.1 ∙ (looked at).newest.ensures,
-      popped-at a.place.now a.worker a.low.0 a.step.0 at.q.given.0.0.0 (found at),
+returns-in-At : tie.Need-returns-in-At
+returns-in-At c =
+    let a = c.args in
+    let q = c.in-At.q in (
+      sym c.in-At.is ∙ c.newest.ensures,
+      popped-at a.place.now a.worker a.low.0 a.step.0 q.0 (found c.before.before q c.in-At.is),
     )
 
-returns-2 : tie.Need-returns-2
-returns-2 c =
-    let at = c.before.before in
-    let a = (start at).args in
-    let None-found = found_nothing (mark at) at.newest.result at.newest.ensures c.enum_told.given.1 in
-    (sym c.enum_told.given.1 ∙ at.newest.ensures, popped-nothing a.place.now a.worker a.low.0 a.step.0 None-found)
+returns-in-Nothing : tie.Need-returns-in-Nothing
+returns-in-Nothing c =
+    let a = c.args in
+    let none = found_nothing (mark c.before.before) c.newest.result c.newest.ensures c.in-Nothing.is in
+    (sym c.in-Nothing.is ∙ c.newest.ensures, popped-nothing a.place.now a.worker a.low.0 a.step.0 none)
 
 pub pop_spec : {M : Type 1} → statement M
 pop_spec =
     tie.close
     (tie.spec
     newest-requires
-    enum-known-q
-    element-write-place
-    element-write-place-2
-    enum_told
-    element-write-place-3
-    returns
-    returns-2)
+    enum_known-q
+    bounds-place-i
+    bounds-place-p
+    enum_told-1
+    bounds-place-i-in-Nothing
+    returns-in-At
+    returns-in-Nothing)

@@ -8,53 +8,53 @@ use Rattle.run_spec.specs.Laws.Marks.{newest_hit, newest_miss, newest_end}
 use Rattle.run_deques.proofs.scan.Statement.{statement}
 use Rattle.run_deques.proofs.scan.Tie as tie
 
-abbrev invariant-loop : tie.invariant-loop
-invariant-loop place mark low end j = (j ≤ end) × (newest_mark place mark low j ≡ newest_mark place mark low end)
+abbrev invariant-loop-j : tie.invariant-loop-j
+invariant-loop-j place mark low end j = (j ≤ end) × (newest_mark place mark low j ≡ newest_mark place mark low end)
 
-abbrev decreases-loop : tie.decreases-loop
-decreases-loop place mark low end j = j
+abbrev decreases-loop-j : tie.decreases-loop-j
+decreases-loop-j place mark low end j = j
 
-loop-holds : tie.Need-loop-init invariant-loop decreases-loop
-loop-holds c = (omega arith, refl)
+loop-j-init : tie.Need-loop-j-init invariant-loop-j decreases-loop-j
+loop-j-init c = (omega arith, refl)
 
-sub-j : tie.Need-overflow-sub-j invariant-loop decreases-loop
-sub-j c = omega arith
+overflow_sub-j : tie.Need-overflow_sub-j invariant-loop-j decreases-loop-j
+overflow_sub-j c = omega arith
 
-element-copy-out-if1 : tie.Need-element-copy-out-if1 invariant-loop decreases-loop
-element-copy-out-if1 c = omega arith
+bounds-place-j : tie.Need-bounds-place-j invariant-loop-j decreases-loop-j
+bounds-place-j c = omega arith
 
-returns : tie.Need-returns invariant-loop decreases-loop
-returns c =
-    let a = c.before.before.before.before.args in
-    let loop = c.before.before.before.loop in
-    newest_hit a.place.now a.mark a.low.0 a.end.0 loop.j (omega arith) loop.invariant.1 c.if1.true
+returns-then-place-j : tie.Need-returns-then-place-j invariant-loop-j decreases-loop-j
+returns-then-place-j c =
+    let a = c.args in
+    let loop = c.loop-j in
+    newest_hit a.place.now a.mark a.low.0 a.end.0 loop.j (omega arith) loop.invariant.1 c.if-place-j.true
 
-loop-less : tie.Need-loop-smaller invariant-loop decreases-loop
-loop-less c = omega arith
+loop-j-smaller : tie.Need-loop-j-smaller invariant-loop-j decreases-loop-j
+loop-j-smaller c = omega arith
 
-loop-again : tie.Need-loop-preserved invariant-loop decreases-loop
-loop-again c =
-    let a = c.before.before.before.before.args in
-    let loop = c.before.before.before.loop in
-    let missed = newest_miss a.place.now a.mark a.low.0 a.end.0 loop.j (omega arith) loop.invariant.1 c.if1.false in
+loop-j-preserved : tie.Need-loop-j-preserved invariant-loop-j decreases-loop-j
+loop-j-preserved c =
+    let a = c.args in
+    let loop = c.loop-j in
+    let missed = newest_miss a.place.now a.mark a.low.0 a.end.0 loop.j (omega arith) loop.invariant.1 c.if-place-j.false in
     (omega (arith, loop.invariant.0), missed)
 
-returns-2 : tie.Need-returns-2 invariant-loop decreases-loop
-returns-2 c =
-    let a = c.before.before.args in
-    let loop = c.before.loop in
+returns : tie.Need-returns invariant-loop-j decreases-loop-j
+returns c =
+    let a = c.args in
+    let loop = c.loop-j in
     newest_end a.place.now a.mark a.low.0 a.end.0 loop.j (omega arith) loop.invariant.1
 
-pub scan-spec : {M : Type 1} → statement M
-scan-spec =
+pub scan_spec : {M : Type 1} → statement M
+scan_spec =
     tie.close
     (tie.spec
-    invariant-loop
-    decreases-loop
-    loop-holds
-    sub-j
-    element-copy-out-if1
-    returns
-    loop-less
-    loop-again
-    returns-2)
+    invariant-loop-j
+    decreases-loop-j
+    loop-j-init
+    overflow_sub-j
+    bounds-place-j
+    returns-then-place-j
+    loop-j-smaller
+    loop-j-preserved
+    returns)

@@ -4,6 +4,8 @@ use Prim.Native.Nat.{ℕ}
 use mathlib.Core.Path.{◌≡◌, sym, ◌∙◌}
 use mathlib.Core.Option.{Option, some}
 use native.Mathlib.Omega.{arith}
+use Rattle.tree.specs.declared.Step.{Step}
+use Rattle.run_spec.specs.declared.Found.TheVariants.{At}
 use Rattle.run_spec.specs.Deques.{oldest_mark}
 use Rattle.run_spec.specs.Laws.Marks.{found_at, found_nothing, oldest_before, robbed-at, robbed-nothing}
 use borrow.Author.Rules.{rules}
@@ -13,52 +15,45 @@ use Rattle.run_deques.proofs.take.Tie as tie
 oldest-requires : tie.Need-oldest-requires
 oldest-requires c κs = search rules
 
-enum-known-q : tie.Need-enum-known-q
-enum-known-q c = search rules
+enum_known-q : tie.Need-enum_known-q
+enum_known-q c = search rules
 
 -- ---- what is found
 
-abbrev start : tie.After-oldest → tie.Start
-start c = c.before.before
-
 abbrev mark : tie.After-oldest → Option ℕ
 mark c =
-    let a = (start c).args in
+    let a = c.args in
     oldest_mark a.place.now a.victim a.low.0 a.end
 
-abbrev looked : tie.After-q → tie.After-oldest
-looked c = c.before.before
-
-found : (c : tie.After-q) → mark (looked c) ≡ some c.q.given.0.0.0
-found c = found_at (mark (looked c)) (looked c).oldest.result (looked c).oldest.ensures c.q.given.0.0 c.q.given.1
+found : (c : tie.After-oldest) (q : Step) → c.oldest.result ≡ At q → mark c ≡ some q.0
+found c q is = found_at (mark c) c.oldest.result c.oldest.ensures q is
 
 -- ---- the needs
 
-element-write-place : tie.Need-element-write-place
-element-write-place c =
-    let at = c.before in
-    let a = (start (looked at)).args in
-    omega (arith, oldest_before a.place.now a.victim a.low.0 a.end at.q.given.0.0.0 (found at))
+bounds-place-p : tie.Need-bounds-place-p
+bounds-place-p c =
+    let a = c.args in
+    let q = c.in-At.q in
+    omega (arith, oldest_before a.place.now a.victim a.low.0 a.end q.0 (found c.before.before q c.in-At.is))
 
-enum_told : tie.Need-enum-told
-enum_told c = search rules
+enum_told-1 : tie.Need-enum_told-1
+enum_told-1 c = search rules
 
-returns : tie.Need-returns
-returns c =
-    let at = c.before in
-    let a = (start (looked at)).args in (
-      sym at.q.given.1 ∙ (looked at).oldest.ensures,
-      robbed-at a.place.now a.victim a.low.0 a.end at.q.given.0.0.0 (found at),
+returns-in-At : tie.Need-returns-in-At
+returns-in-At c =
+    let a = c.args in
+    let q = c.in-At.q in (
+      sym c.in-At.is ∙ c.oldest.ensures,
+      robbed-at a.place.now a.victim a.low.0 a.end q.0 (found c.before.before q c.in-At.is),
     )
 
-returns-2 : tie.Need-returns-2
-returns-2 c =
-    let at = c.before.before in
-    let a = (start at).args in
-    let None-found = found_nothing (mark at) at.oldest.result at.oldest.ensures c.enum_told.given.1 in
-    (sym c.enum_told.given.1 ∙ at.oldest.ensures, robbed-nothing a.place.now a.victim a.low.0 a.end None-found)
+returns-in-Nothing : tie.Need-returns-in-Nothing
+returns-in-Nothing c =
+    let a = c.args in
+    let none = found_nothing (mark c.before) c.oldest.result c.oldest.ensures c.in-Nothing.is in
+    (sym c.in-Nothing.is ∙ c.oldest.ensures, robbed-nothing a.place.now a.victim a.low.0 a.end none)
 
 pub take_spec : {M : Type 1} → statement M
 take_spec =
     tie.close
-    (tie.spec oldest-requires enum-known-q element-write-place enum_told returns returns-2)
+    (tie.spec oldest-requires enum_known-q bounds-place-p enum_told-1 returns-in-At returns-in-Nothing)
