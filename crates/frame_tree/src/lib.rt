@@ -1,5 +1,7 @@
 // What C asks about a tree, for a program that shows one: answers are numbers or flat structs of them, and a slice is a pointer and
 // a length. Every function takes any bytes and any numbers.
+#![tactic(auto)]
+
 ghost use Rattle.std.specs.Prelude.{◌≡◌, get_or};
 ghost use Rattle.rules.specs.Tree.{kinds, classes, weights, kind_at, cont, finish_before};
 ghost use Rattle.tree.specs.Contract.{acceptance};

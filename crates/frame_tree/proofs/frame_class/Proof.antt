@@ -10,5 +10,5 @@ class-requires c κs = search rules
 returns : tie.Need-returns
 returns c = c.class.ensures
 
-pub frame-class-spec : {M : Type 1} → statement M
-frame-class-spec = tie.close (tie.spec class-requires returns)
+pub frame_class_spec : {M : Type 1} → statement M
+frame_class_spec = tie.close (tie.spec class-requires returns)

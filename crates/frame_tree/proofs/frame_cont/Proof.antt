@@ -4,11 +4,11 @@ use borrow.Author.Rules.{rules}
 use Rattle.frame_tree.proofs.frame_cont.Statement.{statement}
 use Rattle.frame_tree.proofs.frame_cont.Tie as tie
 
-cont-requires : tie.Need-cont-requires
-cont-requires c κs = search rules
+cont-after-requires : tie.Need-cont-after-requires
+cont-after-requires c κs = search rules
 
 returns : tie.Need-returns
-returns c = c.cont.ensures
+returns c = c.cont-after.ensures
 
-pub frame-cont-spec : {M : Type 1} → statement M
-frame-cont-spec = tie.close (tie.spec cont-requires returns)
+pub frame_cont_spec : {M : Type 1} → statement M
+frame_cont_spec = tie.close (tie.spec cont-after-requires returns)

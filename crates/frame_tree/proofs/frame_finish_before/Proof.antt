@@ -6,21 +6,21 @@ use borrow.Author.Rules.{rules}
 use Rattle.frame_tree.proofs.frame_finish_before.Statement.{statement}
 use Rattle.frame_tree.proofs.frame_finish_before.Tie as tie
 
-finish-before-requires : tie.Need-finish-before-requires
-finish-before-requires c κs = search rules
+finish_before-requires : tie.Need-finish_before-requires
+finish_before-requires c κs = search rules
 
-enum-known-first : tie.Need-enum-known-first
-enum-known-first c = search rules
+enum_known-first : tie.Need-enum_known-first
+enum_known-first c = search rules
 
-enum_told : tie.Need-enum-told
-enum_told c = search rules
+enum_told-1 : tie.Need-enum_told-1
+enum_told-1 c = search rules
 
-returns : tie.Need-returns
-returns c = ap flat_child (sym c.before.first.given.1 ∙ c.before.before.before.finish-before.ensures)
+returns-in-From : tie.Need-returns-in-From
+returns-in-From c = ap flat_child (sym c.in-From.is ∙ c.finish_before.ensures)
 
-returns-2 : tie.Need-returns-2
-returns-2 c = ap flat_child (sym c.enum_told.given.1 ∙ c.before.before.finish-before.ensures)
+returns-in-Nothing : tie.Need-returns-in-Nothing
+returns-in-Nothing c = ap flat_child (sym c.in-Nothing.is ∙ c.finish_before.ensures)
 
-pub frame-finish-before-spec : {M : Type 1} → statement M
-frame-finish-before-spec =
-    tie.close (tie.spec finish-before-requires enum-known-first enum_told returns returns-2)
+pub frame_finish_before_spec : {M : Type 1} → statement M
+frame_finish_before_spec =
+    tie.close (tie.spec finish_before-requires enum_known-first enum_told-1 returns-in-From returns-in-Nothing)

@@ -10,5 +10,5 @@ kind-requires c κs = search rules
 returns : tie.Need-returns
 returns c = c.kind.ensures
 
-pub frame-kind-spec : {M : Type 1} → statement M
-frame-kind-spec = tie.close (tie.spec kind-requires returns)
+pub frame_kind_spec : {M : Type 1} → statement M
+frame_kind_spec = tie.close (tie.spec kind-requires returns)

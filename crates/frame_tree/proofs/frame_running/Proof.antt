@@ -6,21 +6,21 @@ use borrow.Author.Rules.{rules}
 use Rattle.frame_tree.proofs.frame_running.Statement.{statement}
 use Rattle.frame_tree.proofs.frame_running.Tie as tie
 
-running-of-requires : tie.Need-running-of-requires
-running-of-requires c κs = search rules
+running_of-requires : tie.Need-running_of-requires
+running_of-requires c κs = search rules
 
-enum-known-hold : tie.Need-enum-known-hold
-enum-known-hold c = search rules
+enum_known-hold : tie.Need-enum_known-hold
+enum_known-hold c = search rules
 
-enum_told : tie.Need-enum-told
-enum_told c = search rules
+enum_told-1 : tie.Need-enum_told-1
+enum_told-1 c = search rules
 
-returns : tie.Need-returns
-returns c = ap flat_running (sym c.before.hold.given.1 ∙ c.before.before.before.running-of.ensures)
+returns-in-Opens : tie.Need-returns-in-Opens
+returns-in-Opens c = ap flat_running (sym c.in-Opens.is ∙ c.running_of.ensures)
 
-returns-2 : tie.Need-returns-2
-returns-2 c = ap flat_running (sym c.enum_told.given.1 ∙ c.before.before.running-of.ensures)
+returns-in-Ends : tie.Need-returns-in-Ends
+returns-in-Ends c = ap flat_running (sym c.in-Ends.is ∙ c.running_of.ensures)
 
-pub frame-running-spec : {M : Type 1} → statement M
-frame-running-spec =
-    tie.close (tie.spec running-of-requires enum-known-hold enum_told returns returns-2)
+pub frame_running_spec : {M : Type 1} → statement M
+frame_running_spec =
+    tie.close (tie.spec running_of-requires enum_known-hold enum_told-1 returns-in-Opens returns-in-Ends)

@@ -6,11 +6,11 @@ use borrow.Author.Rules.{rules}
 use Rattle.frame_tree.proofs.frame_task.Statement.{statement}
 use Rattle.frame_tree.proofs.frame_task.Tie as tie
 
-task-of-requires : tie.Need-task-of-requires
-task-of-requires c κs = search rules
+task_of-task-requires : tie.Need-task_of-task-requires
+task_of-task-requires c κs = search rules
 
 returns : tie.Need-returns
-returns c = ap flat_task c.task-of.ensures
+returns c = ap flat_task c.task_of-task.ensures
 
-pub frame-task-spec : {M : Type 1} → statement M
-frame-task-spec = tie.close (tie.spec task-of-requires returns)
+pub frame_task_spec : {M : Type 1} → statement M
+frame_task_spec = tie.close (tie.spec task_of-task-requires returns)

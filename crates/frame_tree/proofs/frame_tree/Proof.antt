@@ -6,14 +6,14 @@ use borrow.Author.Rules.{rules}
 use Rattle.frame_tree.proofs.frame_tree.Statement.{statement}
 use Rattle.frame_tree.proofs.frame_tree.Tie as tie
 
-accept-requires : tie.Need-accept-requires
-accept-requires c κs = search rules
+accept-a-requires : tie.Need-accept-a-requires
+accept-a-requires c κs = search rules
 
-cast-t3 : tie.Need-overflow-cast-t3
-cast-t3 c = search rules
+overflow_cast-result : tie.Need-overflow_cast-result
+overflow_cast-result c = search rules
 
 returns : tie.Need-returns
-returns c = ap flat_tree c.before.accept.ensures
+returns c = ap flat_tree c.accept-a.ensures
 
-pub frame-tree-spec : {M : Type 1} → statement M
-frame-tree-spec = tie.close (tie.spec accept-requires cast-t3 returns)
+pub frame_tree_spec : {M : Type 1} → statement M
+frame_tree_spec = tie.close (tie.spec accept-a-requires overflow_cast-result returns)

@@ -10,5 +10,5 @@ weight-requires c κs = search rules
 returns : tie.Need-returns
 returns c = c.weight.ensures
 
-pub frame-weight-spec : {M : Type 1} → statement M
-frame-weight-spec = tie.close (tie.spec weight-requires returns)
+pub frame_weight_spec : {M : Type 1} → statement M
+frame_weight_spec = tie.close (tie.spec weight-requires returns)
