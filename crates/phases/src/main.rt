@@ -3,11 +3,13 @@
 // What a descriptor delivers or takes no contract can say. Proved is the text for the bytes that were read (`list_phases`), and that
 // the program is safe and ends. Tested is that it reads standard input from its start, up to MOST_INPUT bytes or to its end, and
 // that it writes the text and nothing else (`tests/tests/program.rs`).
-ghost use Rattle.io.specs.Counts.{IsPrefixLen};
+#![tactic(auto)]
 
-use libc::{STDERR_FILENO, STDIN_FILENO, STDOUT_FILENO};
+ghost use Rattle.std.specs.Counts.{IsPrefixLen};
+
 use phases_text::TEXT_BYTES;
 use phases_text::input::MOST_INPUT;
+use std::io::Read;
 
 // How many bytes of standard input stand at the front of a buffer, and whether the last read failed.
 #[derive(Clone, Copy)]
@@ -17,23 +19,28 @@ struct Reading {
 }
 
 // One read. Its count is 0 at the end of standard input, and where it fails.
-fn read_some(buffer: &mut [u8]) -> Reading
+fn read_some<R: Read>(stdin: &mut R, buffer: &mut [u8]) -> Reading
     ensures { IsPrefixLen result.count buffer.new }
 {
-    let got = libc::read(STDIN_FILENO, buffer);
-    Reading {
-        count: io::count(got, buffer),
-        failed: got < 0,
+    match stdin.read(buffer) {
+        Ok(count) => Reading {
+            count,
+            failed: false,
+        },
+        Err(_) => Reading {
+            count: 0,
+            failed: true,
+        },
     }
 }
 
 // Reads until the buffer is full, standard input ends or a read fails.
-fn read_input(input: &mut [u8]) -> Reading
+fn read_input<R: Read>(stdin: &mut R, input: &mut [u8]) -> Reading
     ensures { IsPrefixLen result.count input.new }
 {
     let mut at = 0;
     while at < input.len() {
-        let next = read_some(&mut input[at..]);
+        let next = read_some(stdin, &mut input[at..]);
         if next.count == 0 {
             return Reading {
                 count: at,
@@ -48,21 +55,27 @@ fn read_input(input: &mut [u8]) -> Reading
     }
 }
 
-// A program cannot set its exit status yet: that it failed stands on standard error alone.
-fn main() {
+// Writes a line to standard error. Where that fails too, there is nothing left to say it with.
+fn complain(rt: HostRuntime, line: &[u8]) {
+    match rt.stderr().write_all(line) {
+        Ok(()) => {}
+        Err(_) => {}
+    }
+}
+
+// Its exit status is 0 whatever comes: that it failed stands on standard error alone.
+fn main(rt: HostRuntime) {
     let mut input: [u8; MOST_INPUT] = [0; MOST_INPUT];
     let mut text: [u8; TEXT_BYTES] = [0; TEXT_BYTES];
-    let reading = read_input(&mut input);
+    let reading = read_input(&mut rt.stdin(), &mut input);
     if reading.failed {
-        io::write_all(STDERR_FILENO, b"phases: standard input could not be read\n");
+        complain(rt, b"phases: standard input could not be read\n");
         return;
     }
     let count = reading.count;
     let length = phases_text::list_phases(&input[..count], &mut text);
-    if !io::write_all(STDOUT_FILENO, &text[..length]) {
-        io::write_all(
-            STDERR_FILENO,
-            b"phases: standard output could not be written\n",
-        );
+    match rt.stdout().write_all(&text[..length]) {
+        Ok(()) => {}
+        Err(_) => complain(rt, b"phases: standard output could not be written\n"),
     }
 }
