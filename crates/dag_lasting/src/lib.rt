@@ -2,6 +2,8 @@
 // table that is filled once, and with it the tree's tables of ends and openers: one look at each step tells all three. A task and the
 // rest of a task are filled through each other, from the end back, since an opening step needs what its child and its continuation last,
 // and both stand behind it. The stack is as deep as tasks are open together: at most 64.
+#![tactic(auto)]
+
 ghost use Rattle.std.specs.Prelude.{◌≡◌, suc, ◌≤◌, length};
 ghost use Rattle.rules.specs.Tree.{is_finish, kinds, weights, kind_at, task as first_of, tree_verdict};
 ghost use Rattle.dag_chain.specs.Terms.{joined as joined_by};

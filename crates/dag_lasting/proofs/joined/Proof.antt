@@ -9,29 +9,29 @@ use Rattle.dag_chain.specs.Terms.{joined}
 use Rattle.dag_lasting.proofs.joined.Statement.{statement}
 use Rattle.dag_lasting.proofs.joined.Tie as tie
 
-add-result : tie.Need-overflow-add-result
-add-result c = omega arith
+overflow_add-result : tie.Need-overflow_add-result
+overflow_add-result c = omega arith
 
-add-result-2 : tie.Need-overflow-add-result-2
-add-result-2 c = omega arith
+overflow_add-result-then-kind-eq-FINISH : tie.Need-overflow_add-result-then-kind-eq-FINISH
+overflow_add-result-then-kind-eq-FINISH c = omega arith
+
+returns-then-kind-eq-FINISH : tie.Need-returns-then-kind-eq-FINISH
+unfolding joined is_finish
+returns-then-kind-eq-FINISH c = rw (eq-eqb _ 2 c.if-kind-eq-FINISH.true) refl
+
+overflow_add-result-then-child-rest : tie.Need-overflow_add-result-then-child-rest
+overflow_add-result-then-child-rest c = omega arith
+
+returns-then-child-rest : tie.Need-returns-then-child-rest
+unfolding joined is_finish
+returns-then-child-rest c = rw (ne_eqb _ 2 c.if-kind-eq-FINISH.false, max-eq_right c.if-child-rest.true) refl
+
+overflow_add-result-2 : tie.Need-overflow_add-result-2
+overflow_add-result-2 c = omega arith
 
 returns : tie.Need-returns
 unfolding joined is_finish
-returns c = rw (eq-eqb _ 2 c.if1.true) refl
+returns c = rw (ne_eqb _ 2 c.if-kind-eq-FINISH.false, max-eq_left (le_of_lt c.if-child-rest.false)) refl
 
-add-result-3 : tie.Need-overflow-add-result-3
-add-result-3 c = omega arith
-
-returns-2 : tie.Need-returns-2
-unfolding joined is_finish
-returns-2 c = rw (ne_eqb _ 2 c.before.if1.false, max-eq_right c.if2.true) refl
-
-add-result-4 : tie.Need-overflow-add-result-4
-add-result-4 c = omega arith
-
-returns-3 : tie.Need-returns-3
-unfolding joined is_finish
-returns-3 c = rw (ne_eqb _ 2 c.before.if1.false, max-eq_left (le_of_lt c.if2.false)) refl
-
-pub joined-spec : {M : Type 1} → statement M
-joined-spec = tie.close (tie.spec add-result add-result-2 returns add-result-3 returns-2 add-result-4 returns-3)
+pub joined_spec : {M : Type 1} → statement M
+joined_spec = tie.close (tie.spec overflow_add-result overflow_add-result-then-kind-eq-FINISH returns-then-kind-eq-FINISH overflow_add-result-then-child-rest returns-then-child-rest overflow_add-result-2 returns)
