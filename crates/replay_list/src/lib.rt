@@ -1,5 +1,7 @@
 // The run list (document 01, "Trace, log, run list"): phase 0 first, each phase's records in running order, in their own part
 // of the lent list. Module `phase` writes one phase.
+#![tactic(auto)]
+
 pub mod phase;
 
 ghost use Rattle.std.specs.Prelude.{◌≡◌, length};

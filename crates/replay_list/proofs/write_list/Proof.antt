@@ -12,126 +12,124 @@ use Rattle.replay_spec.specs.Laws.Lists.{phase-listed}
 use Rattle.replay_list.proofs.write_list.Statement.{statement}
 use Rattle.replay_list.proofs.write_list.Tie as tie
 
-abbrev invariant-loop : tie.invariant-loop
-invariant-loop tree ends labels firsts policy phases list₀ stack₀ k₀ at₀ list stack k at =
+abbrev invariant-loop-k : tie.invariant-loop-k
+invariant-loop-k tree ends labels firsts policy phases list₀ stack₀ k₀ at₀ list stack k at =
     Listing policy tree labels firsts phases list₀ list stack k at
 
-abbrev decreases-loop : tie.decreases-loop
-decreases-loop tree ends labels firsts policy phases list₀ stack₀ k₀ at₀ list stack k at = phases - k
+abbrev decreases-loop-k : tie.decreases-loop-k
+decreases-loop-k tree ends labels firsts policy phases list₀ stack₀ k₀ at₀ list stack k at = phases - k
 
 -- ---- the places
 
-abbrev entry : tie.At-loop invariant-loop decreases-loop → tie.Start invariant-loop decreases-loop
+abbrev entry : tie.At-loop-k invariant-loop-k decreases-loop-k → tie.Start invariant-loop-k decreases-loop-k
 entry c = c.before.before.before.before.before.before
 
 -- The phase's first step has been read.
-abbrev more : tie.After-wide invariant-loop decreases-loop → tie.In-loop invariant-loop decreases-loop
+abbrev more : tie.After-wide invariant-loop-k decreases-loop-k → tie.In-loop-k invariant-loop-k decreases-loop-k
 more c = c.before.before
 
 -- The phase has been written.
-abbrev first : tie.After-write-phase invariant-loop decreases-loop → tie.After-wide invariant-loop decreases-loop
+abbrev first : tie.After-write_phase-count invariant-loop-k decreases-loop-k → tie.After-wide invariant-loop-k decreases-loop-k
 first c = c.before.before.before
 
 -- Its part is back in the list.
-abbrev done : tie.After-slice-known2 invariant-loop decreases-loop → tie.After-write-phase invariant-loop decreases-loop
+abbrev done : tie.After-slice_known-in-loop-k-1 invariant-loop-k decreases-loop-k → tie.After-write_phase-count invariant-loop-k decreases-loop-k
 done c = c.before.before.before
 
 -- ---- the facts
 
 -- The phase's part begins inside the list.
-fits : (c : tie.In-loop invariant-loop decreases-loop) → (c.before.loop.at ≤ length c.before.loop.list) × (c.before.loop.k < most_phases)
-fits c = list_fits c.before.loop.invariant c.loop-test.true
+fits : (c : tie.In-loop-k invariant-loop-k decreases-loop-k) → (c.loop-k.at ≤ length c.loop-k.list) × (c.loop-k.k < most_phases)
+fits c = list_fits c.loop-k.invariant c.loop-k-test.true
 
-turn : (c : tie.After-wide invariant-loop decreases-loop)
+turn : (c : tie.After-wide invariant-loop-k decreases-loop-k)
     → let top = (more c).before in
     let a = (entry top).args in
-    let l = top.loop in
+    let l = top.loop-k in
     Turn a.policy a.tree.now a.labels.now a.firsts.now a.phases a.list.now l.list l.stack l.k l.at
     c.wide.result
-turn c = record { so = (more c).before.loop.invariant; more = (more c).loop-test.true; begins = c.wide.ensures }
+turn c = record { so = (more c).loop-k.invariant; more = (more c).loop-k-test.true; begins = c.wide.ensures }
 
 -- Its records fit too.
-counted : (c : tie.After-write-phase invariant-loop decreases-loop)
+counted : (c : tie.After-write_phase-count invariant-loop-k decreases-loop-k)
     → let top = (more (first c)).before in
-    top.loop.at + 4 * c.write-phase.result ≤ length (entry top).args.list.now
-counted c = count_fits (turn (first c)) c.write-phase.ensures.0
+    top.loop-k.at + 4 * c.write_phase-count.result ≤ length (entry top).args.list.now
+counted c = count_fits (turn (first c)) c.write_phase-count.ensures.0
 
 -- ---- the needs
 
-loop-holds : tie.Need-loop-init invariant-loop decreases-loop
-loop-holds c =
-    let start = c.before.before.before.before.before in
-    listing_start start.requires.0.0 start.requires.1.1 refl
+loop-k-init : tie.Need-loop-k-init invariant-loop-k decreases-loop-k
+loop-k-init c =
+    listing_start c.requires.0.0 c.requires.1.1 refl
 
-mul_wide : tie.Need-overflow-mul-wide invariant-loop decreases-loop
-mul_wide c = omega (arith, fits c)
+offset_bounds-firsts-k : tie.Need-offset_bounds-firsts-k invariant-loop-k decreases-loop-k
+offset_bounds-firsts-k c = omega (arith, fits c)
 
-shared-slice-read-wide : tie.Need-shared-slice-read-wide invariant-loop decreases-loop
-shared-slice-read-wide c = omega (arith, fits c.before, (entry c.before.before).pre.1.0.1)
+bounds-firsts-k : tie.Need-bounds-firsts-k invariant-loop-k decreases-loop-k
+bounds-firsts-k c = omega (arith, fits c.before, (entry c.before.before).requires.1.0.1)
 
-wide-requires : tie.Need-wide-requires invariant-loop decreases-loop
+wide-requires : tie.Need-wide-requires invariant-loop-k decreases-loop-k
 wide-requires c κs = search rules
 
-add-k : tie.Need-overflow-add-k invariant-loop decreases-loop
-add-k c = omega (arith, fits (more c))
+overflow_add-k : tie.Need-overflow_add-k invariant-loop-k decreases-loop-k
+overflow_add-k c = omega (arith, fits c.before.before)
 
-slice-aggregate-write-phase : tie.Need-slice-aggregate-write-phase invariant-loop decreases-loop
-slice-aggregate-write-phase c = search rules
+slice_bounds-write_phase-end : tie.Need-slice_bounds-write_phase-end invariant-loop-k decreases-loop-k
+slice_bounds-write_phase-end c = search rules
 
-sub-write-phase : tie.Need-overflow-sub-write-phase invariant-loop decreases-loop
-sub-write-phase c = omega (arith, fits (more c.before))
+slice_bounds-write_phase-count : tie.Need-slice_bounds-write_phase-count invariant-loop-k decreases-loop-k
+slice_bounds-write_phase-count c = omega (arith, fits (more c.before))
 
-part-write-phase-start : tie.Need-slice-bounds-write-phase-start invariant-loop decreases-loop
-part-write-phase-start c = (fits (more c.before)).0
+slice_bounds-write_phase-start : tie.Need-slice_bounds-write_phase-start invariant-loop-k decreases-loop-k
+slice_bounds-write_phase-start c = (fits (more c.before)).0
 
-part-write-phase-end : tie.Need-slice-bounds-write-phase-end invariant-loop decreases-loop
-part-write-phase-end c = search rules
+slice_bounds-write_phase-end-in-loop-k : tie.Need-slice_bounds-write_phase-end-in-loop-k invariant-loop-k decreases-loop-k
+slice_bounds-write_phase-end-in-loop-k c = search rules
 
-write-phase-requires : tie.Need-write-phase-requires invariant-loop decreases-loop
-write-phase-requires c κs =
-    let at = c.before.before in
-    let start = entry (more at).before in
-    (start.pre.0, ((start.pre.1.0.0, (turn at).so.room), phase_writable (turn at)))
+write_phase-count-requires : tie.Need-write_phase-count-requires invariant-loop-k decreases-loop-k
+write_phase-count-requires c κs =
+    let start = entry (more c.before.before).before in
+    (start.requires.0, ((start.requires.1.0.0, (turn c.before.before).so.room), phase_writable (turn c.before.before)))
 
-mul_at : tie.Need-overflow-mul-at invariant-loop decreases-loop
-mul_at c = omega (arith, counted (done c))
+overflow_mul-at : tie.Need-overflow_mul-at invariant-loop-k decreases-loop-k
+overflow_mul-at c = omega (arith, counted (done c))
 
-add_at : tie.Need-overflow-add-at invariant-loop decreases-loop
-add_at c = omega (arith, counted (done c))
+overflow_add-at : tie.Need-overflow_add-at invariant-loop-k decreases-loop-k
+overflow_add-at c = omega (arith, counted (done c))
 
-loop-less : tie.Need-loop-smaller invariant-loop decreases-loop
-loop-less c = omega (arith, (turn (first (done c))).more)
+loop-k-smaller : tie.Need-loop-k-smaller invariant-loop-k decreases-loop-k
+loop-k-smaller c = omega (arith, (turn (first (done c))).more)
 
-loop-again : tie.Need-loop-preserved invariant-loop decreases-loop
-loop-again c =
-    let wrote = (done c).write-phase.ensures in
-    phase-listed (turn (first (done c))) wrote.0 wrote.1 c.before.before.stack2.given
+loop-k-preserved : tie.Need-loop-k-preserved invariant-loop-k decreases-loop-k
+loop-k-preserved c =
+    let wrote = (done c).write_phase-count.ensures in
+    phase-listed (turn (first (done c))) wrote.0 wrote.1 c.stack-in-loop-k-1.given
 
-same_length : tie.Need-same-length invariant-loop decreases-loop
-same_length c = front_length c.before.loop.invariant.front
+shape_of-list : tie.Need-shape_of-list invariant-loop-k decreases-loop-k
+shape_of-list c = front_length c.loop-k.invariant.front
 
-returns : tie.Need-returns invariant-loop decreases-loop
-returns c = listing_done c.before.loop.invariant (λ l. omega (arith, c.loop-test.false))
+returns : tie.Need-returns invariant-loop-k decreases-loop-k
+returns c = listing_done c.loop-k.invariant (λ l. omega (arith, c.loop-k-test.false))
 
-pub write-list-spec : {M : Type 1} → statement M
-write-list-spec =
+pub write_list_spec : {M : Type 1} → statement M
+write_list_spec =
     tie.close
     (tie.spec
-    invariant-loop
-    decreases-loop
-    loop-holds
-    mul_wide
-    shared-slice-read-wide
+    invariant-loop-k
+    decreases-loop-k
+    loop-k-init
+    offset_bounds-firsts-k
+    bounds-firsts-k
     wide-requires
-    add-k
-    slice-aggregate-write-phase
-    sub-write-phase
-    part-write-phase-start
-    part-write-phase-end
-    write-phase-requires
-    mul_at
-    add_at
-    loop-less
-    loop-again
-    same_length
+    overflow_add-k
+    slice_bounds-write_phase-end
+    slice_bounds-write_phase-count
+    slice_bounds-write_phase-start
+    slice_bounds-write_phase-end-in-loop-k
+    write_phase-count-requires
+    overflow_mul-at
+    overflow_add-at
+    loop-k-smaller
+    loop-k-preserved
+    shape_of-list
     returns)
