@@ -1,6 +1,8 @@
 // The walk that finds the heaviest chain (document 02, #105): from the root on, while some weight is left, from an opening step to its
 // child or to its continuation, and from an end to what follows the nearest finish child that it is in. A task whose end is passed is
 // left for good, so all climbs together look at no task twice.
+#![tactic(auto)]
+
 ghost use Rattle.std.specs.Prelude.{◌≡◌, ◌+◌, ◌*◌, ◌/◌, ◌%◌, ◌≤◌, ◌<◌, length};
 ghost use Rattle.rules.specs.Tree.{kinds, weights, kind_at};
 ghost use Rattle.buffers.specs.Terms.{event_put};

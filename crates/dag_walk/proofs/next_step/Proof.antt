@@ -16,7 +16,7 @@ use Rattle.dag_walk.proofs.next_step.Tie as tie
 
 -- ---- places
 
-abbrev entry : tie.After-kind → tie.Start
+abbrev entry : tie.After-kind-own → tie.Start
 entry c = c.before.before.before.before.before
 
 tables : (c : tie.Start) → Tables c.args.tree.now c.args.ends.now c.args.openers.now
@@ -26,128 +26,125 @@ lasted : (c : tie.Start) → Lasted c.args.tree.now c.args.lasting.now
 lasted c = c.requires.1.0
 
 -- The kind that was read.
-kind-is : (c : tie.After-kind) → kind_at (kinds (entry c).args.tree.now) (entry c).args.step.0 ≡ c.kind.result
-kind-is c = sym c.kind.ensures
+kind-is : (c : tie.After-kind-own) → kind_at (kinds (entry c).args.tree.now) (entry c).args.step.0 ≡ c.kind-own.result
+kind-is c = sym c.kind-own.ensures
 
 -- It is no end, and no finish.
-opens : (c : tie.Else1) → kind_at (kinds (entry c.before).args.tree.now) (entry c.before).args.step.0 ≡ 3 → ⊥
-opens c e = c.if1.false (sym (kind-is c.before) ∙ e)
+opens : (c : tie.Else-own-eq-END) → kind_at (kinds (entry c.before).args.tree.now) (entry c.before).args.step.0 ≡ 3 → ⊥
+opens c e = c.if-own-eq-END.false (sym (kind-is c.before) ∙ e)
 
-abbrev opened : tie.Else2 → tie.Else1
+abbrev opened : tie.Else-own-eq-FINISH → tie.Else-own-eq-END
 opened c = c.before.before
 
-async : (c : tie.Else2)
+async : (c : tie.Else-own-eq-FINISH)
     → kind_at (kinds (entry (opened c).before).args.tree.now) (entry (opened c).before).args.step.0 ≡ 2 → ⊥
-async c e = c.if2.false (sym (kind-is (opened c).before) ∙ e)
+async c e = c.if-own-eq-FINISH.false (sym (kind-is (opened c).before) ∙ e)
 
 -- The child is a step; so is the continuation, which was looked up.
-child : (c : tie.Else1) → (entry c.before).args.step.0 + 1 < length (kinds (entry c.before).args.tree.now)
-child c = let at = entry c.before in child_room _ _ _ (tables at) _ at.pre.1.1.0 (opens c)
+child : (c : tie.Else-own-eq-END) → (entry c.before).args.step.0 + 1 < length (kinds (entry c.before).args.tree.now)
+child c = let at = entry c.before in child_room _ _ _ (tables at) _ at.requires.1.1.0 (opens c)
 
-abbrev looked : tie.After-wide → tie.Else2
+abbrev looked : tie.After-wide-after → tie.Else-own-eq-FINISH
 looked c = c.before.before
 
-found : (c : tie.After-wide)
-    → c.wide.result ≡ cont (kinds (entry (opened (looked c)).before).args.tree.now) (entry (opened (looked c)).before).args.step.0
+found : (c : tie.After-wide-after)
+    → c.wide-after.result ≡ cont (kinds (entry (opened (looked c)).before).args.tree.now) (entry (opened (looked c)).before).args.step.0
 found c =
     let one = opened (looked c) in
     let at = entry one.before in
-    c.wide.ensures ∙ cont-is _ _ _ (tables at) _ at.pre.1.1.0 (opens one)
+    c.wide-after.ensures ∙ cont-is _ _ _ (tables at) _ at.requires.1.1.0 (opens one)
 
-within : (c : tie.After-wide) → c.wide.result < length (kinds (entry (opened (looked c)).before).args.tree.now)
+within : (c : tie.After-wide-after) → c.wide-after.result < length (kinds (entry (opened (looked c)).before).args.tree.now)
 within c =
     let one = opened (looked c) in
     let at = entry one.before in
-    omega (arith, found c, cont_room _ _ _ (tables at) _ at.pre.1.1.0 (opens one))
+    omega (arith, found c, cont_room _ _ _ (tables at) _ at.requires.1.1.0 (opens one))
 
 -- ---- the needs
 
-kind-requires : tie.Need-kind-requires
-kind-requires c κs = search rules
+kind-own-requires : tie.Need-kind-own-requires
+kind-own-requires c κs = search rules
 
-after-finish-requires : tie.Need-after-finish-requires
-after-finish-requires c κs =
+after_finish-requires : tie.Need-after_finish-requires
+after_finish-requires c κs =
     let at = entry c.before in
-    let end = kind-is c.before ∙ c.if1.true in
-    (tables at, (at.pre.1.1.0, (end, at.pre.1.1.1 end)))
+    let end = kind-is c.before ∙ c.if-own-eq-END.true in
+    (tables at, (at.requires.1.1.0, (end, at.requires.1.1.1 end)))
 
-returns : tie.Need-returns
-returns c = next_end _ _ _ (kind-is c.before.before ∙ c.before.if1.true) _ c.after_finish.ensures
+returns-then-own-eq-END : tie.Need-returns-then-own-eq-END
+returns-then-own-eq-END c = next_end _ _ _ (kind-is c.before.before ∙ c.if-own-eq-END.true) _ c.after_finish.ensures
 
-add-child : tie.Need-overflow-add-child
-add-child c = search rules
+overflow_add-child : tie.Need-overflow_add-child
+overflow_add-child c = search rules
 
-returns-2 : tie.Need-returns-2
-returns-2 c =
-    let one = c.before.before in
-    next_finish _ _ _ (opens one) (kind-is one.before ∙ c.if2.true)
+returns-then-own-eq-FINISH : tie.Need-returns-then-own-eq-FINISH
+returns-then-own-eq-FINISH c =
+    next_finish _ _ _ (opens c.before.before) (kind-is c.before.before.before ∙ c.if-own-eq-FINISH.true)
 
-mul_wide : tie.Need-overflow-mul-wide
-mul_wide c = search rules
+offset_bounds-ends-child : tie.Need-offset_bounds-ends-child
+offset_bounds-ends-child c = search rules
 
-shared-slice-read-wide : tie.Need-shared-slice-read-wide
-shared-slice-read-wide c =
+bounds-ends-child : tie.Need-bounds-ends-child
+bounds-ends-child c =
     let one = opened c.before in
     omega (arith, child one, (tables (entry one.before)).room_ends)
 
-wide-requires : tie.Need-wide-requires
-wide-requires c κs = search rules
+wide-after-requires : tie.Need-wide-after-requires
+wide-after-requires c κs = search rules
 
-mul-if3 : tie.Need-overflow-mul-if3
-mul-if3 c = omega (arith, within c, (frame _ _ _ (tables (entry (opened (looked c)).before))).most)
+offset_bounds-lasting-after : tie.Need-offset_bounds-lasting-after
+offset_bounds-lasting-after c = omega (arith, within c, (frame _ _ _ (tables (entry (opened (looked c)).before))).most)
 
-shared-slice-read-if3 : tie.Need-shared-slice-read-if3
-shared-slice-read-if3 c = omega (arith, within c.before, (lasted (entry (opened (looked c.before)).before)).room)
+bounds-lasting-after : tie.Need-bounds-lasting-after
+bounds-lasting-after c = omega (arith, within c.before, (lasted (entry (opened (looked c.before)).before)).room)
 
-mul-if3-2 : tie.Need-overflow-mul-if3-2
-mul-if3-2 c = search rules
+offset_bounds-lasting-child : tie.Need-offset_bounds-lasting-child
+offset_bounds-lasting-child c = search rules
 
-shared-slice-read-if3-2 : tie.Need-shared-slice-read-if3-2
-shared-slice-read-if3-2 c =
+bounds-lasting-child : tie.Need-bounds-lasting-child
+bounds-lasting-child c =
     let one = opened (looked c.before.before) in
     omega (arith, child one, (lasted (entry one.before)).room)
 
 -- What the two parts last.
-both : (c : tie.After-wide)
+both : (c : tie.After-wide-after)
     → (get_or (entry (opened (looked c)).before).args.lasting.now ((entry (opened (looked c)).before).args.step.0 + 1) 0
     ≡ lasts (kinds (entry (opened (looked c)).before).args.tree.now) (weights (entry (opened (looked c)).before).args.tree.now)
     (suc (entry (opened (looked c)).before).args.step.0))
-    × (get_or (entry (opened (looked c)).before).args.lasting.now c.wide.result 0
+    × (get_or (entry (opened (looked c)).before).args.lasting.now c.wide-after.result 0
     ≡ lasts (kinds (entry (opened (looked c)).before).args.tree.now) (weights (entry (opened (looked c)).before).args.tree.now)
     (cont (kinds (entry (opened (looked c)).before).args.tree.now) (entry (opened (looked c)).before).args.step.0))
 both c =
     let one = opened (looked c) in
     let at = entry one.before in
-    let step = at.pre.1.1.0 in (
+    let step = at.requires.1.1.0 in (
       child-lasts _ _ _ (tables at) _ step (opens one) _ (lasted at),
       cont-lasts _ _ _ (tables at) _ step (opens one) _ (lasted at) _ (found c),
     )
 
-returns-3 : tie.Need-returns-3
-returns-3 c =
-    let at = c.before.before.before in
-    next-child _ _ _ (opens (opened (looked at))) (async (looked at)) (omega (arith, both at))
+returns-then-lasting-after : tie.Need-returns-then-lasting-after
+returns-then-lasting-after c =
+    next-child _ _ _ (opens (opened (looked c.before.before.before))) (async (looked c.before.before.before)) (omega (arith, both c.before.before.before))
 
-returns-4 : tie.Need-returns-4
-returns-4 c =
-    let at = c.before.before.before in
-    rw (found at) (next-cont _ _ _ (opens (opened (looked at))) (async (looked at)) (omega (arith, both at)))
+returns : tie.Need-returns
+returns c =
+    rw (found c.before.before.before) (next-cont _ _ _ (opens (opened (looked c.before.before.before))) (async (looked c.before.before.before)) (omega (arith, both c.before.before.before)))
 
-pub next-step-spec : {M : Type 1} → statement M
-next-step-spec =
+pub next_step_spec : {M : Type 1} → statement M
+next_step_spec =
     tie.close
     (tie.spec
-    kind-requires
-    after-finish-requires
-    returns
-    add-child
-    returns-2
-    mul_wide
-    shared-slice-read-wide
-    wide-requires
-    mul-if3
-    shared-slice-read-if3
-    mul-if3-2
-    shared-slice-read-if3-2
-    returns-3
-    returns-4)
+    kind-own-requires
+    after_finish-requires
+    returns-then-own-eq-END
+    overflow_add-child
+    returns-then-own-eq-FINISH
+    offset_bounds-ends-child
+    bounds-ends-child
+    wide-after-requires
+    offset_bounds-lasting-after
+    bounds-lasting-after
+    offset_bounds-lasting-child
+    bounds-lasting-child
+    returns-then-lasting-after
+    returns)
