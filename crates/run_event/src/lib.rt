@@ -3,6 +3,8 @@
 // own. Module `run` judges and makes a run, `waiting` finds what its step waits for, `steal` judges and makes a steal, `ordinal`
 // counts the ordinal of its step. Any fields and any bytes are safe: a held step beyond the tree is none, a tree with more records
 // than a tree may have is refused with 2, and a count above 16 is 16.
+#![tactic(auto)]
+
 pub mod ordinal;
 pub mod run;
 pub mod steal;

@@ -12,27 +12,23 @@ lent c =
     let a = c.args in
     fields_of a.place.now a.held.now a.phase.now a.low.now a.base.now a.steals a.setup
 
-run-on-requires : tie.Need-run-on-requires
-run-on-requires c κs = search rules
+run_on-outcome-requires : tie.Need-run_on-outcome-requires
+run_on-outcome-requires c κs = search rules
+
+returns-then-event : tie.Need-returns-then-event
+returns-then-event c =
+    let a = c.args in
+    let runs = event_run (lent c.before.before.before.before.before.before.before.before) a.tree.now a.event.first a.event.second c.if-event.true in
+    rw (← runs) (c.run_on-outcome.ensures a.base.now a.steals)
+
+steal_on-requires : tie.Need-steal_on-requires
+steal_on-requires c κs = search rules
 
 returns : tie.Need-returns
 returns c =
-    let equal = c.before.before.before.before.before in
-    let at = equal.before.before.before.before.before in
-    let a = at.args in
-    let runs = event_run (lent at) a.tree.now a.event.first a.event.second equal.if1.true in
-    rw (← runs) (c.run_on.ensures a.base.now a.steals)
+    let a = c.args in
+    let steals = event_steal (lent c.before.before.before.before.before.before.before.before.before.before.before) a.tree.now a.event.first a.event.second c.if-event.false in
+    rw (← steals) c.steal_on.ensures
 
-steal-on-requires : tie.Need-steal-on-requires
-steal-on-requires c κs = search rules
-
-returns-2 : tie.Need-returns-2
-returns-2 c =
-    let other = c.before.before.before.before.before.before in
-    let at = other.before.before.before.before.before in
-    let a = at.args in
-    let steals = event_steal (lent at) a.tree.now a.event.first a.event.second other.if1.false in
-    rw (← steals) c.steal-on.ensures
-
-pub event-on-spec : {M : Type 1} → statement M
-event-on-spec = tie.close (tie.spec run-on-requires returns steal-on-requires returns-2)
+pub event_on_spec : {M : Type 1} → statement M
+event_on_spec = tie.close (tie.spec run_on-outcome-requires returns-then-event steal_on-requires returns)

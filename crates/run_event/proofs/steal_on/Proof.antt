@@ -30,159 +30,153 @@ kept c place m =
     let a = c.args in
     move_of m.outcome (fields_of place a.held.now a.phase.now a.low.now a.base.now m.steals a.setup)
 
-judge-steal-requires : tie.Need-judge-steal-requires
-judge-steal-requires c κs = search rules
+judge_steal-refusal-requires : tie.Need-judge_steal-refusal-requires
+judge_steal-refusal-requires c κs = search rules
 
 refused-requires : tie.Need-refused-requires
 refused-requires c κs = search rules
 
-returns : tie.Need-returns
-returns c =
-    let judged = c.before.before in
-    let at = judged.before.before.before.before in
-    let a = at.args in
-    ap (kept at a.place.now) c.refused.ensures
-    ∙ steal-refused (lent at) a.tree.now a.thief a.victim _ judged.judge-steal.ensures c.before.if1.true
+returns-then-refusal-ne0 : tie.Need-returns-then-refusal-ne0
+returns-then-refusal-ne0 c =
+    let a = c.args in
+    ap (kept c.before.before.before.before.before a.place.now) c.refused.ensures
+    ∙ steal-refused (lent c.before.before.before.before.before) a.tree.now a.thief a.victim _ c.judge_steal-refusal.ensures c.if-refusal-ne0.true
 
 -- ---- a steal that is not refused before the deque is looked at
 
-abbrev start : tie.Else1 → tie.Start
-start c = c.before.before.before.before.before
+abbrev start : tie.Else-refusal-ne0 → tie.Start
+start c = c.before.before.before.before
 
 -- It is between two of the workers, in a tree that is not too long.
-allowed : (c : tie.Else1) → let a = (start c).args in
+allowed : (c : tie.Else-refusal-ne0) → let a = (start c).args in
     (a.thief < 16) × (a.victim < 16) × (length (kinds a.tree.now) ≤ 4095)
 allowed c =
     let a = (start c).args in
     let few =
     steal_allowed a.setup.workers (kinds a.tree.now) a.held.now a.thief a.victim
-    (sym c.if1.false ∙ c.before.judge-steal.ensures)
+    (sym c.if-refusal-ne0.false ∙ c.judge_steal-refusal.ensures)
     in
     (limit-below _ few.0, limit-below _ few.1, few.2)
 
-mul_wide : tie.Need-overflow-mul-wide
-mul_wide c = search rules
+offset_bounds-low-v : tie.Need-offset_bounds-low-v
+offset_bounds-low-v c = search rules
 
-element-copy-out-wide : tie.Need-element-copy-out-wide
-element-copy-out-wide c = (allowed c).1
+bounds-low-v : tie.Need-bounds-low-v
+bounds-low-v c = (allowed c.before).1
 
 wide-requires : tie.Need-wide-requires
 wide-requires c κs = search rules
 
-mul-wide-2 : tie.Need-overflow-mul-wide-2
-mul-wide-2 c = search rules
+offset_bounds-base-v : tie.Need-offset_bounds-base-v
+offset_bounds-base-v c = search rules
 
-element-copy-out-wide-2 : tie.Need-element-copy-out-wide-2
-element-copy-out-wide-2 c = (allowed c.before.before).1
+bounds-base-v : tie.Need-bounds-base-v
+bounds-base-v c = (allowed c.before.before.before.before).1
 
 wide-requires-2 : tie.Need-wide-requires-2
 wide-requires-2 c κs = search rules
 
 -- The victim's `low` and `base` have been read.
-abbrev judged : tie.After-wide2 → tie.Else1
-judged c = c.before.before.before.before
+abbrev judged : tie.After-wide-2 → tie.Else-refusal-ne0
+judged c = c.before.before.before.before.before.before
 
-take-step-requires : tie.Need-take-step-requires
-take-step-requires c κs =
+take_step-requires : tie.Need-take_step-requires
+take_step-requires c κs =
     let e = judged c.before in
-    ((allowed e).2, (start e).pre)
+    ((allowed e).2, (start e).requires)
 
 -- The deque has been looked at.
-abbrev reads : tie.After-take-step → tie.After-wide2
+abbrev reads : tie.After-take_step → tie.After-wide-2
 reads c = c.before.before
 
-abbrev looked : tie.After-take-step → tie.Else1
+abbrev looked : tie.After-take_step → tie.Else-refusal-ne0
 looked c = judged (reads c)
 
-enum-known-stolen : tie.Need-enum-known-stolen
-enum-known-stolen c = c.match.keys1
+enum_known-stolen : tie.Need-enum_known-stolen
+enum_known-stolen c = search rules
 
 -- What is taken fits the tables.
-small : (c : tie.After-stolen) → Small (Of c.stolen.given.0.0)
-small c = rw c.stolen.given.1 at c.before.before.take_step.ensures.1.1
+small : (c : tie.In-Of) → Small (Of c.in-Of.stolen)
+small c = rw c.in-Of.is at c.take_step.ensures.1.1
 
-cast-begun : tie.Need-overflow-cast-begun
-cast-begun c = search rules
+overflow_cast-begun : tie.Need-overflow_cast-begun
+overflow_cast-begun c = search rules
 
-rem-begun : tie.Need-nonzero-rem-begun
-rem-begun c = search rules
+nonzero_rem-begun : tie.Need-nonzero_rem-begun
+nonzero_rem-begun c = search rules
 
-add-begun : tie.Need-overflow-add-begun
-add-begun c = search rules
+overflow_add-begun : tie.Need-overflow_add-begun
+overflow_add-begun c = search rules
 
-wide-requires-3 : tie.Need-wide-requires-3
-wide-requires-3 c κs = search rules
+wide-requires-in-Of : tie.Need-wide-requires-in-Of
+wide-requires-in-Of c κs = search rules
 
 settle-requires : tie.Need-settle-requires
 settle-requires c κs =
-    let at = c.before.before.before.before.before.before in
-    let few = allowed (looked at.before.before) in
-    (few.0, few.1, small at, omega (arith, c.wide3.ensures))
+    let few = allowed (looked c.before.before.before.before.before.before) in
+    (few.0, few.1, small c.before.before.before.before.before, omega (arith, c.wide-in-Of.ensures))
 
-trace-number-requires : tie.Need-trace-number-requires
-trace-number-requires c κs = search rules
+trace_number-requires : tie.Need-trace_number-requires
+trace_number-requires c κs = search rules
 
-enum_told : tie.Need-enum-told
-enum_told c = c.match.keys2
+enum_told-1 : tie.Need-enum_told-1
+enum_told-1 c = search rules
 
-refused-requires-2 : tie.Need-refused-requires-2
-refused-requires-2 c κs = search rules
+refused-requires-in-Nothing : tie.Need-refused-requires-in-Nothing
+refused-requires-in-Nothing c κs = search rules
 
-returns-2 : tie.Need-returns-2
-returns-2 c =
-    let found = c.before.before.before.before.before.before.before.before in
-    let taken = found.before.before in
-    let e = looked taken in
+returns-in-Of : tie.Need-returns-in-Of
+returns-in-Of c =
+    let e = looked c.before.before.before.before.before.before.before.before.before.before in
     let at = start e in
     let a = at.args in
-    let from = (reads taken).before.before.wide in
-    let base = (reads taken).wide2 in
-    let took = taken.take_step in
-    let x = found.stolen.given.0.0 in
-    let number = c.trace-number in
-    let settled = c.before.settle.ensures in
-    let begun = rw c.before.before.wide3.ensures at settled.1.0 in
-    steal-takes (lent at) a.tree.now a.thief a.victim _ e.before.judge-steal.ensures e.if1.left
-    from.result from.ensures base.result base.ensures took.new.1.1.0 took.ensures.1.0
-    took.result took.ensures.0 x found.stolen.given.1 number.result number.ensures _ refl
+    let from = (reads c.before.before.before.before.before.before.before.before.before.before).wide in
+    let base = (reads c.before.before.before.before.before.before.before.before.before.before).wide-2 in
+    let took = c.take_step in
+    let x = c.in-Of.stolen in
+    let number = c.trace_number in
+    let settled = c.settle.ensures in
+    let begun = rw c.wide-in-Of.ensures at settled.1.0 in
+    steal-takes (lent at) a.tree.now a.thief a.victim _ e.judge_steal-refusal.ensures e.if-refusal-ne0.false
+    from.result from.ensures base.result base.ensures took.new.place took.ensures.1.0
+    took.result took.ensures.0 x c.in-Of.is number.result number.ensures _ refl
     _ _ _ _ settled.0 begun settled.1.1.0 settled.1.1.1
 
-returns-3 : tie.Need-returns-3
-returns-3 c =
-    let taken = c.before.before.before in
-    let e = looked taken in
+returns-in-Nothing : tie.Need-returns-in-Nothing
+returns-in-Nothing c =
+    let e = looked c.before.before in
     let at = start e in
     let a = at.args in
-    let from = (reads taken).before.before.wide in
-    let base = (reads taken).wide2 in
-    let took = taken.take_step in
-    ap (kept at took.new.1.1.0) c.refused2.ensures
-    ∙ steal-empty (lent at) a.tree.now a.thief a.victim _ e.before.judge-steal.ensures e.if1.left
-    from.result from.ensures base.result base.ensures took.new.1.1.0 took.ensures.1.0
-    took.result took.ensures.0 c.before.enum_told.given.1
+    let from = (reads c.before.before).wide in
+    let base = (reads c.before.before).wide-2 in
+    let took = c.take_step in
+    ap (kept at took.new.place) c.refused-in-Nothing.ensures
+    ∙ steal-empty (lent at) a.tree.now a.thief a.victim _ e.judge_steal-refusal.ensures e.if-refusal-ne0.false
+    from.result from.ensures base.result base.ensures took.new.place took.ensures.1.0
+    took.result took.ensures.0 c.in-Nothing.is
 
-pub steal-on-spec : {M : Type 1} → statement M
-steal-on-spec =
+pub steal_on_spec : {M : Type 1} → statement M
+steal_on_spec =
     tie.close
     (tie.spec
-    judge-steal-requires
+    judge_steal-refusal-requires
     refused-requires
-    returns
-    mul_wide
-    element-copy-out-wide
+    returns-then-refusal-ne0
+    offset_bounds-low-v
+    bounds-low-v
     wide-requires
-    mul-wide-2
-    element-copy-out-wide-2
+    offset_bounds-base-v
+    bounds-base-v
     wide-requires-2
-    take-step-requires
-    enum-known-stolen
-    cast-begun
-    rem-begun
-    add-begun
-    wide-requires-3
+    take_step-requires
+    enum_known-stolen
+    overflow_cast-begun
+    nonzero_rem-begun
+    overflow_add-begun
+    wide-requires-in-Of
     settle-requires
-    trace-number-requires
-    enum_told
-    refused-requires-2
-    returns-2
-    returns-3)
+    trace_number-requires
+    enum_told-1
+    refused-requires-in-Nothing
+    returns-in-Of
+    returns-in-Nothing)

@@ -9,103 +9,103 @@ use Rattle.run_spec.specs.Laws.Children.{Counted, counted_start, counted-end, co
 use Rattle.run_event.proofs.ordinal.children_between.Statement.{statement}
 use Rattle.run_event.proofs.ordinal.children_between.Tie as tie
 
-abbrev invariant-loop : tie.invariant-loop
-invariant-loop tree to from depth₀ children₀ j depth children = Counted (kinds tree) from to j depth children
+abbrev invariant-loop-j : tie.invariant-loop-j
+invariant-loop-j tree to from depth₀ children₀ j depth children = Counted (kinds tree) from to j depth children
 
-abbrev decreases-loop : tie.decreases-loop
-decreases-loop tree to from depth₀ children₀ j depth children = to - j
+abbrev decreases-loop-j : tie.decreases-loop-j
+decreases-loop-j tree to from depth₀ children₀ j depth children = to - j
 
-loop-holds : tie.Need-loop-init invariant-loop decreases-loop
-loop-holds c = counted_start (kinds c.args.tree.now) c.args.from.0 c.args.to.0
+loop-j-init : tie.Need-loop-j-init invariant-loop-j decreases-loop-j
+loop-j-init c = counted_start (kinds c.args.tree.now) c.args.from.0 c.args.to.0
 
-mul-k : tie.Need-overflow-mul-k invariant-loop decreases-loop
-mul-k c = omega (arith, length-kinds c.before.before.args.tree.now)
+overflow_mul-k : tie.Need-overflow_mul-k invariant-loop-j decreases-loop-j
+overflow_mul-k c = omega (arith, length-kinds c.args.tree.now)
 
-shared-slice-read-k : tie.Need-shared-slice-read-k invariant-loop decreases-loop
-shared-slice-read-k c = omega (arith, length-kinds c.before.before.before.args.tree.now)
+bounds-tree-j : tie.Need-bounds-tree-j invariant-loop-j decreases-loop-j
+bounds-tree-j c = omega (arith, length-kinds c.args.tree.now)
 
-add-j : tie.Need-overflow-add-j invariant-loop decreases-loop
-add-j c = omega arith
+overflow_add-j : tie.Need-overflow_add-j invariant-loop-j decreases-loop-j
+overflow_add-j c = omega arith
 
-loop-less : tie.Need-loop-smaller invariant-loop decreases-loop
-loop-less c = omega arith
+loop-j-smaller-then-depth-eq0 : tie.Need-loop-j-smaller-then-depth-eq0 invariant-loop-j decreases-loop-j
+loop-j-smaller-then-depth-eq0 c = omega arith
 
-loop-again : tie.Need-loop-preserved invariant-loop decreases-loop
-loop-again c =
-    let a = c.before.before.before.before.before.args in
-    let loop = c.before.before.before.before.loop in
+loop-j-preserved-then-depth-eq0 : tie.Need-loop-j-preserved-then-depth-eq0 invariant-loop-j decreases-loop-j
+loop-j-preserved-then-depth-eq0 c =
+    let a = c.args in
+    let loop = c.loop-j in
     let tree = a.tree.now in
     counted-end (kinds tree) a.from.0 a.to.0 loop.j loop.depth loop.children loop.invariant (omega arith) (omega arith)
-    (kind_at_lem tree loop.j (omega (arith, length-kinds tree)) ∙ c.before.if1.true) loop.depth (omega arith)
+    (kind_at_lem tree loop.j (omega (arith, length-kinds tree)) ∙ c.if-k-eq-END.true) loop.depth (omega arith)
 
-sub-depth : tie.Need-overflow-sub-depth invariant-loop decreases-loop
-sub-depth c = omega arith
+overflow_sub-depth : tie.Need-overflow_sub-depth invariant-loop-j decreases-loop-j
+overflow_sub-depth c = omega arith
 
-loop-less-2 : tie.Need-loop-smaller-2 invariant-loop decreases-loop
-loop-less-2 c = omega arith
+loop-j-smaller-then-k-eq-END : tie.Need-loop-j-smaller-then-k-eq-END invariant-loop-j decreases-loop-j
+loop-j-smaller-then-k-eq-END c = omega arith
 
-loop-again-2 : tie.Need-loop-preserved-2 invariant-loop decreases-loop
-loop-again-2 c =
-    let a = c.before.before.before.before.before.args in
-    let loop = c.before.before.before.before.loop in
+loop-j-preserved-then-k-eq-END : tie.Need-loop-j-preserved-then-k-eq-END invariant-loop-j decreases-loop-j
+loop-j-preserved-then-k-eq-END c =
+    let a = c.args in
+    let loop = c.loop-j in
     let tree = a.tree.now in
     counted-end (kinds tree) a.from.0 a.to.0 loop.j loop.depth loop.children loop.invariant (omega arith) (omega arith)
-    (kind_at_lem tree loop.j (omega (arith, length-kinds tree)) ∙ c.before.if1.true) (loop.depth - 1) (omega arith)
+    (kind_at_lem tree loop.j (omega (arith, length-kinds tree)) ∙ c.if-k-eq-END.true) (loop.depth - 1) (omega arith)
 
-add-children : tie.Need-overflow-add-children invariant-loop decreases-loop
-add-children c = omega (arith, c.before.before.before.before.loop.invariant.many)
+overflow_add-children : tie.Need-overflow_add-children invariant-loop-j decreases-loop-j
+overflow_add-children c = omega (arith, c.loop-j.invariant.many)
 
-loop-less-3 : tie.Need-loop-smaller-3 invariant-loop decreases-loop
-loop-less-3 c = omega arith
+loop-j-smaller-then-depth-eq0-2 : tie.Need-loop-j-smaller-then-depth-eq0-2 invariant-loop-j decreases-loop-j
+loop-j-smaller-then-depth-eq0-2 c = omega arith
 
-loop-again-3 : tie.Need-loop-preserved-3 invariant-loop decreases-loop
-loop-again-3 c =
-    let a = c.before.before.before.before.before.args in
-    let loop = c.before.before.before.before.loop in
+loop-j-preserved-then-depth-eq0-2 : tie.Need-loop-j-preserved-then-depth-eq0-2 invariant-loop-j decreases-loop-j
+loop-j-preserved-then-depth-eq0-2 c =
+    let a = c.args in
+    let loop = c.loop-j in
     let tree = a.tree.now in
     counted-child (kinds tree) a.from.0 a.to.0 loop.j loop.depth loop.children loop.invariant (omega arith) (omega arith)
-    (λ e. c.before.if1.false (sym (kind_at_lem tree loop.j (omega (arith, length-kinds tree))) ∙ e)) c.if3.true
+    (λ e. c.if-k-eq-END.false (sym (kind_at_lem tree loop.j (omega (arith, length-kinds tree))) ∙ e)) c.if-depth-eq0-2.true
 
-add-depth : tie.Need-overflow-add-depth invariant-loop decreases-loop
-add-depth c = omega (arith, c.before.before.before.before.loop.invariant.deep)
+overflow_add-depth : tie.Need-overflow_add-depth invariant-loop-j decreases-loop-j
+overflow_add-depth c = omega (arith, c.loop-j.invariant.deep)
 
-loop-less-4 : tie.Need-loop-smaller-4 invariant-loop decreases-loop
-loop-less-4 c = omega arith
+loop-j-smaller : tie.Need-loop-j-smaller invariant-loop-j decreases-loop-j
+loop-j-smaller c = omega arith
 
-loop-again-4 : tie.Need-loop-preserved-4 invariant-loop decreases-loop
-loop-again-4 c =
-    let a = c.before.before.before.before.before.args in
-    let loop = c.before.before.before.before.loop in
+loop-j-preserved : tie.Need-loop-j-preserved invariant-loop-j decreases-loop-j
+loop-j-preserved c =
+    let a = c.args in
+    let loop = c.loop-j in
     let tree = a.tree.now in
     counted-inner (kinds tree) a.from.0 a.to.0 loop.j loop.depth loop.children loop.invariant (omega arith) (omega arith)
-    (λ e. c.before.if1.false (sym (kind_at_lem tree loop.j (omega (arith, length-kinds tree))) ∙ e)) c.if3.false
+    (λ e. c.if-k-eq-END.false (sym (kind_at_lem tree loop.j (omega (arith, length-kinds tree))) ∙ e)) c.if-depth-eq0-2.false
 
-returns : tie.Need-returns invariant-loop decreases-loop
+returns : tie.Need-returns invariant-loop-j decreases-loop-j
 returns c =
-    let a = c.before.before.args in
-    let loop = c.before.loop in
+    let a = c.args in
+    let loop = c.loop-j in
     let ks = kinds a.tree.now in
     (counted-done ks a.from.0 a.to.0 loop.j loop.depth loop.children loop.invariant (omega arith), loop.invariant.few)
 
-pub children-between-spec : {M : Type 1} → statement M
-children-between-spec =
+pub children_between_spec : {M : Type 1} → statement M
+children_between_spec =
     tie.close
     (tie.spec
-    invariant-loop
-    decreases-loop
-    loop-holds
-    mul-k
-    shared-slice-read-k
-    add-j
-    loop-less
-    loop-again
-    sub-depth
-    loop-less-2
-    loop-again-2
-    add-children
-    loop-less-3
-    loop-again-3
-    add-depth
-    loop-less-4
-    loop-again-4
+    invariant-loop-j
+    decreases-loop-j
+    loop-j-init
+    overflow_mul-k
+    bounds-tree-j
+    overflow_add-j
+    loop-j-smaller-then-depth-eq0
+    loop-j-preserved-then-depth-eq0
+    overflow_sub-depth
+    loop-j-smaller-then-k-eq-END
+    loop-j-preserved-then-k-eq-END
+    overflow_add-children
+    loop-j-smaller-then-depth-eq0-2
+    loop-j-preserved-then-depth-eq0-2
+    overflow_add-depth
+    loop-j-smaller
+    loop-j-preserved
     returns)

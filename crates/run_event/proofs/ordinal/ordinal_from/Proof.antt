@@ -8,30 +8,30 @@ use borrow.Author.Rules.{rules}
 use Rattle.run_event.proofs.ordinal.ordinal_from.Statement.{statement}
 use Rattle.run_event.proofs.ordinal.ordinal_from.Tie as tie
 
-children-between-requires : tie.Need-children-between-requires
-children-between-requires c κs =
+children_between-requires : tie.Need-children_between-requires
+children_between-requires c κs =
     omega arith
 
-add-t9 : tie.Need-overflow-add-t9
-add-t9 c = search rules
+overflow_add-result : tie.Need-overflow_add-result
+overflow_add-result c = search rules
 
-add-t10 : tie.Need-overflow-add-t10
-add-t10 c = search rules
+overflow_add-result-then-policy-eq-WORK_FIRST : tie.Need-overflow_add-result-then-policy-eq-WORK_FIRST
+overflow_add-result-then-policy-eq-WORK_FIRST c = search rules
 
-returns : tie.Need-returns
-returns c =
-    let a = c.before.before.before.before.args in
-    let children = c.children-between in (
-      ordinal-counted a.policy (kinds a.tree.now) a.base.0 a.from.0 a.pusher.0 c.before.before.if1.true
+returns-then-policy-eq-WORK_FIRST : tie.Need-returns-then-policy-eq-WORK_FIRST
+returns-then-policy-eq-WORK_FIRST c =
+    let a = c.args in
+    let children = c.children_between in (
+      ordinal-counted a.policy (kinds a.tree.now) a.base.0 a.from.0 a.pusher.0 c.if-policy-eq-WORK_FIRST.true
           children.result children.ensures.0,
       omega (arith, children.ensures.1),
     )
 
-returns-2 : tie.Need-returns-2
-returns-2 c =
-    let a = c.before.before.args in
-    (ordinal_uncounted a.policy (kinds a.tree.now) a.base.0 a.from.0 a.pusher.0 c.if1.false, omega arith)
+returns : tie.Need-returns
+returns c =
+    let a = c.args in
+    (ordinal_uncounted a.policy (kinds a.tree.now) a.base.0 a.from.0 a.pusher.0 c.if-policy-eq-WORK_FIRST.false, omega arith)
 
-pub ordinal-from-spec : {M : Type 1} → statement M
-ordinal-from-spec =
-    tie.close (tie.spec children-between-requires add-t9 add-t10 returns returns-2)
+pub ordinal_from_spec : {M : Type 1} → statement M
+ordinal_from_spec =
+    tie.close (tie.spec children_between-requires overflow_add-result overflow_add-result-then-policy-eq-WORK_FIRST returns-then-policy-eq-WORK_FIRST returns)

@@ -21,30 +21,30 @@ start c = c.before.before.before.before
 
 -- ---- the step ends a task
 
-abbrev popping : tie.After-pop → tie.Else1
+abbrev popping : tie.After-pop → tie.Else-kind-ne-END
 popping c = c.before.before
 
-ends : (c : tie.Else1) → let a = (start c.before).args in kind_at (kinds a.tree.now) a.step.0 ≡ 3
-ends c = sym c.before.kind.ensures ∙ c.if1.false
+ends : (c : tie.Else-kind-ne-END) → let a = (start c.before).args in kind_at (kinds a.tree.now) a.step.0 ≡ 3
+ends c = sym c.kind.ensures ∙ c.if-kind-ne-END.false
 
 -- The pusher that is found stands before it.
-abbrev asked : tie.After-q → tie.Start
-asked c = start (popping c.before.before).before
+abbrev asked : tie.In-At → tie.Start
+asked c = start (popping c.before).before
 
 abbrev newest : tie.Start → Option ℕ
 newest c =
     let a = c.args in
     newest_mark a.place.now a.worker a.low.0 a.step.0
 
-found : (c : tie.After-q) → newest (asked c) ≡ some c.q.given.0.0.0
+found : (c : tie.In-At) → newest (asked c) ≡ some c.in-At.q.0
 found c =
-    let pop = c.before.before.pop in
-    found_at (newest (asked c)) pop.result pop.ensures.0 c.q.given.0.0 c.q.given.1
+    let pop = c.pop in
+    found_at (newest (asked c)) pop.result pop.ensures.0 c.in-At.q c.in-At.is
 
-before : (c : tie.After-q) → c.q.given.0.0.0 < length (kinds (asked c).args.tree.now)
+before : (c : tie.In-At) → c.in-At.q.0 < length (kinds (asked c).args.tree.now)
 before c =
     let a = (asked c).args in
-    let is = highest-is (marked a.place.now a.worker) a.low.0 a.step.0 c.q.given.0.0.0 (found c) in
+    let is = highest-is (marked a.place.now a.worker) a.low.0 a.step.0 c.in-At.q.0 (found c) in
     omega (arith, (asked c).requires.0, is.before)
 
 -- ---- the needs
@@ -52,87 +52,82 @@ before c =
 kind-requires : tie.Need-kind-requires
 kind-requires c κs = search rules
 
-held-after-requires : tie.Need-held-after-requires
-held-after-requires c κs = search rules
+held_after-held-requires : tie.Need-held_after-held-requires
+held_after-held-requires c κs = search rules
 
 push-requires : tie.Need-push-requires
 push-requires c κs = search rules
 
-cast-result : tie.Need-overflow-cast-result
-cast-result c =
-    let held = c.before.before.before in
-    let at = start held.before.before in
+overflow_cast-result : tie.Need-overflow_cast-result
+overflow_cast-result c =
+    let at = start c.before.before.before.before.before in
     let a = at.args in
-    omega (arith, held.held_after.ensures, at.pre.1, holds_most a.policy (kinds a.tree.now) a.step.0 at.pre.0)
+    omega (arith, c.held_after-held.ensures, at.requires.1, holds_most a.policy (kinds a.tree.now) a.step.0 at.requires.0)
 
-returns : tie.Need-returns
-returns c =
-    let held = c.before.before.before in
-    let opening = held.before in
-    let a = (start opening.before).args in
+returns-then-kind-ne-END : tie.Need-returns-then-kind-ne-END
+returns-then-kind-ne-END c =
+    let a = (start c.before.before.before.before.before).args in
     let ks = kinds a.tree.now in
-    let opens : kind_at ks a.step.0 ≡ 3 → ⊥ = λ e. opening.if1.true (opening.before.kind.ensures ∙ e) in (
+    let opens : kind_at ks a.step.0 ≡ 3 → ⊥ = λ e. c.if-kind-ne-END.true (c.kind.ensures ∙ e) in (
       next-opens a.policy ks a.place.now a.worker a.low.0 a.step.0 opens
-          held.held_after.result.0 held.held_after.ensures,
-      c.before.push.ensures ∙ place-opens a.policy ks a.place.now a.worker a.low.0 a.step.0 opens,
+          c.held_after-held.result.0 c.held_after-held.ensures,
+      c.push.ensures ∙ place-opens a.policy ks a.place.now a.worker a.low.0 a.step.0 opens,
     )
 
 pop-requires : tie.Need-pop-requires
 pop-requires c κs = search rules
 
-enum-known-q : tie.Need-enum-known-q
-enum-known-q c = search rules
+enum_known-q : tie.Need-enum_known-q
+enum_known-q c = search rules
 
-pushed-by-requires : tie.Need-pushed-by-requires
-pushed-by-requires c κs = (before c.before, (asked c.before).requires.2)
+pushed_by-held-requires : tie.Need-pushed_by-held-requires
+pushed_by-held-requires c κs = (before c, (asked c).requires.2)
 
-cast-result-2 : tie.Need-overflow-cast-result-2
-cast-result-2 c =
-    let q = c.before.before.before in
-    let at = asked q in
+overflow_cast-result-in-At : tie.Need-overflow_cast-result-in-At
+overflow_cast-result-in-At c =
+    let at = asked c.before.before in
     let ks = kinds at.args.tree.now in
-    omega (arith, c.before.pushed-by.ensures, at.pre.1, pushes_most at.args.policy ks q.q.given.0.0.0 (before q))
+    omega (arith, c.pushed_by-held.ensures, at.requires.1, pushes_most at.args.policy ks c.in-At.q.0 (before c.before.before))
 
-enum_told : tie.Need-enum-told
-enum_told c = search rules
+enum_told-1 : tie.Need-enum_told-1
+enum_told-1 c = search rules
 
-returns-2 : tie.Need-returns-2
-returns-2 c =
-    let q = c.before.before.before in
-    let a = (asked q).args in
+returns-in-At : tie.Need-returns-in-At
+returns-in-At c =
+    let a = (asked c.before.before).args in
     let ks = kinds a.tree.now in
-    let popped = q.before.before.pop in
-    let pushed = c.before.pushed-by in
-    let end = ends (popping q.before.before) in (
-      next-pops a.policy ks a.place.now a.worker a.low.0 a.step.0 end q.q.given.0.0.0 (found q)
+    let popped = c.pop in
+    let pushed = c.pushed_by-held in
+    let end = ends (popping c.before.before.before) in (
+      next-pops a.policy ks a.place.now a.worker a.low.0 a.step.0 end c.in-At.q.0 (found c.before.before)
           pushed.result.0 pushed.ensures,
-      place-ends a.policy ks a.place.now a.worker a.low.0 a.step.0 end popped.new.1.0 popped.ensures.1,
+      place-ends a.policy ks a.place.now a.worker a.low.0 a.step.0 end popped.new.place popped.ensures.1,
     )
 
-returns-3 : tie.Need-returns-3
-returns-3 c =
-    let e = popping c.before.before in
+returns-in-Nothing : tie.Need-returns-in-Nothing
+returns-in-Nothing c =
+    let e = popping c.before in
     let a = (start e.before).args in
     let ks = kinds a.tree.now in
-    let popped = c.before.before.pop in
-    let None-found = found_nothing (newest (start e.before)) popped.result popped.ensures.0 c.enum_told.given.1 in (
-      next-ends a.policy ks a.place.now a.worker a.low.0 a.step.0 (ends e) None-found,
-      place-ends a.policy ks a.place.now a.worker a.low.0 a.step.0 (ends e) popped.new.1.0 popped.ensures.1,
+    let popped = c.pop in
+    let none = found_nothing (newest (start e.before)) popped.result popped.ensures.0 c.in-Nothing.is in (
+      next-ends a.policy ks a.place.now a.worker a.low.0 a.step.0 (ends e) none,
+      place-ends a.policy ks a.place.now a.worker a.low.0 a.step.0 (ends e) popped.new.place popped.ensures.1,
     )
 
-pub advance-spec : {M : Type 1} → statement M
-advance-spec =
+pub advance_spec : {M : Type 1} → statement M
+advance_spec =
     tie.close
     (tie.spec
     kind-requires
-    held-after-requires
+    held_after-held-requires
     push-requires
-    cast-result
-    returns
+    overflow_cast-result
+    returns-then-kind-ne-END
     pop-requires
-    enum-known-q
-    pushed-by-requires
-    cast-result-2
-    enum_told
-    returns-2
-    returns-3)
+    enum_known-q
+    pushed_by-held-requires
+    overflow_cast-result-in-At
+    enum_told-1
+    returns-in-At
+    returns-in-Nothing)

@@ -20,160 +20,154 @@ use Rattle.run_event.proofs.run.judge_run.Tie as tie
 
 -- ---- a worker that the run has
 
-abbrev named : tie.Else1 → tie.Start
+abbrev named : tie.Else-no_worker → tie.Start
 named c = c.before.before.before.before
 
-few : (c : tie.Else1) → let a = (named c).args in a.worker < worker_limit a.workers
-few c = leb-false (worker_limit _) _ (sym c.before.no-worker.ensures ∙ c.if1.false)
+few : (c : tie.Else-no_worker) → let a = (named c).args in a.worker < worker_limit a.workers
+few c = leb-false (worker_limit _) _ (sym c.no_worker.ensures ∙ c.if-no_worker.false)
 
-most-few : (c : tie.Else1) → (named c).args.worker < 16
+most-few : (c : tie.Else-no_worker) → (named c).args.worker < 16
 most-few c = limit-below _ (few c)
 
 -- ---- a step that the worker holds
 
-abbrev start : tie.Else2 → tie.Start
+abbrev start : tie.Else-n-gt-MOST_STEPS → tie.Start
 start c = named c.before.before
 
 -- The tree is not too long, and has the step.
-most : (c : tie.Else2) → length (kinds (start c).args.tree.now) ≤ 4095
-most c = subst (λ (n : ℕ). n ≤ 4095) c.before.steps.ensures c.if2.false
+most : (c : tie.Else-n-gt-MOST_STEPS) → length (kinds (start c).args.tree.now) ≤ 4095
+most c = subst (λ (n : ℕ). n ≤ 4095) c.steps-n.ensures c.if-n-gt-MOST_STEPS.false
 
-abbrev short : tie.Else3 → tie.Else2
-short c = c.before.before.before
+abbrev short : tie.Else-n-i → tie.Else-n-gt-MOST_STEPS
+short c = c.before.before.before.before
 
-within : (c : tie.Else3) → c.before.wide.result < length (kinds (start (short c)).args.tree.now)
-within c = subst (λ (n : ℕ). c.before.wide.result < n) (short c).before.steps.ensures c.if3.false
+within : (c : tie.Else-n-i) → c.wide-i.result < length (kinds (start (short c)).args.tree.now)
+within c = subst (λ (n : ℕ). c.wide-i.result < n) (short c).steps-n.ensures c.if-n-i.false
 
 -- It does not wait.
-runs : (c : tie.Else3)
+runs : (c : tie.Else-n-i)
     → let a = (start (short c)).args in
-    waits_for (kinds a.tree.now) a.place.now c.before.wide.result ≡ false
+    waits_for (kinds a.tree.now) a.place.now c.wide-i.result ≡ false
     → 0 ≡ run_number a.workers (kinds a.tree.now) a.place.now a.held.now a.worker
 runs c free =
     let a = (start (short c)).args in
-    let i = c.before.wide in
+    let i = c.wide-i in
     judged-runs a.workers (kinds a.tree.now) a.place.now a.held.now a.worker (few (short c).before.before)
     (most (short c)) i.result i.ensures (within c) free
 
 -- ---- the needs
 
-no-worker-requires : tie.Need-no-worker-requires
-no-worker-requires c κs = search rules
+no_worker-requires : tie.Need-no_worker-requires
+no_worker-requires c κs = search rules
 
-returns : tie.Need-returns
-returns c =
-    let a = c.before.before.before.before.args in
+returns-then-no_worker : tie.Need-returns-then-no_worker
+returns-then-no_worker c =
+    let a = c.args in
     judged-worker a.workers (kinds a.tree.now) a.place.now a.held.now a.worker
-    (leb-true (worker_limit a.workers) a.worker (sym c.before.no-worker.ensures ∙ c.if1.true))
+    (leb-true (worker_limit a.workers) a.worker (sym c.no_worker.ensures ∙ c.if-no_worker.true))
 
-steps-requires : tie.Need-steps-requires
-steps-requires c κs = search rules
+steps-n-requires : tie.Need-steps-n-requires
+steps-n-requires c κs = search rules
 
-returns-2 : tie.Need-returns-2
-returns-2 c =
-    let e = c.before.before in
-    let a = (named e).args in
-    judged-long a.workers (kinds a.tree.now) a.place.now a.held.now a.worker (few e)
-    (subst (λ (n : ℕ). 4095 < n) c.before.steps.ensures c.if2.true)
+returns-then-n-gt-MOST_STEPS : tie.Need-returns-then-n-gt-MOST_STEPS
+returns-then-n-gt-MOST_STEPS c =
+    let a = (named c.before.before).args in
+    judged-long a.workers (kinds a.tree.now) a.place.now a.held.now a.worker (few c.before.before)
+    (subst (λ (n : ℕ). 4095 < n) c.steps-n.ensures c.if-n-gt-MOST_STEPS.true)
 
-mul_wide : tie.Need-overflow-mul-wide
-mul_wide c = search rules
+offset_bounds-held-w : tie.Need-offset_bounds-held-w
+offset_bounds-held-w c = search rules
 
-element-copy-out-wide : tie.Need-element-copy-out-wide
-element-copy-out-wide c = most-few c.before.before
+bounds-held-w : tie.Need-bounds-held-w
+bounds-held-w c = most-few c.before.before.before
+
+wide-i-requires : tie.Need-wide-i-requires
+wide-i-requires c κs = search rules
+
+returns-then-n-i : tie.Need-returns-then-n-i
+returns-then-n-i c =
+    let a = (start c.before.before.before.before).args in
+    let i = c.wide-i in
+    judged-idle a.workers (kinds a.tree.now) a.place.now a.held.now a.worker (few c.before.before.before.before.before.before) (most c.before.before.before.before)
+    i.result i.ensures (subst (λ (n : ℕ). n ≤ i.result) c.steps-n.ensures c.if-n-i.true)
+
+offset_bounds-low-w : tie.Need-offset_bounds-low-w
+offset_bounds-low-w c = search rules
+
+bounds-low-w : tie.Need-bounds-low-w
+bounds-low-w c = most-few (short c.before).before.before
 
 wide-requires : tie.Need-wide-requires
 wide-requires c κs = search rules
 
-returns-3 : tie.Need-returns-3
-returns-3 c =
-    let e = c.before.before.before in
-    let a = (start e).args in
-    let i = c.before.wide in
-    judged-idle a.workers (kinds a.tree.now) a.place.now a.held.now a.worker (few e.before.before) (most e)
-    i.result i.ensures (subst (λ (n : ℕ). n ≤ i.result) e.before.steps.ensures c.if3.true)
+may_wait-requires : tie.Need-may_wait-requires
+may_wait-requires c κs = search rules
 
-mul-wide-2 : tie.Need-overflow-mul-wide-2
-mul-wide-2 c = search rules
-
-element-copy-out-wide-2 : tie.Need-element-copy-out-wide-2
-element-copy-out-wide-2 c = most-few (short c).before.before
-
-wide-requires-2 : tie.Need-wide-requires-2
-wide-requires-2 c κs = search rules
-
-may-wait-requires : tie.Need-may-wait-requires
-may-wait-requires c κs = search rules
-
-returns-4 : tie.Need-returns-4
-returns-4 c =
-    let low = c.before.before in
-    let e = low.before.before in
-    let at = start (short e) in
+returns-then-not-may_wait : tie.Need-returns-then-not-may_wait
+returns-then-not-may_wait c =
+    let at = start (short c.before.before.before.before.before) in
     let a = at.args in
-    runs e
+    runs c.before.before.before.before.before
     (waits-at_low (kinds a.tree.now) a.openers.now a.place.now a.held.now a.low.now a.worker
-    (at.pre.1 (most-few (short e).before.before)) e.before.wide.result e.before.wide.ensures
-    low.wide2.result low.wide2.ensures (sym c.before.may-wait.ensures ∙ not-true _ c.if4.true))
+    (at.requires.1 (most-few (short c.before.before.before.before.before).before.before)) c.wide-i.result c.wide-i.ensures
+    c.wide.result c.wide.ensures (sym c.may_wait.ensures ∙ c.if-not-may_wait.true))
 
 awaits-requires : tie.Need-awaits-requires
 awaits-requires c κs = search rules
 
-enum-known-unrun : tie.Need-enum-known-unrun
-enum-known-unrun c = search rules
+enum_known-unrun : tie.Need-enum_known-unrun
+enum_known-unrun c = search rules
 
-enum_told : tie.Need-enum-told
-enum_told c = search rules
+enum_told-1 : tie.Need-enum_told-1
+enum_told-1 c = search rules
 
 -- The step that the worker holds, and what it waits for.
-abbrev held : tie.After-awaits → tie.Else3
-held c = c.before.before.before.before.before
+abbrev held : tie.After-awaits → tie.Else-n-i
+held c = c.before.before.before.before.before.before
 
 abbrev waited : tie.After-awaits → Option ℕ
 waited c =
     let a = (start (short (held c))).args in
-    awaits (kinds a.tree.now) a.place.now (held c).before.wide.result
+    awaits (kinds a.tree.now) a.place.now (held c).wide-i.result
 
-returns-5 : tie.Need-returns-5
-returns-5 c =
-    let asked = c.before.before.before in
-    let e = held asked in
+returns-in-At : tie.Need-returns-in-At
+returns-in-At c =
+    let e = held c.before in
     let a = (start (short e)).args in
-    let i = e.before.wide in
-    let unrun = c.before.unrun.given in
+    let i = e.wide-i in
+    let unrun = c.in-At.unrun in
     judged-waits a.workers (kinds a.tree.now) a.place.now a.held.now a.worker (few (short e).before.before)
     (most (short e)) i.result i.ensures (within e)
-    (waits_for-some (kinds a.tree.now) a.place.now i.result unrun.0.0.0
-    (found_at (waited asked) asked.awaits.result asked.awaits.ensures unrun.0.0 unrun.1))
+    (waits_for-some (kinds a.tree.now) a.place.now i.result unrun.0
+    (found_at (waited c.before) c.awaits.result c.awaits.ensures unrun c.in-At.is))
 
-returns-6 : tie.Need-returns-6
-returns-6 c =
-    let asked = c.before.before in
-    let e = held asked in
+returns-in-Nothing : tie.Need-returns-in-Nothing
+returns-in-Nothing c =
+    let e = held c.before in
     let a = (start (short e)).args in
     runs e
-    (waits_for-none (kinds a.tree.now) a.place.now e.before.wide.result
-    (found_nothing (waited asked) asked.awaits.result asked.awaits.ensures c.enum_told.given.1))
+    (waits_for-none (kinds a.tree.now) a.place.now e.wide-i.result
+    (found_nothing (waited c.before) c.awaits.result c.awaits.ensures c.in-Nothing.is))
 
-pub judge-run-spec : {M : Type 1} → statement M
-judge-run-spec =
+pub judge_run_spec : {M : Type 1} → statement M
+judge_run_spec =
     tie.close
     (tie.spec
-    no-worker-requires
-    returns
-    steps-requires
-    returns-2
-    mul_wide
-    element-copy-out-wide
+    no_worker-requires
+    returns-then-no_worker
+    steps-n-requires
+    returns-then-n-gt-MOST_STEPS
+    offset_bounds-held-w
+    bounds-held-w
+    wide-i-requires
+    returns-then-n-i
+    offset_bounds-low-w
+    bounds-low-w
     wide-requires
-    returns-3
-    mul-wide-2
-    element-copy-out-wide-2
-    wide-requires-2
-    may-wait-requires
-    returns-4
+    may_wait-requires
+    returns-then-not-may_wait
     awaits-requires
-    enum-known-unrun
-    enum_told
-    returns-5
-    returns-6)
+    enum_known-unrun
+    enum_told-1
+    returns-in-At
+    returns-in-Nothing)

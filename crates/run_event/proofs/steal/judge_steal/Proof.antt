@@ -14,91 +14,87 @@ use Rattle.run_event.proofs.steal.judge_steal.Tie as tie
 
 -- ---- two workers that the run has
 
-abbrev start : tie.Else2 → tie.Start
+abbrev start : tie.Else-no_worker-2 → tie.Start
 start c = c.before.before.before.before.before
 
-few : (c : tie.Else2) → let a = (start c).args in a.thief < worker_limit a.workers
+few : (c : tie.Else-no_worker-2) → let a = (start c).args in a.thief < worker_limit a.workers
 few c =
-    let e = c.before.before in
-    leb-false (worker_limit _) _ (sym e.before.no-worker.ensures ∙ e.if1.false)
+    leb-false (worker_limit _) _ (sym c.no_worker.ensures ∙ c.if-no_worker.false)
 
-fewer : (c : tie.Else2) → let a = (start c).args in a.victim < worker_limit a.workers
-fewer c = leb-false (worker_limit _) _ (sym c.before.no-worker2.ensures ∙ c.if2.false)
+fewer : (c : tie.Else-no_worker-2) → let a = (start c).args in a.victim < worker_limit a.workers
+fewer c = leb-false (worker_limit _) _ (sym c.no_worker-2.ensures ∙ c.if-no_worker-2.false)
 
 -- The tree is not too long.
-abbrev both : tie.Else3 → tie.Else2
+abbrev both : tie.Else-n-gt-MOST_STEPS → tie.Else-no_worker-2
 both c = c.before.before
 
-most : (c : tie.Else3) → length (kinds (start (both c)).args.tree.now) ≤ 4095
-most c = subst (λ (n : ℕ). n ≤ 4095) c.before.steps.ensures c.if3.false
+most : (c : tie.Else-n-gt-MOST_STEPS) → length (kinds (start (both c)).args.tree.now) ≤ 4095
+most c = subst (λ (n : ℕ). n ≤ 4095) c.steps-n.ensures c.if-n-gt-MOST_STEPS.false
 
 -- ---- the needs
 
-no-worker-requires : tie.Need-no-worker-requires
-no-worker-requires c κs = search rules
+no_worker-requires : tie.Need-no_worker-requires
+no_worker-requires c κs = search rules
 
-returns : tie.Need-returns
-returns c =
-    let a = c.before.before.before.args in
+returns-then-no_worker : tie.Need-returns-then-no_worker
+returns-then-no_worker c =
+    let a = c.args in
     judged-thief a.workers (kinds a.tree.now) a.held.now a.thief a.victim
-    (leb-true (worker_limit a.workers) a.thief (sym c.before.no-worker.ensures ∙ c.if1.true))
+    (leb-true (worker_limit a.workers) a.thief (sym c.no_worker.ensures ∙ c.if-no_worker.true))
 
-no-worker-requires-2 : tie.Need-no-worker-requires-2
-no-worker-requires-2 c κs = search rules
+no_worker-requires-2 : tie.Need-no_worker-requires-2
+no_worker-requires-2 c κs = search rules
 
-returns-2 : tie.Need-returns-2
-returns-2 c =
-    let a = c.before.before.before.before.before.args in
+returns-then-no_worker-2 : tie.Need-returns-then-no_worker-2
+returns-then-no_worker-2 c =
+    let a = c.args in
     judged-victim a.workers (kinds a.tree.now) a.held.now a.thief a.victim
-    (leb-true (worker_limit a.workers) a.victim (sym c.before.no-worker2.ensures ∙ c.if2.true))
+    (leb-true (worker_limit a.workers) a.victim (sym c.no_worker-2.ensures ∙ c.if-no_worker-2.true))
 
-steps-requires : tie.Need-steps-requires
-steps-requires c κs = search rules
+steps-n-requires : tie.Need-steps-n-requires
+steps-n-requires c κs = search rules
 
-returns-3 : tie.Need-returns-3
-returns-3 c =
-    let e = c.before.before in
-    let a = (start e).args in
-    judged-long a.workers (kinds a.tree.now) a.held.now a.thief a.victim (few e) (fewer e)
-    (subst (λ (n : ℕ). 4095 < n) c.before.steps.ensures c.if3.true)
+returns-then-n-gt-MOST_STEPS : tie.Need-returns-then-n-gt-MOST_STEPS
+returns-then-n-gt-MOST_STEPS c =
+    let a = (start c.before.before).args in
+    judged-long a.workers (kinds a.tree.now) a.held.now a.thief a.victim (few c.before.before) (fewer c.before.before)
+    (subst (λ (n : ℕ). 4095 < n) c.steps-n.ensures c.if-n-gt-MOST_STEPS.true)
 
-mul_wide : tie.Need-overflow-mul-wide
-mul_wide c = search rules
+offset_bounds-held-t : tie.Need-offset_bounds-held-t
+offset_bounds-held-t c = search rules
 
-element-copy-out-wide : tie.Need-element-copy-out-wide
-element-copy-out-wide c = limit-below _ (few (both c))
+bounds-held-t : tie.Need-bounds-held-t
+bounds-held-t c = limit-below _ (few (both c.before))
 
 wide-requires : tie.Need-wide-requires
 wide-requires c κs = search rules
 
-returns-4 : tie.Need-returns-4
-returns-4 c =
-    let e = c.before.before.before in
-    let a = (start (both e)).args in
-    let i = c.before.wide in
-    judged-busy a.workers (kinds a.tree.now) a.held.now a.thief a.victim (few (both e)) (fewer (both e))
-    (most e) i.result i.ensures (subst (λ (n : ℕ). i.result < n) e.before.steps.ensures c.if4.true)
+returns-then-wide-n : tie.Need-returns-then-wide-n
+returns-then-wide-n c =
+    let a = (start (both c.before.before.before.before)).args in
+    let i = c.wide in
+    judged-busy a.workers (kinds a.tree.now) a.held.now a.thief a.victim (few (both c.before.before.before.before)) (fewer (both c.before.before.before.before))
+    (most c.before.before.before.before) i.result i.ensures (subst (λ (n : ℕ). i.result < n) c.steps-n.ensures c.if-wide-n.true)
 
-returns-5 : tie.Need-returns-5
-returns-5 c =
-    let e = c.before.before.before in
-    let a = (start (both e)).args in
-    let i = c.before.wide in
-    judged-idle a.workers (kinds a.tree.now) a.held.now a.thief a.victim (few (both e)) (fewer (both e))
-    (most e) i.result i.ensures (subst (λ (n : ℕ). n ≤ i.result) e.before.steps.ensures c.if4.false)
+returns : tie.Need-returns
+returns c =
+    let a = (start (both c.before.before.before.before)).args in
+    let i = c.wide in
+    judged-idle a.workers (kinds a.tree.now) a.held.now a.thief a.victim (few (both c.before.before.before.before)) (fewer (both c.before.before.before.before))
+    (most c.before.before.before.before) i.result i.ensures (subst (λ (n : ℕ). n ≤ i.result) c.steps-n.ensures c.if-wide-n.false)
 
-pub judge-steal-spec : {M : Type 1} → statement M
-judge-steal-spec =
+pub judge_steal_spec : {M : Type 1} → statement M
+judge_steal_spec =
     tie.close
     (tie.spec
-    no-worker-requires
-    returns
-    no-worker-requires-2
-    returns-2
-    steps-requires
-    returns-3
-    mul_wide
-    element-copy-out-wide
+    no_worker-requires
+    returns-then-no_worker
+    no_worker-requires-2
+    returns-then-no_worker-2
+    steps-n-requires
+    returns-then-n-gt-MOST_STEPS
+    offset_bounds-held-t
+    bounds-held-t
     wide-requires
-    returns-4
-    returns-5)
+    returns-then-wide-n
+    returns)

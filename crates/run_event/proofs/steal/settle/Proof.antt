@@ -5,79 +5,79 @@ use borrow.Author.Rules.{rules}
 use Rattle.run_event.proofs.steal.settle.Statement.{statement}
 use Rattle.run_event.proofs.steal.settle.Tie as tie
 
-cast-step : tie.Need-overflow-cast-step
-cast-step c = search rules
+overflow_cast-step : tie.Need-overflow_cast-step
+overflow_cast-step c = search rules
 
-mul-held : tie.Need-overflow-mul-held
-mul-held c = search rules
+offset_bounds-held-t : tie.Need-offset_bounds-held-t
+offset_bounds-held-t c = search rules
 
-element-write-held : tie.Need-element-write-held
-element-write-held c = search rules
+bounds-held-t : tie.Need-bounds-held-t
+bounds-held-t c = search rules
 
-cast-phase : tie.Need-overflow-cast-phase
-cast-phase c = search rules
+overflow_cast-phase : tie.Need-overflow_cast-phase
+overflow_cast-phase c = search rules
 
-mul-phase : tie.Need-overflow-mul-phase
-mul-phase c = search rules
+offset_bounds-phase-t : tie.Need-offset_bounds-phase-t
+offset_bounds-phase-t c = search rules
 
-element-write-phase : tie.Need-element-write-phase
-element-write-phase c = search rules
+bounds-phase-t : tie.Need-bounds-phase-t
+bounds-phase-t c = search rules
 
-add_low : tie.Need-overflow-add-low
-add_low c = search rules
+overflow_add-low : tie.Need-overflow_add-low
+overflow_add-low c = search rules
 
-cast-low : tie.Need-overflow-cast-low
-cast-low c = search rules
+overflow_cast-low : tie.Need-overflow_cast-low
+overflow_cast-low c = search rules
 
-mul_low : tie.Need-overflow-mul-low
-mul_low c = search rules
+offset_bounds-low-v : tie.Need-offset_bounds-low-v
+offset_bounds-low-v c = search rules
 
-element-write-low : tie.Need-element-write-low
-element-write-low c = search rules
+bounds-low-v : tie.Need-bounds-low-v
+bounds-low-v c = search rules
 
-mul-low-2 : tie.Need-overflow-mul-low-2
-mul-low-2 c = search rules
+offset_bounds-low-t : tie.Need-offset_bounds-low-t
+offset_bounds-low-t c = search rules
 
-element-write-low-2 : tie.Need-element-write-low-2
-element-write-low-2 c = search rules
+bounds-low-t : tie.Need-bounds-low-t
+bounds-low-t c = search rules
 
-mul-base : tie.Need-overflow-mul-base
-mul-base c = search rules
+offset_bounds-base-v : tie.Need-offset_bounds-base-v
+offset_bounds-base-v c = search rules
 
-element-write-base : tie.Need-element-write-base
-element-write-base c = search rules
+bounds-base-v : tie.Need-bounds-base-v
+bounds-base-v c = search rules
 
-cast-base : tie.Need-overflow-cast-base
-cast-base c = search rules
+overflow_cast-base : tie.Need-overflow_cast-base
+overflow_cast-base c = search rules
 
-mul-base-2 : tie.Need-overflow-mul-base-2
-mul-base-2 c = search rules
+offset_bounds-base-t : tie.Need-offset_bounds-base-t
+offset_bounds-base-t c = search rules
 
-element-write-base-2 : tie.Need-element-write-base-2
-element-write-base-2 c = search rules
+bounds-base-t : tie.Need-bounds-base-t
+bounds-base-t c = search rules
 
 returns : tie.Need-returns
 returns c = (refl, (refl, (refl, refl)))
 
-pub settle-spec : {M : Type 1} → statement M
-settle-spec =
+pub settle_spec : {M : Type 1} → statement M
+settle_spec =
     tie.close
     (tie.spec
-    cast-step
-    mul-held
-    element-write-held
-    cast-phase
-    mul-phase
-    element-write-phase
-    add_low
-    cast-low
-    mul_low
-    element-write-low
-    mul-low-2
-    element-write-low-2
-    mul-base
-    element-write-base
-    cast-base
-    mul-base-2
-    element-write-base-2
+    overflow_cast-step
+    offset_bounds-held-t
+    bounds-held-t
+    overflow_cast-phase
+    offset_bounds-phase-t
+    bounds-phase-t
+    overflow_add-low
+    overflow_cast-low
+    offset_bounds-low-v
+    bounds-low-v
+    offset_bounds-low-t
+    bounds-low-t
+    offset_bounds-base-v
+    bounds-base-v
+    overflow_cast-base
+    offset_bounds-base-t
+    bounds-base-t
     returns)

@@ -15,14 +15,14 @@ use borrow.Author.Rules.{rules}
 use Rattle.run_event.proofs.steal.take_step.Statement.{statement}
 use Rattle.run_event.proofs.steal.take_step.Tie as tie
 
-steps-requires : tie.Need-steps-requires
-steps-requires c κs = search rules
+steps-n-requires : tie.Need-steps-n-requires
+steps-n-requires c κs = search rules
 
 take-requires : tie.Need-take-requires
 take-requires c κs = search rules
 
-enum-known-pusher : tie.Need-enum-known-pusher
-enum-known-pusher c = c.match.keys1
+enum_known-pusher : tie.Need-enum_known-pusher
+enum_known-pusher c = search rules
 
 -- ---- what is found
 
@@ -35,76 +35,73 @@ oldest c =
     oldest_mark a.place.now a.victim a.low.0 (length (kinds a.tree.now))
 
 gives : (c : tie.After-take) → c.take.result ≡ found_of (oldest c)
-gives c = rw (← c.before.before.steps.ensures) c.take.ensures.0
+gives c = rw (← c.steps-n.ensures) c.take.ensures.0
 
 leaves : (c : tie.After-take) → let a = (start c).args in
-    c.take.new.0 ≡ robbed a.place.now a.victim a.low.0 (length (kinds a.tree.now))
-leaves c = rw (← c.before.before.steps.ensures) c.take.ensures.1
+    c.take.new.place ≡ robbed a.place.now a.victim a.low.0 (length (kinds a.tree.now))
+leaves c = rw (← c.steps-n.ensures) c.take.ensures.1
 
 -- ---- a pusher is found, and stands in the tree
 
-abbrev took : tie.After-pusher → tie.After-take
-took c = c.before.before
+abbrev took : tie.In-At → tie.After-take
+took c = c.before
 
-found : (c : tie.After-pusher) → oldest (took c) ≡ some c.pusher.given.0.0.0
-found c = found_at (oldest (took c)) (took c).take.result (gives (took c)) c.pusher.given.0.0 c.pusher.given.1
+found : (c : tie.In-At) → oldest (took c) ≡ some c.in-At.pusher.0
+found c = found_at (oldest (took c)) (took c).take.result (gives (took c)) c.in-At.pusher c.in-At.is
 
-within : (c : tie.After-pusher) → c.pusher.given.0.0.0 < length (kinds (start (took c)).args.tree.now)
+within : (c : tie.In-At) → c.in-At.pusher.0 < length (kinds (start (took c)).args.tree.now)
 within c =
     let a = (start (took c)).args in
-    oldest_before a.place.now a.victim a.low.0 (length (kinds a.tree.now)) c.pusher.given.0.0.0 (found c)
+    oldest_before a.place.now a.victim a.low.0 (length (kinds a.tree.now)) c.in-At.pusher.0 (found c)
 
 -- ---- the needs
 
-pushed-by-requires : tie.Need-pushed-by-requires
-pushed-by-requires c κs = (within c.before, (start (took c.before)).requires.1)
+pushed_by-step-requires : tie.Need-pushed_by-step-requires
+pushed_by-step-requires c κs = (within c, (start (took c)).requires.1)
 
-ordinal-from-requires : tie.Need-ordinal-from-requires
-ordinal-from-requires c κs =
-    let at = c.before.before in
-    (omega (arith, within at), (start (took at)).requires.0)
+ordinal_from-ordinal-requires : tie.Need-ordinal_from-ordinal-requires
+ordinal_from-ordinal-requires c κs =
+    (omega (arith, within c.before), (start (took c.before)).requires.0)
 
-enum_told : tie.Need-enum-told
-enum_told c = c.match.keys2
+enum_told-1 : tie.Need-enum_told-1
+enum_told-1 c = search rules
 
-returns : tie.Need-returns
-returns c =
-    let at = c.before.before.before in
-    let s = start (took at) in
+returns-in-At : tie.Need-returns-in-At
+returns-in-At c =
+    let s = start (took c.before.before) in
     let a = s.args in
     let ks = kinds a.tree.now in
-    let q = at.pusher.given.0.0 in
-    let step = c.before.pushed-by in
-    let ordinal = c.ordinal-from in
-    let small = within at in (
-      takes_step a.policy ks a.base.0 a.low.0 (oldest (took at))
-          (record { pusher = q; step = step.result; ordinal = ordinal.result }) (found at) step.ensures ordinal.ensures.0,
+    let q = c.in-At.pusher in
+    let step = c.pushed_by-step in
+    let ordinal = c.ordinal_from-ordinal in
+    let small = within c.before.before in (
+      takes_step a.policy ks a.base.0 a.low.0 (oldest (took c.before.before))
+          (record { pusher = q; step = step.result; ordinal = ordinal.result }) (found c.before.before) step.ensures ordinal.ensures.0,
       (
-        leaves (took at),
+        leaves (took c.before.before),
         (
-          omega (arith, small, s.pre.0),
-          omega (arith, small, s.pre.0, step.ensures, pushes_most a.policy ks q.0 small),
+          omega (arith, small, s.requires.0),
+          omega (arith, small, s.requires.0, step.ensures, pushes_most a.policy ks q.0 small),
           ordinal.ensures.1,
         ),
       ),
     )
 
-returns-2 : tie.Need-returns-2
-returns-2 c =
-    let at = c.before.before in
-    let a = (start at).args in
-    let None-found = found_nothing (oldest at) at.take.result (gives at) c.enum_told.given.1 in
-    (takes_nothing a.policy (kinds a.tree.now) a.base.0 a.low.0 (oldest at) None-found, (leaves at, omega arith))
+returns-in-Nothing : tie.Need-returns-in-Nothing
+returns-in-Nothing c =
+    let a = (start c.before).args in
+    let none = found_nothing (oldest c.before) c.take.result (gives c.before) c.in-Nothing.is in
+    (takes_nothing a.policy (kinds a.tree.now) a.base.0 a.low.0 (oldest c.before) none, (leaves c.before, omega arith))
 
-pub take-step-spec : {M : Type 1} → statement M
-take-step-spec =
+pub take_step_spec : {M : Type 1} → statement M
+take_step_spec =
     tie.close
     (tie.spec
-    steps-requires
+    steps-n-requires
     take-requires
-    enum-known-pusher
-    pushed-by-requires
-    ordinal-from-requires
-    enum_told
-    returns
-    returns-2)
+    enum_known-pusher
+    pushed_by-step-requires
+    ordinal_from-ordinal-requires
+    enum_told-1
+    returns-in-At
+    returns-in-Nothing)

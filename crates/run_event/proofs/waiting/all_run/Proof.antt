@@ -6,51 +6,50 @@ use Rattle.run_spec.specs.Laws.Waiting.{Counted, counted_start, counted-unrun, c
 use Rattle.run_event.proofs.waiting.all_run.Statement.{statement}
 use Rattle.run_event.proofs.waiting.all_run.Tie as tie
 
-abbrev invariant-loop : tie.invariant-loop
-invariant-loop place end first unrun₀ j unrun = Counted place first end j unrun
+abbrev invariant-loop-j : tie.invariant-loop-j
+invariant-loop-j place end first unrun₀ j unrun = Counted place first end j unrun
 
-abbrev decreases-loop : tie.decreases-loop
-decreases-loop place end first unrun₀ j unrun = end - j
+abbrev decreases-loop-j : tie.decreases-loop-j
+decreases-loop-j place end first unrun₀ j unrun = end - j
 
-loop-holds : tie.Need-loop-init invariant-loop decreases-loop
-loop-holds c = counted_start c.args.place.now c.args.first.0 c.args.end.0
+loop-j-init : tie.Need-loop-j-init invariant-loop-j decreases-loop-j
+loop-j-init c = counted_start c.args.place.now c.args.first.0 c.args.end.0
 
-add-j : tie.Need-overflow-add-j invariant-loop decreases-loop
-add-j c = omega arith
+overflow_add-j : tie.Need-overflow_add-j invariant-loop-j decreases-loop-j
+overflow_add-j c = omega arith
 
-element-copy-out-if1 : tie.Need-element-copy-out-if1 invariant-loop decreases-loop
-element-copy-out-if1 c = omega arith
+bounds-place-k : tie.Need-bounds-place-k invariant-loop-j decreases-loop-j
+bounds-place-k c = omega arith
 
-add-unrun : tie.Need-overflow-add-unrun invariant-loop decreases-loop
-add-unrun c =
-    let at = c.before.before.before in
-    omega (arith, at.loop.invariant.few, at.before.requires.1)
+overflow_add-unrun : tie.Need-overflow_add-unrun invariant-loop-j decreases-loop-j
+overflow_add-unrun c =
+    omega (arith, c.loop-j.invariant.few, c.requires.1)
 
-loop-less : tie.Need-loop-smaller invariant-loop decreases-loop
-loop-less c = omega arith
+loop-j-smaller-then-place-k-eq-NOT_RUN : tie.Need-loop-j-smaller-then-place-k-eq-NOT_RUN invariant-loop-j decreases-loop-j
+loop-j-smaller-then-place-k-eq-NOT_RUN c = omega arith
 
-loop-again : tie.Need-loop-preserved invariant-loop decreases-loop
-loop-again c =
-    let a = c.before.before.before.before.args in
-    let loop = c.before.before.before.loop in
-    counted-unrun a.place.now a.first.0 a.end.0 loop.j loop.unrun (omega arith) loop.invariant c.if1.true
+loop-j-preserved-then-place-k-eq-NOT_RUN : tie.Need-loop-j-preserved-then-place-k-eq-NOT_RUN invariant-loop-j decreases-loop-j
+loop-j-preserved-then-place-k-eq-NOT_RUN c =
+    let a = c.args in
+    let loop = c.loop-j in
+    counted-unrun a.place.now a.first.0 a.end.0 loop.j loop.unrun (omega arith) loop.invariant c.if-place-k-eq-NOT_RUN.true
 
-loop-less-2 : tie.Need-loop-smaller-2 invariant-loop decreases-loop
-loop-less-2 c = omega arith
+loop-j-smaller : tie.Need-loop-j-smaller invariant-loop-j decreases-loop-j
+loop-j-smaller c = omega arith
 
-loop-again-2 : tie.Need-loop-preserved-2 invariant-loop decreases-loop
-loop-again-2 c =
-    let a = c.before.before.before.before.args in
-    let loop = c.before.before.before.loop in
-    counted-run a.place.now a.first.0 a.end.0 loop.j loop.unrun (omega arith) loop.invariant c.if1.false
+loop-j-preserved : tie.Need-loop-j-preserved invariant-loop-j decreases-loop-j
+loop-j-preserved c =
+    let a = c.args in
+    let loop = c.loop-j in
+    counted-run a.place.now a.first.0 a.end.0 loop.j loop.unrun (omega arith) loop.invariant c.if-place-k-eq-NOT_RUN.false
 
-returns : tie.Need-returns invariant-loop decreases-loop
+returns : tie.Need-returns invariant-loop-j decreases-loop-j
 returns c =
-    let a = c.before.before.args in
-    let loop = c.before.loop in
+    let a = c.args in
+    let loop = c.loop-j in
     counted-done a.place.now a.first.0 a.end.0 loop.j loop.unrun (omega arith) loop.invariant
 
-pub all-run-spec : {M : Type 1} → statement M
-all-run-spec =
+pub all_run_spec : {M : Type 1} → statement M
+all_run_spec =
     tie.close
-    (tie.spec invariant-loop decreases-loop loop-holds add-j element-copy-out-if1 add-unrun loop-less loop-again loop-less-2 loop-again-2 returns)
+    (tie.spec invariant-loop-j decreases-loop-j loop-j-init overflow_add-j bounds-place-k overflow_add-unrun loop-j-smaller-then-place-k-eq-NOT_RUN loop-j-preserved-then-place-k-eq-NOT_RUN loop-j-smaller loop-j-preserved returns)

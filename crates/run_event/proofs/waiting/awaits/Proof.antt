@@ -11,35 +11,32 @@ use borrow.Author.Rules.{rules}
 use Rattle.run_event.proofs.waiting.awaits.Statement.{statement}
 use Rattle.run_event.proofs.waiting.awaits.Tie as tie
 
-finish-by-requires : tie.Need-finish-by-requires
-finish-by-requires c κs = search rules
+finish_by-requires : tie.Need-finish_by-requires
+finish_by-requires c κs = search rules
 
-enum-known-first : tie.Need-enum-known-first
-enum-known-first c = search rules
+enum_known-first : tie.Need-enum_known-first
+enum_known-first c = search rules
 
-last-unrun-requires : tie.Need-last-unrun-requires
-last-unrun-requires c κs = search rules
+last_unrun-requires : tie.Need-last_unrun-requires
+last_unrun-requires c κs = search rules
 
-enum_told : tie.Need-enum-told
-enum_told c = search rules
+enum_told-1 : tie.Need-enum_told-1
+enum_told-1 c = search rules
 
-returns : tie.Need-returns
-returns c =
-    let told = c.before.before in
-    let asked = told.before.before in
-    let a = asked.before.before.before.args in
-    c.last-unrun.ensures
+returns-in-From : tie.Need-returns-in-From
+returns-in-From c =
+    let a = c.args in
+    c.last_unrun.ensures
     ∙ ap {B = Found} (λ (o : Option ℕ). found_of o)
-    (awaits-found (kinds a.tree.now) a.place.now a.step.0 told.first.given.0.0
-    (sym asked.finish-by.ensures ∙ told.first.given.1))
+    (awaits-found (kinds a.tree.now) a.place.now a.step.0 c.in-From.first
+    (sym c.finish_by.ensures ∙ c.in-From.is))
 
-returns-2 : tie.Need-returns-2
+returns-in-Nothing : tie.Need-returns-in-Nothing
 unfolding found_of
-returns-2 c =
-    let asked = c.before.before in
-    let a = asked.before.before.before.args in
+returns-in-Nothing c =
+    let a = c.args in
     ap {B = Found} (λ (o : Option ℕ). found_of o)
-    (awaits-nothing (kinds a.tree.now) a.place.now a.step.0 (sym asked.finish-by.ensures ∙ c.enum_told.given.1))
+    (awaits-nothing (kinds a.tree.now) a.place.now a.step.0 (sym c.finish_by.ensures ∙ c.in-Nothing.is))
 
-pub awaits-spec : {M : Type 1} → statement M
-awaits-spec = tie.close (tie.spec finish-by-requires enum-known-first last-unrun-requires enum_told returns returns-2)
+pub awaits_spec : {M : Type 1} → statement M
+awaits_spec = tie.close (tie.spec finish_by-requires enum_known-first last_unrun-requires enum_told-1 returns-in-From returns-in-Nothing)

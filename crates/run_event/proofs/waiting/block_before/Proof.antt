@@ -4,17 +4,17 @@ use native.Mathlib.Omega.{arith}
 use Rattle.run_event.proofs.waiting.block_before.Statement.{statement}
 use Rattle.run_event.proofs.waiting.block_before.Tie as tie
 
-add-if1 : tie.Need-overflow-add-if1
-add-if1 c = record { fits = omega (arith, c.requires) }
+overflow_add-from : tie.Need-overflow_add-from
+overflow_add-from c = record { fits = omega (arith, c.requires) }
 
-sub-t7 : tie.Need-overflow-sub-t7
-sub-t7 c = omega (arith, c.if1.true)
+overflow_sub-result : tie.Need-overflow_sub-result
+overflow_sub-result c = omega (arith, c.if-from-j.true)
+
+returns-then-from-j : tie.Need-returns-then-from-j
+returns-then-from-j c = (omega (arith, c.if-from-j.true), omega (arith, c.if-from-j.true), omega (arith, c.if-from-j.true))
 
 returns : tie.Need-returns
-returns c = (omega (arith, c.if1.true), omega (arith, c.if1.true), omega (arith, c.if1.true))
+returns c = (omega arith, c.requires.0, omega (arith, c.if-from-j.false))
 
-returns-2 : tie.Need-returns-2
-returns-2 c = (omega arith, c.before.requires.0, omega (arith, c.if1.false))
-
-pub block-before-spec : {M : Type 1} → statement M
-block-before-spec = tie.close (tie.spec add-if1 sub-t7 returns returns-2)
+pub block_before_spec : {M : Type 1} → statement M
+block_before_spec = tie.close (tie.spec overflow_add-from overflow_sub-result returns-then-from-j returns)

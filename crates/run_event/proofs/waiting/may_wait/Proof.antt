@@ -5,11 +5,11 @@ use borrow.Author.Tests.{le-leb, lt-leb}
 use Rattle.run_event.proofs.waiting.may_wait.Statement.{statement}
 use Rattle.run_event.proofs.waiting.may_wait.Tie as tie
 
+returns-then-openers-i : tie.Need-returns-then-openers-i
+returns-then-openers-i c = rw (le-leb _ _ c.if-openers-i.true) refl
+
 returns : tie.Need-returns
-returns c = rw (le-leb _ _ c.if1.true) refl
+returns c = rw (lt-leb _ _ c.if-openers-i.false) refl
 
-returns-2 : tie.Need-returns-2
-returns-2 c = rw (lt-leb _ _ c.if1.false) refl
-
-pub may-wait-spec : {M : Type 1} → statement M
-may-wait-spec = tie.close (tie.spec returns returns-2)
+pub may_wait_spec : {M : Type 1} → statement M
+may_wait_spec = tie.close (tie.spec returns-then-openers-i returns)
