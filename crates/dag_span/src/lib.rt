@@ -1,5 +1,7 @@
 // Work and span (document 02, #105): what all steps weigh, how long they last at least, and the chain of steps that says why, written
 // where it is lent. Nothing is refused once the first step is written.
+#![tactic(auto)]
+
 ghost use Rattle.std.specs.Prelude.{◌≡◌, ◌*◌, ◌≤◌, length};
 ghost use Rattle.rules.specs.Tree.{kinds, weights, tree_verdict};
 ghost use Rattle.rules_dag.specs.Spans.{work as work_of, span_call};

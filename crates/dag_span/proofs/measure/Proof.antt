@@ -12,7 +12,7 @@ use Rattle.dag_span.proofs.measure.Tie as tie
 abbrev entry : tie.After-fill → tie.Start
 entry c = c.before.before.before.before.before.before
 
-abbrev filled : tie.After-walk → tie.After-fill
+abbrev filled : tie.After-walk-length → tie.After-fill
 filled c = c.before.before.before.before.before.before.before.before
 
 frame : (c : tie.Start) → Frame c.args.tree.now
@@ -20,77 +20,74 @@ frame c = accepted-frame c.args.tree.now c.requires.0
 
 -- ---- the needs
 
-slice-aggregate-fill : tie.Need-slice-aggregate-fill
-slice-aggregate-fill c = search rules
+slice_bounds-fill-end : tie.Need-slice_bounds-fill-end
+slice_bounds-fill-end c = search rules
 
-slice-aggregate-fill-2 : tie.Need-slice-aggregate-fill-2
-slice-aggregate-fill-2 c = search rules
+slice_bounds-fill-end-2 : tie.Need-slice_bounds-fill-end-2
+slice_bounds-fill-end-2 c = search rules
 
-slice-aggregate-fill-3 : tie.Need-slice-aggregate-fill-3
-slice-aggregate-fill-3 c = search rules
+slice_bounds-fill-end-3 : tie.Need-slice_bounds-fill-end-3
+slice_bounds-fill-end-3 c = search rules
 
 fill-requires : tie.Need-fill-requires
 fill-requires c κs =
-    let at = c.before.before.before.before.before in
+    let most = (frame c.before.before.before.before.before).most in
+    (c.requires.0, (most, (most, most)))
+
+slice_bounds-walk-end : tie.Need-slice_bounds-walk-end
+slice_bounds-walk-end c = search rules
+
+slice_bounds-walk-end-2 : tie.Need-slice_bounds-walk-end-2
+slice_bounds-walk-end-2 c = search rules
+
+slice_bounds-walk-end-3 : tie.Need-slice_bounds-walk-end-3
+slice_bounds-walk-end-3 c = search rules
+
+walk-length-requires : tie.Need-walk-length-requires
+walk-length-requires c κs =
+    let at = entry c.before.before.before.before.before.before.before in
     let most = (frame at).most in
-    (at.requires.0, (most, (most, most)))
-
-slice-aggregate-walk : tie.Need-slice-aggregate-walk
-slice-aggregate-walk c = search rules
-
-slice-aggregate-walk-2 : tie.Need-slice-aggregate-walk-2
-slice-aggregate-walk-2 c = search rules
-
-slice-aggregate-walk-3 : tie.Need-slice-aggregate-walk-3
-slice-aggregate-walk-3 c = search rules
-
-walk-requires : tie.Need-walk-requires
-walk-requires c κs =
-    let tables = c.before.before.before.before.before.before.before in
-    let at = entry tables in
-    let most = (frame at).most in
-    let e = tables.fill.ensures in
-    let kept = tables.fill.auto.1 in (
+    let e = c.fill.ensures in
+    let kept = c.fill.auto in (
       record {
-        accepts = at.pre.0;
-        room_ends = omega (arith, most, kept.1.0);
-        room_openers = omega (arith, most, kept.1.1.0);
+        accepts = at.requires.0;
+        room_ends = omega (arith, most, kept.ends);
+        room_openers = omega (arith, most, kept.openers);
         ends_are = e.1.0;
         openers_are = e.1.1;
       },
-      (record { room = omega (arith, most, kept.0); all = e.0 }, at.pre.1),
+      (record { room = omega (arith, most, kept.lasting); all = e.0 }, at.requires.1),
     )
 
 work-requires : tie.Need-work-requires
 work-requires c κs = search rules
 
-array-read-t25 : tie.Need-array-read-t25
-array-read-t25 c = search rules
+bounds-lasting-0 : tie.Need-bounds-lasting-0
+bounds-lasting-0 c = search rules
 
-same_length : tie.Need-same-length
-same_length c = search rules
+shape_of-chain : tie.Need-shape_of-chain
+shape_of-chain c = search rules
 
 returns : tie.Need-returns
 returns c =
-    let walked = c.before.before.before in
-    let tables = filled walked in
+    let tables = filled c.before.before.before in
     let at = entry tables in
     let root = (tables.fill.ensures.0 0 (omega arith) (frame at).some).0 in
-    measured _ _ at.pre.0 _ _ walked.walk.ensures _ _ c.work.ensures root
+    measured _ _ at.requires.0 _ _ c.walk-length.ensures _ _ c.work.ensures root
 
-pub measure-spec : {M : Type 1} → statement M
-measure-spec =
+pub measure_spec : {M : Type 1} → statement M
+measure_spec =
     tie.close
     (tie.spec
-    slice-aggregate-fill
-    slice-aggregate-fill-2
-    slice-aggregate-fill-3
+    slice_bounds-fill-end
+    slice_bounds-fill-end-2
+    slice_bounds-fill-end-3
     fill-requires
-    slice-aggregate-walk
-    slice-aggregate-walk-2
-    slice-aggregate-walk-3
-    walk-requires
+    slice_bounds-walk-end
+    slice_bounds-walk-end-2
+    slice_bounds-walk-end-3
+    walk-length-requires
     work-requires
-    array-read-t25
-    same_length
+    bounds-lasting-0
+    shape_of-chain
     returns)

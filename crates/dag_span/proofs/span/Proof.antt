@@ -11,71 +11,66 @@ use Rattle.dag_span.proofs.span.Tie as tie
 
 -- ---- places
 
-abbrev entry : tie.After-accept → tie.Start
+abbrev entry : tie.After-accept-admitted → tie.Start
 entry c = c.before.before.before
 
-abbrev judged : tie.Else1 → tie.After-accept
+abbrev judged : tie.Else-admitted-ne0 → tie.After-accept-admitted
 judged c = c.before.before
 
-accepts : (c : tie.Else1) → (tree_verdict (entry (judged c)).args.tree.now).number ≡ 0
-accepts c = tree-accepts _ (entry (judged c)).args.chain.now _ (judged c).accept.ensures c.if1.false
+accepts : (c : tie.Else-admitted-ne0) → (tree_verdict (entry (judged c)).args.tree.now).number ≡ 0
+accepts c = tree-accepts _ (entry (judged c)).args.chain.now _ (judged c).accept-admitted.ensures c.if-admitted-ne0.false
 
-counted : (c : tie.Else1) → (judged c).accept.result.steps ≡ length (kinds (entry (judged c)).args.tree.now)
-counted c = steps-are _ (entry (judged c)).args.chain.now _ (judged c).accept.ensures c.if1.false
+counted : (c : tie.Else-admitted-ne0) → (judged c).accept-admitted.result.steps ≡ length (kinds (entry (judged c)).args.tree.now)
+counted c = steps-are _ (entry (judged c)).args.chain.now _ (judged c).accept-admitted.ensures c.if-admitted-ne0.false
 
 -- ---- the needs
 
-accept-requires : tie.Need-accept-requires
-accept-requires c κs = search rules
+accept-admitted-requires : tie.Need-accept-admitted-requires
+accept-admitted-requires c κs = search rules
 
 refused-requires : tie.Need-refused-requires
 refused-requires c κs = search rules
 
-returns : tie.Need-returns
-returns c =
-    let at = c.before.before.before in
-    let so = tree-refuses _ (entry at).args.chain.now _ at.accept.ensures c.before.if1.true in
+returns-then-admitted-ne0 : tie.Need-returns-then-admitted-ne0
+returns-then-admitted-ne0 c =
+    let so = tree-refuses _ (entry c.before.before.before).args.chain.now _ c.accept-admitted.ensures c.if-admitted-ne0.true in
     (c.refused.ensures ∙ so.0, so.1)
 
-mul-if2 : tie.Need-overflow-mul-if2
-mul-if2 c =
-    let one = c.before in
-    omega (arith, counted one, (accepted-frame _ (accepts one)).most)
+overflow_mul-admitted : tie.Need-overflow_mul-admitted
+overflow_mul-admitted c =
+    omega (arith, counted c.before, (accepted-frame _ (accepts c.before)).most)
 
-refused-requires-2 : tie.Need-refused-requires-2
-refused-requires-2 c κs = search rules
+refused-requires-then-chain-admitted : tie.Need-refused-requires-then-chain-admitted
+refused-requires-then-chain-admitted c κs = search rules
 
-returns-2 : tie.Need-returns-2
-returns-2 c =
-    let one = c.before.before.before in
-    let at = judged one in
-    let so = short-refuses _ (entry at).args.chain.now _ at.accept.ensures one.if1.false (omega (arith, counted one)) in
-    (c.refused2.ensures ∙ so.0, so.1)
+returns-then-chain-admitted : tie.Need-returns-then-chain-admitted
+returns-then-chain-admitted c =
+    let at = judged c.before.before.before in
+    let so = short-refuses _ (entry at).args.chain.now _ at.accept-admitted.ensures c.if-admitted-ne0.false (omega (arith, counted c.before.before.before)) in
+    (c.refused-then-chain-admitted.ensures ∙ so.0, so.1)
 
 measure-requires : tie.Need-measure-requires
 measure-requires c κs =
-    let one = c.before.before.before in
-    (accepts one, omega (arith, counted one))
+    (accepts c.before.before.before, omega (arith, counted c.before.before.before))
 
-same_length : tie.Need-same-length
-same_length c = search rules
+shape_of-chain : tie.Need-shape_of-chain
+shape_of-chain c = search rules
 
-returns-3 : tie.Need-returns-3
-returns-3 c =
-    let one = c.before.before.before.before.before.before in
-    let at = judged one in
-    measured-meets _ _ _ at.accept.ensures one.if1.false (omega (arith, counted one)) _ _ c.before.before.measure.ensures
+returns : tie.Need-returns
+returns c =
+    let at = judged c.before.before.before.before.before.before in
+    measured-meets _ _ _ at.accept-admitted.ensures c.if-admitted-ne0.false (omega (arith, counted c.before.before.before.before.before.before)) _ _ c.measure.ensures
 
-pub span-spec : {M : Type 1} → statement M
-span-spec =
+pub span_spec : {M : Type 1} → statement M
+span_spec =
     tie.close
     (tie.spec
-    accept-requires
+    accept-admitted-requires
     refused-requires
-    returns
-    mul-if2
-    refused-requires-2
-    returns-2
+    returns-then-admitted-ne0
+    overflow_mul-admitted
+    refused-requires-then-chain-admitted
+    returns-then-chain-admitted
     measure-requires
-    same_length
-    returns-3)
+    shape_of-chain
+    returns)

@@ -14,64 +14,62 @@ use Rattle.dag_chain.specs.Laws.Bounds.{weight-none, work-weight}
 use Rattle.dag_span.proofs.work.Statement.{statement}
 use Rattle.dag_span.proofs.work.Tie as tie
 
-abbrev invariant-loop : tie.invariant-loop
-invariant-loop tree n j₀ total₀ j total =
+abbrev invariant-loop-j : tie.invariant-loop-j
+invariant-loop-j tree n j₀ total₀ j total =
     (j ≤ n) × (n ≡ length (kinds tree)) × (n ≤ 4095) × (total ≡ weight_before (weights tree) j) × (total ≤ j * 4294967295)
 
-abbrev decreases-loop : tie.decreases-loop
-decreases-loop tree n j₀ total₀ j total = n - j
+abbrev decreases-loop-j : tie.decreases-loop-j
+decreases-loop-j tree n j₀ total₀ j total = n - j
 
-steps-requires : tie.Need-steps-requires invariant-loop decreases-loop
-steps-requires c κs = search rules
+steps-n-requires : tie.Need-steps-n-requires invariant-loop-j decreases-loop-j
+steps-n-requires c κs = search rules
 
-loop-holds : tie.Need-loop-init invariant-loop decreases-loop
-loop-holds c =
-    let at = c.before.before in
-    let most = (accepted-frame at.args.tree.now at.requires).most in
-    (omega arith, c.steps.ensures, omega (arith, c.steps.ensures, most), sym (weight-none (weights at.args.tree.now)), omega arith)
+loop-j-init : tie.Need-loop-j-init invariant-loop-j decreases-loop-j
+loop-j-init c =
+    let most = (accepted-frame c.args.tree.now c.requires).most in
+    (omega arith, c.steps-n.ensures, omega (arith, c.steps-n.ensures, most), sym (weight-none (weights c.args.tree.now)), omega arith)
 
-weight-requires : tie.Need-weight-requires invariant-loop decreases-loop
+weight-requires : tie.Need-weight-requires invariant-loop-j decreases-loop-j
 weight-requires c κs = search rules
 
-cast-total : tie.Need-overflow-cast-total invariant-loop decreases-loop
-cast-total c = omega arith
+overflow_cast-total : tie.Need-overflow_cast-total invariant-loop-j decreases-loop-j
+overflow_cast-total c = omega arith
 
-add_total : tie.Need-overflow-add-total invariant-loop decreases-loop
-add_total c = omega arith
+overflow_add-total : tie.Need-overflow_add-total invariant-loop-j decreases-loop-j
+overflow_add-total c = omega arith
 
-add-j : tie.Need-overflow-add-j invariant-loop decreases-loop
-add-j c = omega arith
+overflow_add-j : tie.Need-overflow_add-j invariant-loop-j decreases-loop-j
+overflow_add-j c = omega arith
 
-loop-less : tie.Need-loop-smaller invariant-loop decreases-loop
-loop-less c = omega arith
+loop-j-smaller : tie.Need-loop-j-smaller invariant-loop-j decreases-loop-j
+loop-j-smaller c = omega arith
 
-loop-again : tie.Need-loop-preserved invariant-loop decreases-loop
-loop-again c =
-    let at = c.before.before in
-    let inv = at.loop.invariant in
-    let tree = at.before.before.before.args.tree.now in
-    let step = weight-step (weights tree) at.loop.j in
+loop-j-preserved : tie.Need-loop-j-preserved invariant-loop-j decreases-loop-j
+loop-j-preserved c =
+    let inv = c.loop-j.invariant in
+    let tree = c.args.tree.now in
+    let step = weight-step (weights tree) c.loop-j.j in
     (omega arith, inv.1, inv.2, rw add-one (omega (arith, step, inv.3, c.weight.ensures)), omega (arith, inv.4))
 
-returns : tie.Need-returns invariant-loop decreases-loop
+returns : tie.Need-returns invariant-loop-j decreases-loop-j
 returns c =
-    let inv = c.before.loop.invariant in
-    let tree = c.before.before.before.before.args.tree.now in
-    let all : c.before.loop.j ≡ length (weights tree) = omega (arith, inv.0, inv.1, length-kinds tree, length-weights tree) in
+    let inv = c.loop-j.invariant in
+    let tree = c.args.tree.now in
+    let all : c.loop-j.j ≡ length (weights tree) = omega (arith, inv.0, inv.1, length-kinds tree, length-weights tree) in
     inv.3 ∙ rw all (sym (work-weight (weights tree)))
 
-pub work-spec : {M : Type 1} → statement M
-work-spec =
+pub work_spec : {M : Type 1} → statement M
+work_spec =
     tie.close
     (tie.spec
-    invariant-loop
-    decreases-loop
-    steps-requires
-    loop-holds
+    invariant-loop-j
+    decreases-loop-j
+    steps-n-requires
+    loop-j-init
     weight-requires
-    cast-total
-    add_total
-    add-j
-    loop-less
-    loop-again
+    overflow_cast-total
+    overflow_add-total
+    overflow_add-j
+    loop-j-smaller
+    loop-j-preserved
     returns)
