@@ -1,6 +1,8 @@
 // One steal of a trace (document 01, "Trace, log, run list"), in three modules: `workers` judges a trace record's workers, `number`
 // finds the step that its number names, `phase` has what beginning a phase stores. `read_steal` reads a number against the victim's
 // phase: it names a step, if all from that step to the end of its task is still in the phase.
+#![tactic(auto)]
+
 pub mod number;
 pub mod phase;
 pub mod workers;

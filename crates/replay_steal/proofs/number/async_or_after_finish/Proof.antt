@@ -8,54 +8,54 @@ use Rattle.replay_spec.specs.Laws.Naming.{pushable-first, pushable_async, pushab
 use Rattle.replay_steal.proofs.number.async_or_after_finish.Statement.{statement}
 use Rattle.replay_steal.proofs.number.async_or_after_finish.Tie as tie
 
-returns : tie.Need-returns
-returns c =
-    let a = c.before.before.before.args in
-    pushable-first (kinds a.tree.now) a.step.0 c.if1.true
+returns-then-s-eq0 : tie.Need-returns-then-s-eq0
+returns-then-s-eq0 c =
+    let a = c.args in
+    pushable-first (kinds a.tree.now) a.step.0 c.if-s-eq0.true
 
-sub-t8 : tie.Need-overflow-sub-t8
-sub-t8 c = search rules
+overflow_sub-s : tie.Need-overflow_sub-s
+overflow_sub-s c = search rules
 
 kind-requires : tie.Need-kind-requires
 kind-requires c κs = search rules
 
-returns-2 : tie.Need-returns-2
-returns-2 c =
-    let a = c.before.before.before.before.before.args in
-    pushable_async (kinds a.tree.now) a.step.0 (omega arith) (sym c.before.kind.ensures ∙ c.if2.true)
+returns-then-kind-eq-ASYNC : tie.Need-returns-then-kind-eq-ASYNC
+returns-then-kind-eq-ASYNC c =
+    let a = c.args in
+    pushable_async (kinds a.tree.now) a.step.0 (omega arith) (sym c.kind.ensures ∙ c.if-kind-eq-ASYNC.true)
 
-finish-by-requires : tie.Need-finish-by-requires
-finish-by-requires c κs = search rules
+finish_by-requires : tie.Need-finish_by-requires
+finish_by-requires c κs = search rules
 
-enum-known-first : tie.Need-enum-known-first
-enum-known-first c = search rules
+enum_known-first : tie.Need-enum_known-first
+enum_known-first c = search rules
 
-enum_told : tie.Need-enum-told
-enum_told c = search rules
+enum_told-1 : tie.Need-enum_told-1
+enum_told-1 c = search rules
 
-returns-3 : tie.Need-returns-3
-returns-3 c =
-    let a = c.before.before.before.before.before.before.before.before.before.args in
-    pushable_finish (kinds a.tree.now) a.step.0 c.before.first.given.0.0
-    (sym c.before.before.before.finish-by.ensures ∙ c.before.first.given.1)
+returns-in-From : tie.Need-returns-in-From
+returns-in-From c =
+    let a = c.args in
+    pushable_finish (kinds a.tree.now) a.step.0 c.in-From.first
+    (sym c.finish_by.ensures ∙ c.in-From.is)
 
-returns-4 : tie.Need-returns-4
-returns-4 c =
-    let a = c.before.before.before.before.before.before.before.before.args in
+returns-in-Nothing : tie.Need-returns-in-Nothing
+returns-in-Nothing c =
+    let a = c.args in
     pushable-none (kinds a.tree.now) a.step.0 (omega arith)
-    (λ e. c.before.before.before.if2.false (c.before.before.before.before.kind.ensures ∙ e))
-    (sym c.before.before.finish-by.ensures ∙ c.enum_told.given.1)
+    (λ e. c.if-kind-eq-ASYNC.false (c.kind.ensures ∙ e))
+    (sym c.finish_by.ensures ∙ c.in-Nothing.is)
 
-pub async-or-after-finish-spec : {M : Type 1} → statement M
-async-or-after-finish-spec =
+pub async_or_after_finish_spec : {M : Type 1} → statement M
+async_or_after_finish_spec =
     tie.close
     (tie.spec
-    returns
-    sub-t8
+    returns-then-s-eq0
+    overflow_sub-s
     kind-requires
-    returns-2
-    finish-by-requires
-    enum-known-first
-    enum_told
-    returns-3
-    returns-4)
+    returns-then-kind-eq-ASYNC
+    finish_by-requires
+    enum_known-first
+    enum_told-1
+    returns-in-From
+    returns-in-Nothing)

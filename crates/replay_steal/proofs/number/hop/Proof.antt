@@ -9,58 +9,58 @@ use Rattle.replay_spec.specs.Laws.Naming.{hop_end, hop_on, hop-done}
 use Rattle.replay_steal.proofs.number.hop.Statement.{statement}
 use Rattle.replay_steal.proofs.number.hop.Tie as tie
 
-abbrev invariant-loop : tie.invariant-loop
-invariant-loop tree ends children i₀ left₀ i left = hopped (kinds tree) left i ≡ hopped (kinds tree) left₀ i₀
+abbrev invariant-loop-left : tie.invariant-loop-left
+invariant-loop-left tree ends children i₀ left₀ i left = hopped (kinds tree) left i ≡ hopped (kinds tree) left₀ i₀
 
-abbrev decreases-loop : tie.decreases-loop
-decreases-loop tree ends children i₀ left₀ i left = left
+abbrev decreases-loop-left : tie.decreases-loop-left
+decreases-loop-left tree ends children i₀ left₀ i left = left
 
-loop-holds : tie.Need-loop-init invariant-loop decreases-loop
-loop-holds c = refl
+loop-left-init : tie.Need-loop-left-init invariant-loop-left decreases-loop-left
+loop-left-init c = refl
 
-sub-left : tie.Need-overflow-sub-left invariant-loop decreases-loop
-sub-left c = omega arith
+overflow_sub-left : tie.Need-overflow_sub-left invariant-loop-left decreases-loop-left
+overflow_sub-left c = omega arith
 
-kind-requires : tie.Need-kind-requires invariant-loop decreases-loop
+kind-requires : tie.Need-kind-requires invariant-loop-left decreases-loop-left
 kind-requires c κs = search rules
 
-returns : tie.Need-returns invariant-loop decreases-loop
-returns c =
-    let a = c.before.before.before.before.before.before.args in
-    let loop = c.before.before.before.loop in
+returns-then-kind-eq-END : tie.Need-returns-then-kind-eq-END invariant-loop-left decreases-loop-left
+returns-then-kind-eq-END c =
+    let a = c.args in
+    let loop = c.loop-left in
     hop_end (kinds a.tree.now) a.children a.from.0 loop.i loop.left loop.invariant (omega arith)
-    (sym c.before.kind.ensures ∙ c.if1.true)
+    (sym c.kind.ensures ∙ c.if-kind-eq-END.true)
 
-cont-by-requires : tie.Need-cont-by-requires invariant-loop decreases-loop
-cont-by-requires c κs = search rules
+cont_by-next-requires : tie.Need-cont_by-next-requires invariant-loop-left decreases-loop-left
+cont_by-next-requires c κs = search rules
 
-loop-less : tie.Need-loop-smaller invariant-loop decreases-loop
-loop-less c = omega arith
+loop-left-smaller : tie.Need-loop-left-smaller invariant-loop-left decreases-loop-left
+loop-left-smaller c = omega arith
 
-loop-again : tie.Need-loop-preserved invariant-loop decreases-loop
-loop-again c =
-    let a = c.before.before.before.before.before.before.before.args in
-    let loop = c.before.before.before.before.loop in
+loop-left-preserved : tie.Need-loop-left-preserved invariant-loop-left decreases-loop-left
+loop-left-preserved c =
+    let a = c.args in
+    let loop = c.loop-left in
     hop_on (kinds a.tree.now) a.children a.from.0 loop.i loop.left loop.invariant (omega arith)
-    (λ e. c.before.if1.false (c.before.before.kind.ensures ∙ e)) c.cont-by.result.0 c.cont-by.ensures
+    (λ e. c.if-kind-eq-END.false (c.kind.ensures ∙ e)) c.cont_by-next.result.0 c.cont_by-next.ensures
 
-returns-2 : tie.Need-returns-2 invariant-loop decreases-loop
-returns-2 c =
-    let a = c.before.before.before.before.args in
-    let loop = c.before.loop in
+returns : tie.Need-returns invariant-loop-left decreases-loop-left
+returns c =
+    let a = c.args in
+    let loop = c.loop-left in
     hop-done (kinds a.tree.now) a.children a.from.0 loop.i loop.left loop.invariant (omega arith)
 
-pub hop-spec : {M : Type 1} → statement M
-hop-spec =
+pub hop_spec : {M : Type 1} → statement M
+hop_spec =
     tie.close
     (tie.spec
-    invariant-loop
-    decreases-loop
-    loop-holds
-    sub-left
+    invariant-loop-left
+    decreases-loop-left
+    loop-left-init
+    overflow_sub-left
     kind-requires
-    returns
-    cont-by-requires
-    loop-less
-    loop-again
-    returns-2)
+    returns-then-kind-eq-END
+    cont_by-next-requires
+    loop-left-smaller
+    loop-left-preserved
+    returns)

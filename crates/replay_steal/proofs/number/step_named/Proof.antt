@@ -1,5 +1,7 @@
 -- `replay_steal::number::step_named` meets its contract: the walk over children finds the step of an ordinal, which must be above that
 -- of the base; a serial number is asked whether its step can have been pushed. Assumes nothing.
+use mathlib.Core.Path.{ap}
+use mathlib.Core.Bool.{not}
 use native.Mathlib.Omega.{arith}
 use borrow.Author.Rules.{rules}
 use Rattle.tree.specs.declared.Step.{Step}
@@ -11,87 +13,82 @@ use Rattle.replay_steal.proofs.number.step_named.Tie as tie
 
 -- ---- it is an ordinal
 
-enum-known-number : tie.Need-enum-known-number
-enum-known-number c = c.match.keys1
+enum_known-number : tie.Need-enum_known-number
+enum_known-number c = c.in-ByOrdinal-1.keys1
 
-abbrev by-ordinal : tie.After-known-told → tie.Start
-by-ordinal c = c.before.before.before.before.before.before
+abbrev by-ordinal : tie.In-ByOrdinal → tie.Start
+by-ordinal c = c.before.before.before.before
 
-abbrev wanted : tie.After-known-told → Ordinal
-wanted c = c.before.number.given.0.0
+abbrev wanted : tie.In-ByOrdinal → Ordinal
+wanted c = c.in-ByOrdinal.wanted
 
-returns : tie.Need-returns
-returns c =
-    let at = c.before in
-    let a = (by-ordinal at).args in
-    rw at.before.number.given.1 (name_own (kinds a.tree.now) a.base.0 a.ordinal.0 (wanted at) (omega arith))
+returns-then-to-from : tie.Need-returns-then-to-from
+returns-then-to-from c =
+    let a = (by-ordinal c.before).args in
+    rw c.in-ByOrdinal.is (name_own (kinds a.tree.now) a.base.0 a.ordinal.0 (wanted c.before) (omega arith))
 
-sub-hop : tie.Need-overflow-sub-hop
-sub-hop c = omega arith
+overflow_sub-to : tie.Need-overflow_sub-to
+overflow_sub-to c = omega arith
 
 hop-requires : tie.Need-hop-requires
 hop-requires c κs = search rules
 
-returns-4 : tie.Need-returns-4
-returns-4 c =
-    let at = c.before.before in
-    let a = (by-ordinal at).args in
-    rw at.before.number.given.1
-    (name_hopped (kinds a.tree.now) a.base.0 a.ordinal.0 (wanted at) (omega arith) c.hop.result c.hop.ensures)
+returns-else-to-from : tie.Need-returns-else-to-from
+returns-else-to-from c =
+    let a = (by-ordinal c.before.before).args in
+    rw c.in-ByOrdinal.is
+    (name_hopped (kinds a.tree.now) a.base.0 a.ordinal.0 (wanted c.before.before) (omega arith) c.hop.result c.hop.ensures)
 
 -- ---- it is a serial number
 
-enum-known-number-2 : tie.Need-enum-known-number-2
-enum-known-number-2 c = c.match.keys2
+enum_known-number-in-BySerial-1 : tie.Need-enum_known-number-in-BySerial-1
+enum_known-number-in-BySerial-1 c = c.in-BySerial-1.keys2
 
-abbrev by-serial : tie.After-known-told2 → tie.Start
-by-serial c = c.before.before.before.before.before.before
+abbrev by-serial : tie.In-BySerial → tie.Start
+by-serial c = c.before.before.before.before
 
-abbrev step : tie.After-known-told2 → Step
-step c = c.before.number2.given.0.0
+abbrev step : tie.In-BySerial → Step
+step c = c.in-BySerial.step
 
 steps-requires : tie.Need-steps-requires
 steps-requires c κs = search rules
 
-returns-2 : tie.Need-returns-2
-returns-2 c =
-    let at = c.before.before in
-    let a = (by-serial at).args in
-    rw at.before.number2.given.1
-    (name_past (kinds a.tree.now) a.base.0 a.ordinal.0 (step at) (omega (arith, c.before.steps.ensures)))
+returns-then-steps-s : tie.Need-returns-then-steps-s
+returns-then-steps-s c =
+    let a = (by-serial c.before.before).args in
+    rw c.in-BySerial.is
+    (name_past (kinds a.tree.now) a.base.0 a.ordinal.0 (step c.before.before) (omega (arith, c.steps.ensures)))
 
-async-or-after-finish-requires : tie.Need-async-or-after-finish-requires
-async-or-after-finish-requires c κs = search rules
+async_or_after_finish-requires : tie.Need-async_or_after_finish-requires
+async_or_after_finish-requires c κs = search rules
 
-returns-3 : tie.Need-returns-3
-returns-3 c =
-    let asked = c.before.async-or-after-finish in
-    let at = c.before.before.before.before in
-    let a = (by-serial at).args in
-    rw at.before.number2.given.1
-    (name-other (kinds a.tree.now) a.base.0 a.ordinal.0 (step at) asked.result asked.ensures c.if3.true)
+returns-then-not-async_or_after_finish : tie.Need-returns-then-not-async_or_after_finish
+returns-then-not-async_or_after_finish c =
+    let asked = c.async_or_after_finish in
+    let a = (by-serial c.before.before.before.before).args in
+    rw c.in-BySerial.is
+    (name-other (kinds a.tree.now) a.base.0 a.ordinal.0 (step c.before.before.before.before) asked.result asked.ensures (ap not c.if-not-async_or_after_finish.true))
 
-returns-5 : tie.Need-returns-5
-returns-5 c =
-    let asked = c.before.async-or-after-finish in
-    let at = c.before.before.before.before in
-    let a = (by-serial at).args in
-    rw at.before.number2.given.1
-    (name-itself (kinds a.tree.now) a.base.0 a.ordinal.0 (step at) asked.result asked.ensures
-    (omega (arith, c.before.before.before.steps.ensures)) c.if3.false)
+returns-else-not-async_or_after_finish : tie.Need-returns-else-not-async_or_after_finish
+returns-else-not-async_or_after_finish c =
+    let asked = c.async_or_after_finish in
+    let a = (by-serial c.before.before.before.before).args in
+    rw c.in-BySerial.is
+    (name-itself (kinds a.tree.now) a.base.0 a.ordinal.0 (step c.before.before.before.before) asked.result asked.ensures
+    (omega (arith, c.steps.ensures)) (ap not c.if-not-async_or_after_finish.false))
 
-pub step-named-spec : {M : Type 1} → statement M
-step-named-spec =
+pub step_named_spec : {M : Type 1} → statement M
+step_named_spec =
     tie.close
     (tie.spec
-    enum-known-number
-    returns
-    sub-hop
+    enum_known-number
+    returns-then-to-from
+    overflow_sub-to
     hop-requires
-    enum-known-number-2
+    enum_known-number-in-BySerial-1
     steps-requires
-    returns-2
-    async-or-after-finish-requires
-    returns-3
-    returns-4
-    returns-5)
+    returns-then-steps-s
+    async_or_after_finish-requires
+    returns-then-not-async_or_after_finish
+    returns-else-to-from
+    returns-else-not-async_or_after_finish)

@@ -6,104 +6,104 @@ use Rattle.replay_spec.specs.Begins.{bases_begun, ordinals_begun}
 use Rattle.replay_steal.proofs.phase.begin.Statement.{statement}
 use Rattle.replay_steal.proofs.phase.begin.Tie as tie
 
-cast-labels : tie.Need-overflow-cast-labels
-cast-labels c = search rules
+overflow_cast-labels : tie.Need-overflow_cast-labels
+overflow_cast-labels c = search rules
 
-mul-labels : tie.Need-overflow-mul-labels
-mul-labels c = search rules
+offset_bounds-labels-step : tie.Need-offset_bounds-labels-step
+offset_bounds-labels-step c = search rules
 
-slice-write-labels : tie.Need-slice-write-labels
-slice-write-labels c = search rules
+bounds-labels-step : tie.Need-bounds-labels-step
+bounds-labels-step c = search rules
 
-cast-firsts : tie.Need-overflow-cast-firsts
-cast-firsts c = search rules
+overflow_cast-firsts : tie.Need-overflow_cast-firsts
+overflow_cast-firsts c = search rules
 
-mul-firsts : tie.Need-overflow-mul-firsts
-mul-firsts c = search rules
+offset_bounds-firsts-phase : tie.Need-offset_bounds-firsts-phase
+offset_bounds-firsts-phase c = search rules
 
-element-write-firsts : tie.Need-element-write-firsts
-element-write-firsts c = search rules
+bounds-firsts-phase : tie.Need-bounds-firsts-phase
+bounds-firsts-phase c = search rules
 
-mul-bases : tie.Need-overflow-mul-bases
-mul-bases c = search rules
+offset_bounds-openers-step : tie.Need-offset_bounds-openers-step
+offset_bounds-openers-step c = search rules
 
-shared-slice-read-bases : tie.Need-shared-slice-read-bases
-shared-slice-read-bases c = search rules
+bounds-openers-step : tie.Need-bounds-openers-step
+bounds-openers-step c = search rules
 
-add-bases : tie.Need-overflow-add-bases
-add-bases c = search rules
+overflow_add-bases : tie.Need-overflow_add-bases
+overflow_add-bases c = search rules
 
-mul-bases-2 : tie.Need-overflow-mul-bases-2
-mul-bases-2 c = search rules
+offset_bounds-bases-from : tie.Need-offset_bounds-bases-from
+offset_bounds-bases-from c = search rules
 
-element-write-bases : tie.Need-element-write-bases
-element-write-bases c = search rules
+bounds-bases-from : tie.Need-bounds-bases-from
+bounds-bases-from c = search rules
 
-cast-bases : tie.Need-overflow-cast-bases
-cast-bases c = search rules
+overflow_cast-bases : tie.Need-overflow_cast-bases
+overflow_cast-bases c = search rules
 
-mul-bases-3 : tie.Need-overflow-mul-bases-3
-mul-bases-3 c = search rules
+offset_bounds-bases-phase : tie.Need-offset_bounds-bases-phase
+offset_bounds-bases-phase c = search rules
 
-element-write-bases-2 : tie.Need-element-write-bases-2
-element-write-bases-2 c = search rules
+bounds-bases-phase : tie.Need-bounds-bases-phase
+bounds-bases-phase c = search rules
 
-mul-ordinals : tie.Need-overflow-mul-ordinals
-mul-ordinals c = search rules
+offset_bounds-ordinals-from : tie.Need-offset_bounds-ordinals-from
+offset_bounds-ordinals-from c = search rules
 
-element-write-ordinals : tie.Need-element-write-ordinals
-element-write-ordinals c = search rules
+bounds-ordinals-from : tie.Need-bounds-ordinals-from
+bounds-ordinals-from c = search rules
 
-cast-ordinals : tie.Need-overflow-cast-ordinals
-cast-ordinals c = search rules
+overflow_cast-ordinals : tie.Need-overflow_cast-ordinals
+overflow_cast-ordinals c = search rules
 
-mul-ordinals-2 : tie.Need-overflow-mul-ordinals-2
-mul-ordinals-2 c = search rules
+offset_bounds-ordinals-phase : tie.Need-offset_bounds-ordinals-phase
+offset_bounds-ordinals-phase c = search rules
 
-element-write-ordinals-2 : tie.Need-element-write-ordinals-2
-element-write-ordinals-2 c = search rules
+bounds-ordinals-phase : tie.Need-bounds-ordinals-phase
+bounds-ordinals-phase c = search rules
 
-cast-latest : tie.Need-overflow-cast-latest
-cast-latest c = search rules
+overflow_cast-latest : tie.Need-overflow_cast-latest
+overflow_cast-latest c = search rules
 
-mul-latest : tie.Need-overflow-mul-latest
-mul-latest c = search rules
+offset_bounds-latest-thief : tie.Need-offset_bounds-latest-thief
+offset_bounds-latest-thief c = search rules
 
-element-write-latest : tie.Need-element-write-latest
-element-write-latest c = search rules
+bounds-latest-thief : tie.Need-bounds-latest-thief
+bounds-latest-thief c = search rules
 
-same_length : tie.Need-same-length
-same_length c = search rules
+shape_of-labels : tie.Need-shape_of-labels
+shape_of-labels c = search rules
 
 returns : tie.Need-returns
 unfolding bases_begun ordinals_begun
 returns c = (refl, (refl, (refl, (refl, refl))))
 
-pub begin-spec : {M : Type 1} → statement M
-begin-spec =
+pub begin_spec : {M : Type 1} → statement M
+begin_spec =
     tie.close
     (tie.spec
-    cast-labels
-    mul-labels
-    slice-write-labels
-    cast-firsts
-    mul-firsts
-    element-write-firsts
-    mul-bases
-    shared-slice-read-bases
-    add-bases
-    mul-bases-2
-    element-write-bases
-    cast-bases
-    mul-bases-3
-    element-write-bases-2
-    mul-ordinals
-    element-write-ordinals
-    cast-ordinals
-    mul-ordinals-2
-    element-write-ordinals-2
-    cast-latest
-    mul-latest
-    element-write-latest
-    same_length
+    overflow_cast-labels
+    offset_bounds-labels-step
+    bounds-labels-step
+    overflow_cast-firsts
+    offset_bounds-firsts-phase
+    bounds-firsts-phase
+    offset_bounds-openers-step
+    bounds-openers-step
+    overflow_add-bases
+    offset_bounds-bases-from
+    bounds-bases-from
+    overflow_cast-bases
+    offset_bounds-bases-phase
+    bounds-bases-phase
+    offset_bounds-ordinals-from
+    bounds-ordinals-from
+    overflow_cast-ordinals
+    offset_bounds-ordinals-phase
+    bounds-ordinals-phase
+    overflow_cast-latest
+    offset_bounds-latest-thief
+    bounds-latest-thief
+    shape_of-labels
     returns)

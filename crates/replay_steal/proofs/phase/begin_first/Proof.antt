@@ -5,31 +5,31 @@ use borrow.Author.Rules.{rules}
 use Rattle.replay_steal.proofs.phase.begin_first.Statement.{statement}
 use Rattle.replay_steal.proofs.phase.begin_first.Tie as tie
 
-slice-write-labels : tie.Need-slice-write-labels
-slice-write-labels c = search rules
+bounds-labels-0 : tie.Need-bounds-labels-0
+bounds-labels-0 c = search rules
 
-element-write-firsts : tie.Need-element-write-firsts
-element-write-firsts c = search rules
+bounds-firsts-0 : tie.Need-bounds-firsts-0
+bounds-firsts-0 c = search rules
 
-element-write-latest : tie.Need-element-write-latest
-element-write-latest c = search rules
+bounds-latest-0 : tie.Need-bounds-latest-0
+bounds-latest-0 c = search rules
 
-element-write-loads : tie.Need-element-write-loads
-element-write-loads c = search rules
+bounds-loads-0 : tie.Need-bounds-loads-0
+bounds-loads-0 c = search rules
 
-same_length : tie.Need-same-length
-same_length c = search rules
+shape_of-labels : tie.Need-shape_of-labels
+shape_of-labels c = search rules
 
 returns : tie.Need-returns
 returns c = (refl, (refl, (refl, refl)))
 
-pub begin-first-spec : {M : Type 1} → statement M
-begin-first-spec =
+pub begin_first_spec : {M : Type 1} → statement M
+begin_first_spec =
     tie.close
     (tie.spec
-    slice-write-labels
-    element-write-firsts
-    element-write-latest
-    element-write-loads
-    same_length
+    bounds-labels-0
+    bounds-firsts-0
+    bounds-latest-0
+    bounds-loads-0
+    shape_of-labels
     returns)

@@ -14,61 +14,59 @@ use Rattle.replay_steal.proofs.workers.judge_workers.Tie as tie
 
 -- ---- the two workers, once both are asked for
 
-abbrev entry : tie.Else2 → tie.Start
+abbrev entry : tie.Else-no_worker-2 → tie.Start
 entry c = c.before.before.before.before
 
-thief-fine : (c : tie.Else2) → leb (worker_limit (entry c).args.workers) (entry c).args.thief ≡ false
-thief-fine c = sym c.before.before.before.no-worker.ensures ∙ c.before.before.if1.false
+thief-fine : (c : tie.Else-no_worker-2) → leb (worker_limit (entry c).args.workers) (entry c).args.thief ≡ false
+thief-fine c = sym c.no_worker.ensures ∙ c.if-no_worker.false
 
-victim-fine : (c : tie.Else2) → leb (worker_limit (entry c).args.workers) (entry c).args.victim ≡ false
-victim-fine c = sym c.before.no-worker2.ensures ∙ c.if2.false
+victim-fine : (c : tie.Else-no_worker-2) → leb (worker_limit (entry c).args.workers) (entry c).args.victim ≡ false
+victim-fine c = sym c.no_worker-2.ensures ∙ c.if-no_worker-2.false
 
 -- ---- the needs
 
-no-worker-requires : tie.Need-no-worker-requires
-no-worker-requires c κs = search rules
+no_worker-requires : tie.Need-no_worker-requires
+no_worker-requires c κs = search rules
+
+returns-then-no_worker : tie.Need-returns-then-no_worker
+returns-then-no_worker c = thief-refused _ _ _ _ (sym c.no_worker.ensures ∙ c.if-no_worker.true)
+
+no_worker-requires-2 : tie.Need-no_worker-requires-2
+no_worker-requires-2 c κs = search rules
+
+returns-then-no_worker-2 : tie.Need-returns-then-no_worker-2
+returns-then-no_worker-2 c = victim-refused _ _ _ _ (sym c.no_worker-2.ensures ∙ c.if-no_worker-2.true)
+
+returns-then-thief-victim : tie.Need-returns-then-thief-victim
+returns-then-thief-victim c = same-refused _ _ _ _ (thief-fine c.before) (victim-fine c.before) c.if-thief-victim.true
+
+offset_bounds-latest-victim : tie.Need-offset_bounds-latest-victim
+offset_bounds-latest-victim c = search rules
+
+bounds-latest-victim : tie.Need-bounds-latest-victim
+bounds-latest-victim c =
+    let a = (entry c.before.before).args in
+    let limit = worker_limit a.workers in
+    omega (arith, leb-false limit a.victim (victim-fine c.before.before), limit_most a.workers)
+
+returns-then-latest-victim : tie.Need-returns-then-latest-victim
+returns-then-latest-victim c =
+    unseen-refused _ _ _ _ (thief-fine c.before.before.before.before) (victim-fine c.before.before.before.before) c.if-thief-victim.false c.if-latest-victim.true
 
 returns : tie.Need-returns
-returns c = thief-refused _ _ _ _ (sym c.before.no-worker.ensures ∙ c.if1.true)
+returns c =
+    none-refused _ _ _ _ (thief-fine c.before.before.before.before) (victim-fine c.before.before.before.before) c.if-thief-victim.false c.if-latest-victim.false
 
-no-worker-requires-2 : tie.Need-no-worker-requires-2
-no-worker-requires-2 c κs = search rules
-
-returns-2 : tie.Need-returns-2
-returns-2 c = victim-refused _ _ _ _ (sym c.before.no-worker2.ensures ∙ c.if2.true)
-
-returns-3 : tie.Need-returns-3
-returns-3 c = same-refused _ _ _ _ (thief-fine c.before) (victim-fine c.before) c.if3.true
-
-mul-if4 : tie.Need-overflow-mul-if4
-mul-if4 c = search rules
-
-element-copy-out-if4 : tie.Need-element-copy-out-if4
-element-copy-out-if4 c =
-    let a = (entry c.before).args in
-    let limit = worker_limit a.workers in
-    omega (arith, leb-false limit a.victim (victim-fine c.before), limit_most a.workers)
-
-returns-4 : tie.Need-returns-4
-returns-4 c =
-    let asked = c.before.before.before in
-    unseen-refused _ _ _ _ (thief-fine asked) (victim-fine asked) c.before.before.if3.false c.if4.true
-
-returns-5 : tie.Need-returns-5
-returns-5 c =
-    let asked = c.before.before.before in
-    none-refused _ _ _ _ (thief-fine asked) (victim-fine asked) c.before.before.if3.false c.if4.false
-
-pub judge-workers-spec : {M : Type 1} → statement M
-judge-workers-spec =
+pub judge_workers_spec : {M : Type 1} → statement M
+judge_workers_spec =
     tie.close
     (tie.spec
-    no-worker-requires
-    returns
-    no-worker-requires-2
-    returns-2
-    returns-3
-    mul-if4
-    element-copy-out-if4
-    returns-4
-    returns-5)
+    no_worker-requires
+    returns-then-no_worker
+    no_worker-requires-2
+    returns-then-no_worker-2
+    returns-then-thief-victim
+    offset_bounds-latest-victim
+    bounds-latest-victim
+    returns-then-latest-victim
+    returns)
