@@ -1,5 +1,7 @@
 // What C asks about the order of a frame's steps. It stands apart from the questions about a tree, which need no tables and little stack:
 // a linker takes only the objects that are used.
+#![tactic(auto)]
+
 ghost use Rattle.std.specs.Prelude.{◌≡◌};
 ghost use Rattle.rules_dag.specs.Spans.{span_call};
 ghost use Rattle.dag_span.specs.Contract.{answers as span_answers};

@@ -7,17 +7,17 @@ use Rattle.frame_dag.specs.Contract.{flat_span}
 use Rattle.frame_dag.proofs.frame_span.Statement.{statement}
 use Rattle.frame_dag.proofs.frame_span.Tie as tie
 
-span-requires : tie.Need-span-requires
-span-requires c κs = search rules
+span-spanned-requires : tie.Need-span-spanned-requires
+span-spanned-requires c κs = search rules
 
-cast-t6 : tie.Need-overflow-cast-t6
-cast-t6 c = search rules
+overflow_cast-result : tie.Need-overflow_cast-result
+overflow_cast-result c = search rules
 
-same_length : tie.Need-same-length
-same_length c = search rules
+shape_of-chain : tie.Need-shape_of-chain
+shape_of-chain c = search rules
 
 returns : tie.Need-returns
-returns c = let spanned = c.before.before.before.span in (ap {B = FrameSpan} flat_span spanned.ensures.0, spanned.ensures.1)
+returns c = let spanned = c.span-spanned in (ap {B = FrameSpan} flat_span spanned.ensures.0, spanned.ensures.1)
 
-pub frame-span-spec : {M : Type 1} → statement M
-frame-span-spec = tie.close (tie.spec span-requires cast-t6 same_length returns)
+pub frame_span_spec : {M : Type 1} → statement M
+frame_span_spec = tie.close (tie.spec span-spanned-requires overflow_cast-result shape_of-chain returns)
