@@ -1,6 +1,8 @@
 // The walk over a trace's records (document 01, "Trace, log, run list"): each is read against the victim's latest phase and
 // begins a phase. What it comes to is a refusal with its position, or the first steps of the phases, the labels of the steps
 // and the loads.
+#![tactic(auto)]
+
 ghost use Rattle.std.specs.Prelude.{◌≡◌, true, ◌<◌, length, replicate};
 ghost use Rattle.rules.specs.Tree.{kinds, weights};
 ghost use Rattle.rules.specs.Bytes.{whole_records};
