@@ -2,6 +2,8 @@
 // so the load's highest set bit leaves four limits, and three comparisons tell the highest of them that does not exceed it. The
 // three above a lower power of 2 are the last three of the table, halved. So the table is read at three places that the
 // compiler knows: read at a place that varies, it would be laid out anew for each load.
+#![tactic(auto)]
+
 ghost use Rattle.std.specs.Prelude.{◌≡◌, ◌/◌, ◌^◌, ◌≤◌, ◌<◌};
 ghost use Rattle.rules_histogram.specs.Limits.{limits, place};
 ghost use Rattle.histogram_limits.specs.Terms.{power_count, Near, passes as passes_of};

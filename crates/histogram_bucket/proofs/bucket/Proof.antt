@@ -8,19 +8,19 @@ use Rattle.histogram_limits.specs.Laws.Buckets.{place-zero}
 use Rattle.histogram_bucket.proofs.bucket.Statement.{statement}
 use Rattle.histogram_bucket.proofs.bucket.Tie as tie
 
-returns : tie.Need-returns
-returns c =
-    let none : c.before.args.load ≡ 0 = omega (arith, eqb-true) in
+returns-then-load-eq0 : tie.Need-returns-then-load-eq0
+returns-then-load-eq0 c =
+    let none : c.args.load ≡ 0 = omega (arith, eqb-true) in
     rw none (sym place-zero)
 
-top-bit-requires : tie.Need-top-bit-requires
-top-bit-requires c κs = search rules
+top_bit-requires : tie.Need-top_bit-requires
+top_bit-requires c κs = search rules
 
 near-requires : tie.Need-near-requires
 near-requires c κs = search rules
 
-returns-2 : tie.Need-returns-2
-returns-2 c = search rules
+returns : tie.Need-returns
+returns c = search rules
 
-pub bucket-spec : {M : Type 1} → statement M
-bucket-spec = tie.close (tie.spec returns top-bit-requires near-requires returns-2)
+pub bucket_spec : {M : Type 1} → statement M
+bucket_spec = tie.close (tie.spec returns-then-load-eq0 top_bit-requires near-requires returns)

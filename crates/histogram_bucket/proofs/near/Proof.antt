@@ -6,71 +6,69 @@ use Rattle.histogram_limits.specs.Laws.Buckets.{place_near}
 use Rattle.histogram_bucket.proofs.near.Statement.{statement}
 use Rattle.histogram_bucket.proofs.near.Tie as tie
 
-table-requires : tie.Need-table-requires
-table-requires c κs = search rules
+table-limits-requires : tie.Need-table-limits-requires
+table-limits-requires c κs = search rules
 
-sub-halvings : tie.Need-overflow-sub-halvings
-sub-halvings c = search rules
+overflow_sub-halvings : tie.Need-overflow_sub-halvings
+overflow_sub-halvings c = search rules
 
-sub-halvings-2 : tie.Need-overflow-sub-halvings-2
-sub-halvings-2 c = search rules
+overflow_sub-halvings-2 : tie.Need-overflow_sub-halvings-2
+overflow_sub-halvings-2 c = search rules
 
-array-read-passes : tie.Need-array-read-passes
-array-read-passes c = search rules
+bounds-limits-173 : tie.Need-bounds-limits-173
+bounds-limits-173 c = search rules
 
-passes-requires : tie.Need-passes-requires
-passes-requires c κs = search rules
+passes-one-requires : tie.Need-passes-one-requires
+passes-one-requires c κs = search rules
 
-array-read-passes-2 : tie.Need-array-read-passes-2
-array-read-passes-2 c = search rules
+bounds-limits-174 : tie.Need-bounds-limits-174
+bounds-limits-174 c = search rules
 
-passes-requires-2 : tie.Need-passes-requires-2
-passes-requires-2 c κs = search rules
+passes-two-requires : tie.Need-passes-two-requires
+passes-two-requires c κs = search rules
 
-array-read-passes-3 : tie.Need-array-read-passes-3
-array-read-passes-3 c = search rules
+bounds-limits-175 : tie.Need-bounds-limits-175
+bounds-limits-175 c = search rules
 
-passes-requires-3 : tie.Need-passes-requires-3
-passes-requires-3 c κs = search rules
+passes-three-requires : tie.Need-passes-three-requires
+passes-three-requires c κs = search rules
 
-mul-result : tie.Need-overflow-mul-result
-mul-result c = search rules
+overflow_mul-result : tie.Need-overflow_mul-result
+overflow_mul-result c = search rules
 
-add-result : tie.Need-overflow-add-result
-add-result c = search rules
+overflow_add-result : tie.Need-overflow_add-result
+overflow_add-result c = search rules
 
-add-result-2 : tie.Need-overflow-add-result-2
-add-result-2 c = search rules
+overflow_add-result-2 : tie.Need-overflow_add-result-2
+overflow_add-result-2 c = search rules
 
-add-result-3 : tie.Need-overflow-add-result-3
-add-result-3 c = search rules
+overflow_add-result-3 : tie.Need-overflow_add-result-3
+overflow_add-result-3 c = search rules
 
-add-result-4 : tie.Need-overflow-add-result-4
-add-result-4 c = search rules
+overflow_add-result-4 : tie.Need-overflow_add-result-4
+overflow_add-result-4 c = search rules
 
 returns : tie.Need-returns
 returns c =
-    let read = c.before.before.before in
-    let start = read.before in
-    rw (c.before.before.passes.ensures.0, c.before.passes2.ensures.0, c.passes3.ensures.0, read.table.ensures)
-    (sym (place_near start.args.load start.args.bit start.requires))
+    rw (c.passes-one.ensures.0, c.passes-two.ensures.0, c.passes-three.ensures.0, c.table-limits.ensures)
+    (sym (place_near c.args.load c.args.bit c.requires))
 
-pub near-spec : {M : Type 1} → statement M
-near-spec =
+pub near_spec : {M : Type 1} → statement M
+near_spec =
     tie.close
     (tie.spec
-    table-requires
-    sub-halvings
-    sub-halvings-2
-    array-read-passes
-    passes-requires
-    array-read-passes-2
-    passes-requires-2
-    array-read-passes-3
-    passes-requires-3
-    mul-result
-    add-result
-    add-result-2
-    add-result-3
-    add-result-4
+    table-limits-requires
+    overflow_sub-halvings
+    overflow_sub-halvings-2
+    bounds-limits-173
+    passes-one-requires
+    bounds-limits-174
+    passes-two-requires
+    bounds-limits-175
+    passes-three-requires
+    overflow_mul-result
+    overflow_add-result
+    overflow_add-result-2
+    overflow_add-result-3
+    overflow_add-result-4
     returns)

@@ -9,11 +9,11 @@ use Rattle.histogram_bucket.specs.Laws.Bits.{bool_number}
 use Rattle.histogram_bucket.proofs.passes.Statement.{statement}
 use Rattle.histogram_bucket.proofs.passes.Tie as tie
 
-shr-result : tie.Need-overflow-shr-result
-shr-result c = search rules
+overflow_shr-result : tie.Need-overflow_shr-result
+overflow_shr-result c = search rules
 
-cast-result : tie.Need-overflow-cast-result
-cast-result c = search rules
+overflow_cast-result-2 : tie.Need-overflow_cast-result-2
+overflow_cast-result-2 c = search rules
 
 returns : tie.Need-returns
 unfolding passes
@@ -21,5 +21,5 @@ returns c =
     let test = leb (c.args.limit / 2 ^ c.args.halvings) c.args.load in
     (bool_number test, rw (bool_number test) (at_most_one test))
 
-pub passes-spec : {M : Type 1} → statement M
-passes-spec = tie.close (tie.spec shr-result cast-result returns)
+pub passes_spec : {M : Type 1} → statement M
+passes_spec = tie.close (tie.spec overflow_shr-result overflow_cast-result-2 returns)

@@ -7,17 +7,17 @@ use Rattle.histogram_bucket.specs.Laws.Bits.{leading_some, near_last, near_bit}
 use Rattle.histogram_bucket.proofs.top_bit.Statement.{statement}
 use Rattle.histogram_bucket.proofs.top_bit.Tie as tie
 
-sub-bit : tie.Need-overflow-sub-bit
-sub-bit c = leading_some _ c.requires c.ranges.load.fits
+overflow_sub-bit : tie.Need-overflow_sub-bit
+overflow_sub-bit c = leading_some _ c.requires c.ranges.load.fits
 
-sub-result : tie.Need-overflow-sub-result
-sub-result c = search rules
+overflow_sub-result : tie.Need-overflow_sub-result
+overflow_sub-result c = search rules
+
+returns-then-bit-ge-POWERS : tie.Need-returns-then-bit-ge-POWERS
+returns-then-bit-ge-POWERS c = near_last _ c.requires c.ranges.load.fits (omega (arith, leb-true))
 
 returns : tie.Need-returns
-returns c = near_last _ c.before.requires c.before.ranges.load.fits (omega (arith, leb-true))
+returns c = near_bit _ c.requires c.ranges.load.fits (omega (arith, leb-false))
 
-returns-2 : tie.Need-returns-2
-returns-2 c = near_bit _ c.before.requires c.before.ranges.load.fits (omega (arith, leb-false))
-
-pub top-bit-spec : {M : Type 1} → statement M
-top-bit-spec = tie.close (tie.spec sub-bit sub-result returns returns-2)
+pub top_bit_spec : {M : Type 1} → statement M
+top_bit_spec = tie.close (tie.spec overflow_sub-bit overflow_sub-result returns-then-bit-ge-POWERS returns)
