@@ -1,6 +1,8 @@
 // The limits of the histogram (document 02, #106), computed. Limit k is the fourth root of 2 to the power k, rounded down: the
 // square root of the square root, each rounded down. Both are taken a binary digit at a time, as by hand, and kept beside the
 // rest that their squares leave. So no test takes a square, and no number has more than 90 bits.
+#![tactic(auto)]
+
 ghost use Rattle.std.specs.Prelude.{◌≡◌, ◌+◌, ◌*◌, ◌^◌, ◌≤◌, ◌<◌, leb};
 ghost use Rattle.rules_histogram.specs.Limits.{limit_count, IsLimit};
 ghost use Rattle.limits_root.specs.Terms.{base, value, number, Rounded, Extended, Fourth};

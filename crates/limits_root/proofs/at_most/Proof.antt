@@ -7,15 +7,15 @@ use Rattle.limits_root.specs.Laws.{compared_alike}
 use Rattle.limits_root.proofs.at_most.Statement.{statement}
 use Rattle.limits_root.proofs.at_most.Tie as tie
 
-returns : tie.Need-returns
-returns c =
-    let at = c.before.before.before.before.before.args in
+returns-then-a-b : tie.Need-returns-then-a-b
+returns-then-a-b c =
+    let at = c.args in
     compared_alike at.a.low at.b.low (value at.a) (value at.b) (λ h. omega arith) (λ h. omega arith)
 
-returns-2 : tie.Need-returns-2
-returns-2 c =
-    let at = c.before.before.before.before.before.args in
+returns : tie.Need-returns
+returns c =
+    let at = c.args in
     compared_alike (suc at.a.high) at.b.high (value at.a) (value at.b) (λ h. omega arith) (λ h. omega arith)
 
-pub at-most-spec : {M : Type 1} → statement M
-at-most-spec = tie.close (tie.spec returns returns-2)
+pub at_most_spec : {M : Type 1} → statement M
+at_most_spec = tie.close (tie.spec returns-then-a-b returns)

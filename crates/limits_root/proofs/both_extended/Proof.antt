@@ -10,16 +10,16 @@ use Rattle.limits_root.proofs.both_extended.Tie as tie
 extended-requires : tie.Need-extended-requires
 extended-requires c κs = search rules
 
-extended-requires-2 : tie.Need-extended-requires-2
-extended-requires-2 c κs = search rules
+extended-square-requires : tie.Need-extended-square-requires
+extended-square-requires c κs = search rules
 
-extended-requires-3 : tie.Need-extended-requires-3
-extended-requires-3 c κs =
-    let roots = c.before.before.before.args.roots in
+extended-requires-2 : tie.Need-extended-requires-2
+extended-requires-2 c κs =
+    let roots = c.args.roots in
     (search rules, omega (arith, root_below roots.fourth (2 ^ 44) (omega arith)), search rules)
 
 returns : tie.Need-returns
 returns c = search rules
 
-pub both-extended-spec : {M : Type 1} → statement M
-both-extended-spec = tie.close (tie.spec extended-requires extended-requires-2 extended-requires-3 returns)
+pub both_extended_spec : {M : Type 1} → statement M
+both_extended_spec = tie.close (tie.spec extended-requires extended-square-requires extended-requires-2 returns)

@@ -10,63 +10,63 @@ use Rattle.limits_root.specs.Laws.{root_below, fourth_limit}
 use Rattle.limits_root.proofs.limit.Statement.{statement}
 use Rattle.limits_root.proofs.limit.Tie as tie
 
-abbrev invariant-loop : tie.invariant-loop
-invariant-loop k power₀ roots₀ power roots = (power ≤ k) × (power % 4 ≡ k % 4) × Fourth roots × (number roots.square ≡ 2 ^ power)
+abbrev invariant-loop-power : tie.invariant-loop-power
+invariant-loop-power k power₀ roots₀ power roots = (power ≤ k) × (power % 4 ≡ k % 4) × Fourth roots × (number roots.square ≡ 2 ^ power)
 
-abbrev decreases-loop : tie.decreases-loop
-decreases-loop k power₀ roots₀ power roots = k - power
+abbrev decreases-loop-power : tie.decreases-loop-power
+decreases-loop-power k power₀ roots₀ power roots = k - power
 
 -- The first four binary digits.
-first : (c : tie.Start invariant-loop decreases-loop) → 2 ^ (c.args.k % 4) < 16
+first : (c : tie.Start invariant-loop-power decreases-loop-power) → 2 ^ (c.args.k % 4) < 16
 first c = pow-lt {j = 4} (omega arith)
 
 -- The square root of 2 to the power so far has at most 88 bits.
-small : (c : tie.At-loop invariant-loop decreases-loop) → value c.loop.roots.square.root < 2 ^ 88
-small c = root_below c.loop.roots.square (2 ^ 88) (rw c.loop.invariant.3 (pow-lt {j = 176} (omega arith)))
+small : (c : tie.At-loop-power invariant-loop-power decreases-loop-power) → value c.loop-power.roots.square.root < 2 ^ 88
+small c = root_below c.loop-power.roots.square (2 ^ 88) (rw c.loop-power.invariant.3 (pow-lt {j = 176} (omega arith)))
 
-shl-both-extended : tie.Need-overflow-shl-both-extended invariant-loop decreases-loop
-shl-both-extended c = search rules
+overflow_shl-power : tie.Need-overflow_shl-power invariant-loop-power decreases-loop-power
+overflow_shl-power c = search rules
 
-both-extended-requires : tie.Need-both-extended-requires invariant-loop decreases-loop
+both_extended-roots-requires : tie.Need-both_extended-roots-requires invariant-loop-power decreases-loop-power
 unfolding number
-both-extended-requires c κs = (search rules, search rules, omega (arith, first c))
+both_extended-roots-requires c κs = (search rules, search rules, omega (arith, first c))
 
-loop-holds : tie.Need-loop-init invariant-loop decreases-loop
+loop-power-init : tie.Need-loop-power-init invariant-loop-power decreases-loop-power
 unfolding number
-loop-holds c = (omega arith, omega arith, c.both-extended.ensures.0, omega (arith, first c.before))
+loop-power-init c = (omega arith, omega arith, c.both_extended-roots.ensures.0, omega (arith, first c.before))
 
-both-extended-requires-2 : tie.Need-both-extended-requires-2 invariant-loop decreases-loop
-both-extended-requires-2 c κs = (c.before.loop.invariant.2, small c.before, search rules)
+both_extended-roots-requires-in-loop-power : tie.Need-both_extended-roots-requires-in-loop-power invariant-loop-power decreases-loop-power
+both_extended-roots-requires-in-loop-power c κs = (c.loop-power.invariant.2, small c.before, search rules)
 
-add-power : tie.Need-overflow-add-power invariant-loop decreases-loop
-add-power c = search rules
+overflow_add-power : tie.Need-overflow_add-power invariant-loop-power decreases-loop-power
+overflow_add-power c = search rules
 
-loop-less : tie.Need-loop-smaller invariant-loop decreases-loop
-loop-less c = search rules
+loop-power-smaller : tie.Need-loop-power-smaller invariant-loop-power decreases-loop-power
+loop-power-smaller c = search rules
 
-loop-again : tie.Need-loop-preserved invariant-loop decreases-loop
-loop-again c =
-    (omega arith, omega arith, c.both-extended2.ensures.0, omega (arith, pow-add 2 c.before.before.loop.power 4))
+loop-power-preserved : tie.Need-loop-power-preserved invariant-loop-power decreases-loop-power
+loop-power-preserved c =
+    (omega arith, omega arith, c.both_extended-roots-in-loop-power.ensures.0, omega (arith, pow-add 2 c.loop-power.power 4))
 
-returns : tie.Need-returns invariant-loop decreases-loop
+returns : tie.Need-returns invariant-loop-power decreases-loop-power
 returns c =
-    let at = c.before.loop in
+    let at = c.loop-power in
     let x = at.roots.fourth in
-    let whole : at.power ≡ c.before.before.before.args.k = omega arith in
+    let whole : at.power ≡ c.args.k = omega arith in
     let low : value x.root ≡ x.root.low = omega (arith, root_below x (2 ^ 44) (omega (arith, small c.before))) in
     rw (whole, low) at (fourth_limit at.power at.roots at.invariant.2 at.invariant.3)
 
-pub limit-spec : {M : Type 1} → statement M
-limit-spec =
+pub limit_spec : {M : Type 1} → statement M
+limit_spec =
     tie.close
     (tie.spec
-    invariant-loop
-    decreases-loop
-    shl-both-extended
-    both-extended-requires
-    loop-holds
-    both-extended-requires-2
-    add-power
-    loop-less
-    loop-again
+    invariant-loop-power
+    decreases-loop-power
+    overflow_shl-power
+    both_extended-roots-requires
+    loop-power-init
+    both_extended-roots-requires-in-loop-power
+    overflow_add-power
+    loop-power-smaller
+    loop-power-preserved
     returns)
