@@ -25,7 +25,7 @@ const ENTRIES: [(&str, &[&str]); 13] = [
     ("crates/policy/src/lib.rt", &["running_of"]),
 ];
 /// Before a function for C, and before its name.
-const FOR_C: &str = "#[no_mangle]\npub extern \"C\" fn ";
+const FOR_C: &str = "#[unsafe(no_mangle)]\npub extern \"C\" fn ";
 
 fn path(name: &str) -> PathBuf {
     Path::new(env!("CARGO_MANIFEST_DIR")).join("..").join(name)
@@ -44,7 +44,10 @@ fn files(folder: &str) -> Vec<String> {
         let file = file.expect("the folder can be read");
         let name = format!("{folder}/{}", file.file_name().into_string().expect("it is text"));
         if file.path().is_dir() {
-            found.extend(files(&name));
+            // What the prover keeps is no source.
+            if file.file_name() != "out" {
+                found.extend(files(&name));
+            }
         } else {
             found.push(name);
         }
@@ -54,11 +57,12 @@ fn files(folder: &str) -> Vec<String> {
 
 // ---- Imports ----
 
-/// The page of `CRATE.specs.Page`, or of `CRATE·specs.specs.Page`, which is how its own crate names it. None for a type that is
-/// declared in code.
+/// The page of `CRATE.specs.Page`. None for a type that is declared in code, and for what the language's library has.
 fn page(import: &str) -> Option<String> {
     let (of, place) = import.split_once('.').unwrap_or_else(|| panic!("{import} has no page"));
-    let of = of.strip_suffix("·specs").unwrap_or(of);
+    if !path(&format!("crates/{of}")).exists() {
+        return None;
+    }
     let place = place.strip_prefix("specs.").unwrap_or_else(|| panic!("{import} is no page of definitions"));
     (!place.starts_with("declared.")).then(|| format!("crates/{of}/specs/{}.antt", place.replace('.', "/")))
 }
@@ -66,8 +70,8 @@ fn page(import: &str) -> Option<String> {
 /// The pages that a text imports, each with the names that it has from there.
 fn imports(text: &str) -> Vec<(String, Vec<String>)> {
     let mut found = vec![];
-    for (at, _) in text.match_indices("use Rattle·") {
-        let rest = &text[at + "use Rattle·".len()..];
+    for (at, _) in text.match_indices("use Rattle.") {
+        let rest = &text[at + "use Rattle.".len()..];
         let line = rest.lines().next().unwrap_or("").trim_end().trim_end_matches(';');
         let (place, names) = if let Some((place, _)) = line.split_once(".{") {
             let names = rest.split_once('{').and_then(|(_, names)| names.split_once('}')).expect("the names end").0;
@@ -92,9 +96,9 @@ fn words(text: &str) -> BTreeSet<&str> {
 fn named(whole: &str, part: &str) -> BTreeSet<String> {
     let words = words(part);
     let uses = |name: &String| {
-        if name.contains('_') {
+        if name.contains('◌') {
             // An operator, with its arguments left out.
-            name.split('_').filter(|sign| !sign.is_empty()).all(|sign| words.contains(sign))
+            name.split('◌').filter(|sign| !sign.is_empty()).all(|sign| words.contains(sign))
         } else {
             words.contains(&name[..])
         }
@@ -112,7 +116,7 @@ fn contract(whole: &str, name: &str) -> String {
     assert_eq!(starts.next(), None, "there are two functions {name}");
     let begins = |line: &str, word: &str| line.trim_start().starts_with(word);
     let head = whole[at..].lines().take_while(|line| line.trim() != "{");
-    let clauses: Vec<&str> = head.skip_while(|line| !begins(line, "requires {") && !begins(line, "ensures ")).collect();
+    let clauses: Vec<&str> = head.skip_while(|line| !begins(line, "requires ") && !begins(line, "ensures ")).collect();
     assert!(clauses.iter().any(|line| begins(line, "ensures ")), "{name} promises nothing");
     clauses.join("\n")
 }
@@ -246,7 +250,7 @@ fn entries_require_nothing() {
     for (source, names) in entries() {
         let whole = text(&source, "//");
         for name in names {
-            assert!(!contract(&whole, &name).contains("requires {"), "{name} of {source} has a requires");
+            assert!(!contract(&whole, &name).contains("requires "), "{name} of {source} has a requires");
         }
     }
 }

@@ -122,7 +122,7 @@ fn rust_signature(function: &str) -> String {
 /// What the library exports.
 fn exported_functions() -> BTreeSet<String> {
     let whole: String = SOURCES.map(rust_text).concat();
-    whole.split("#[no_mangle]\npub extern \"C\" fn ").skip(1).map(rust_signature).collect()
+    whole.split("#[unsafe(no_mangle)]\npub extern \"C\" fn ").skip(1).map(rust_signature).collect()
 }
 
 /// What the Rust tests declare.

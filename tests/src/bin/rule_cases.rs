@@ -22,15 +22,15 @@ const ROWS: u64 = 10;
 /// A damaged tree is at most so long here: antt computes with lists of tens of records.
 const LONGEST: usize = 600;
 
-/// The rules' names of what program `phases` prints. `answerWith` of their table of cases has all others.
-const PROGRAM: &str = "inputPolicy inputCount inputTree inputTrace digits decimal line heading phaseLines refusedLine phasesText printed";
+/// The rules' names of what program `phases` prints. `answer_with` of their table of cases has all others.
+const PROGRAM: &str = "input_policy input_count input_tree input_trace digits decimal line heading phase_lines refused_line phases_text printed";
 
 /// The rules' names of the schedule maker.
-const MAKER: &str = "draw named begun write drawn robbable stealTurn turn round rounds made mostMade scheduleVerdict scheduleOf \
-     scheduleRefused scheduleCall";
+const MAKER: &str = "draw named begun write drawn robbable steal_turn turn round rounds made most_made schedule_verdict schedule_of \
+     schedule_refused schedule_call";
 
 /// The rules' names of what a step waits for, and the rows' own.
-const WAITING: &str = "awaited highest find awaitedBy";
+const WAITING: &str = "awaited highest find awaited_by";
 
 
 /// Bytes as the rules' tables write them: a hexadecimal numeral.
@@ -107,12 +107,12 @@ fn record_row(out: &mut String, seed: u64) {
     let n = tree.len() / 8;
     let mut log = lent(&mut rng, 4 * n);
     let mut trace = lent(&mut rng, 2 * n.saturating_sub(1));
-    let call = format!("recordCall {workers} {policy} {} {} {} {}", bytes(&tree), bytes(&events), bytes(&log), bytes(&trace));
+    let call = format!("record_call {workers} {policy} {} {} {} {}", bytes(&tree), bytes(&events), bytes(&log), bytes(&trace));
     let answer = record(policy, workers, &tree, &events, &mut log, &mut trace);
     write!(
         out,
-        "record {{ got = {call}; says = record {{ verdict = record {{ number = {}; position = {} }}; logCount = {}; \
-         traceCount = {}; finished = {}; loads = {}; heaviest = {}; classLoads = {}; log = {}; trace = {} }} }} ∷ ",
+        "record {{ got = {call}; says = record {{ verdict = record {{ number = {}; position = {} }}; log_count = {}; \
+         trace_count = {}; finished = {}; loads = {}; heaviest = {}; class_loads = {}; log = {}; trace = {} }} }} ∷ ",
         answer.number,
         answer.position,
         answer.log_count,
@@ -145,7 +145,7 @@ fn replay_row(out: &mut String, seed: u64) {
     let records = steals(&mut rng, policy, nearest_count(workers), &bytes_of_tree);
     let n = bytes_of_tree.len() / 8;
     let mut list = lent(&mut rng, 4 * n);
-    let call = format!("replayCall {workers} {policy} {} {} {}", bytes(&bytes_of_tree), bytes(&records), bytes(&list));
+    let call = format!("replay_call {workers} {policy} {} {} {}", bytes(&bytes_of_tree), bytes(&records), bytes(&list));
     let answer = replay(policy, workers, &bytes_of_tree, &records, &mut list);
     write!(out, "record {{ got = {call}; says = {} }} ∷ ", replayed(&answer, &list)).expect("a string takes all");
 }
@@ -153,8 +153,8 @@ fn replay_row(out: &mut String, seed: u64) {
 /// What a replay answers and writes, as the rules' record.
 fn replayed(answer: &ReplayAnswer, list: &[u8]) -> String {
     format!(
-        "record {{ verdict = record {{ number = {}; position = {} }}; phaseCount = {}; loads = {}; heaviest = {}; \
-         classLoads = {}; list = {} }}",
+        "record {{ verdict = record {{ number = {}; position = {} }}; phase_count = {}; loads = {}; heaviest = {}; \
+         class_loads = {}; list = {} }}",
         answer.number,
         answer.position,
         answer.phases,
@@ -198,7 +198,7 @@ fn idle_row(out: &mut String, seed: u64) {
     let (run, events) = run_for_a_while(&mut rng, policy, workers, &tree, 24);
     write!(
         out,
-        "record {{ got = answerWith {workers} (idling {policy} {} {}); says = idle {} {} {} {} }} ∷ ",
+        "record {{ got = answer_with {workers} (idling {policy} {} {}); says = idle {} {} {} {} }} ∷ ",
         bytes(&tree),
         bytes(&events),
         run.finished(),
@@ -224,7 +224,7 @@ fn awaited_row(out: &mut String, seed: u64) {
         events.extend(run_all_but(&mut run, &kept).concat());
     }
     let awaited: Vec<u64> = (0..steps).map(|step| run.awaited_before(step).unwrap_or(steps) as u64).collect();
-    let call = format!("awaitedBy {workers} {policy} {} {}", bytes(&tree), bytes(&events));
+    let call = format!("awaited_by {workers} {policy} {} {}", bytes(&tree), bytes(&events));
     write!(out, "record {{ got = {call}; says = {} }} ∷ ", numbers(&awaited)).expect("a string takes all");
 }
 
@@ -234,11 +234,11 @@ fn schedule_row(out: &mut String, seed: u64) {
     let (policy, tree) = scene(&mut rng);
     let (workers, start) = (any_count(&mut rng), any_seed(&mut rng));
     let mut events = lent(&mut rng, (3 * (tree.len() / 8)).saturating_sub(1));
-    let call = format!("scheduleCall {workers} {policy} {} {start} {}", bytes(&tree), bytes(&events));
+    let call = format!("schedule_call {workers} {policy} {} {start} {}", bytes(&tree), bytes(&events));
     let answer = schedule(policy, workers, &tree, start, &mut events);
     write!(
         out,
-        "record {{ got = {call}; says = record {{ verdict = record {{ number = {}; position = {} }}; eventCount = {}; \
+        "record {{ got = {call}; says = record {{ verdict = record {{ number = {}; position = {} }}; event_count = {}; \
          events = {} }} }} ∷ ",
         answer.number,
         answer.position,
@@ -268,7 +268,7 @@ fn span_row(out: &mut String, seed: u64) {
     write!(
         out,
         "record {{ got = {call}; says = record {{ verdict = record {{ number = {}; position = {} }}; work = {}; span = {}; \
-         chainLength = {}; chain = {} }} }} ∷ ",
+         chain_length = {}; chain = {} }} }} ∷ ",
         answer.number,
         answer.position,
         answer.work,
@@ -328,9 +328,9 @@ fn tables(out: &mut String, name: &str, row: &str, names: &str, from: u64, theor
         for k in 0..ROWS {
             write_row(&mut rows, from + t * ROWS + k);
         }
-        writeln!(out, "unfoldable {name}-{t} : List {row}\n{name}-{t} = {rows}[]\n").expect("a string takes all");
-        writeln!(out, "{name}-{t}-holds : map (λ r. r .got) {name}-{t} ≡ map (λ r. r .says) {name}-{t}").expect("a string takes all");
-        writeln!(out, "unfolding {names} {name}-{t}\n{name}-{t}-holds = refl\n").expect("a string takes all");
+        writeln!(out, "unfoldable {name}_{t} : List {row}\n{name}_{t} = {rows}[]\n").expect("a string takes all");
+        writeln!(out, "{name}_{t}_holds : map (λ r. r.got) {name}_{t} ≡ map (λ r. r.says) {name}_{t}").expect("a string takes all");
+        writeln!(out, "unfolding {names} {name}_{t}\n{name}_{t}_holds = refl\n").expect("a string takes all");
     }
 }
 
@@ -339,33 +339,29 @@ fn rules_page(from: u64, theorems: u64) -> String {
     let [program, maker] = [PROGRAM, MAKER].map(|names| names.replace(' ', ", "));
     let mut out = String::from(
         "-- Random calls and the simulator's answers.\n\
-         use Prim.Native.Nat.{ℕ}\n\
-         use mathlib.Core.Path.{_≡_, refl}\n\
-         use mathlib.Core.Bool.{true, false}\n\
-         use mathlib.Core.List.{List, [], _∷_, map}\n\
-         use mathlib.Core.Option.{none, some}\n\
-         use lib.ListN.{length}\n\
-         use Rattle·rules.specs.Bytes.{records, count, find, highest}\n\
-         use Rattle·rules.specs.Tree.{kinds}\n\
-         use Rattle·rules.specs.Scheduling.{awaited}\n\
-         use Rattle·rules.specs.Calls.{recordWalk, Recorded, recordCall, Replayed, replayCall}\n\
-         use Rattle·rules.specs.Program.{PROGRAM}\n\
-         use Rattle·rules_schedule.specs.Schedules.{Scheduled, MAKER}\n\
-         use Rattle·rules.specs.Cases.{idling, Answer, idle, answerWith, bytes}\n\n\
+         use Rattle.std.specs.Prelude.{ℕ, ◌≡◌, refl, true, false, List, [], ◌∷◌, map, length}\n\
+         use Rattle.std.proofs.Math.Option.{none, some}\n\
+         use Rattle.rules.specs.Bytes.{records, count, find, highest}\n\
+         use Rattle.rules.specs.Tree.{kinds}\n\
+         use Rattle.rules.specs.Scheduling.{awaited}\n\
+         use Rattle.rules.specs.Calls.{record_walk, Recorded, record_call, Replayed, replay_call}\n\
+         use Rattle.rules.specs.Program.{PROGRAM}\n\
+         use Rattle.rules_schedule.specs.Schedules.{Scheduled, MAKER}\n\
+         use Rattle.rules.specs.Cases.{idling, Answer, idle, answer_with, bytes}\n\n\
          record RecordRow : Type 0 where\n  got : Recorded\n  says : Recorded\n\n\
          record ReplayRow : Type 0 where\n  got : Replayed\n  says : Replayed\n\n\
          record ScheduleRow : Type 0 where\n  got : Scheduled\n  says : Scheduled\n\n\
          record IdleRow : Type 0 where\n  got : Answer\n  says : Answer\n\n\
          record NumbersRow : Type 0 where\n  got : List ℕ\n  says : List ℕ\n\n\
-         unfoldable awaitedBy : ℕ → ℕ → List ℕ → List ℕ → List ℕ\n\
-         awaitedBy w p tree events =\n    \
+         unfoldable awaited_by : ℕ → ℕ → List ℕ → List ℕ → List ℕ\n\
+         awaited_by w p tree events =\n    \
          let ks = kinds tree in\n    \
-         let log = recordWalk w p ks (records 2 events) .state .log in\n    \
+         let log = (record_walk w p ks (records 2 events)).state.log in\n    \
          map (λ i. elim (awaited ks log i) [ none ↦ length ks | some j ↦ j ]) (count 0 (length ks))\n\n",
     )
     .replace("PROGRAM", &program)
     .replace("MAKER", &maker);
-    let names = format!("answerWith bytes {PROGRAM} {MAKER} {WAITING}");
+    let names = format!("answer_with bytes {PROGRAM} {MAKER} {WAITING}");
     tables(&mut out, "recorded", "RecordRow", &names, from, theorems, record_row);
     tables(&mut out, "replayed", "ReplayRow", &names, from, theorems, replay_row);
     tables(&mut out, "scheduled", "ScheduleRow", &names, from, theorems, schedule_row);
@@ -379,11 +375,10 @@ fn rules_page(from: u64, theorems: u64) -> String {
 fn dag_page(from: u64, theorems: u64) -> String {
     let mut out = String::from(
         "-- Random calls of work and span, and the simulator's answers.\n\
-         use mathlib.Core.Path.{_≡_, refl}\n\
-         use mathlib.Core.List.{List, [], _∷_, map}\n\
-         use Rattle·rules.specs.Cases.{bytes}\n\
-         use Rattle·rules_dag.specs.Spans.{Spanned}\n\
-         use Rattle·rules_dag.specs.Chains.{answered}\n\n\
+         use Rattle.std.specs.Prelude.{◌≡◌, refl, List, [], ◌∷◌, map}\n\
+         use Rattle.rules.specs.Cases.{bytes}\n\
+         use Rattle.rules_dag.specs.Spans.{Spanned}\n\
+         use Rattle.rules_dag.specs.Chains.{answered}\n\n\
          record SpanRow : Type 0 where\n  got : Spanned\n  says : Spanned\n\n",
     );
     tables(&mut out, "spanned", "SpanRow", "answered bytes", from, theorems, span_row);
@@ -394,11 +389,10 @@ fn dag_page(from: u64, theorems: u64) -> String {
 fn histogram_page(from: u64, theorems: u64) -> String {
     let mut out = String::from(
         "-- Random additions to histograms, and the simulator's answers.\n\
-         use mathlib.Core.Path.{_≡_, refl}\n\
-         use mathlib.Core.List.{List, [], _∷_, map}\n\
-         use Rattle·rules.specs.Cases.{bytes}\n\
-         use Rattle·rules_histogram.specs.Histograms.{Added}\n\
-         use Rattle·rules_histogram.specs.Additions.{added}\n\n\
+         use Rattle.std.specs.Prelude.{◌≡◌, refl, List, [], ◌∷◌, map}\n\
+         use Rattle.rules.specs.Cases.{bytes}\n\
+         use Rattle.rules_histogram.specs.Histograms.{Added}\n\
+         use Rattle.rules_histogram.specs.Additions.{added}\n\n\
          record AddedRow : Type 0 where\n  got : Added\n  says : Added\n\n",
     );
     tables(&mut out, "additions", "AddedRow", "added bytes", from, theorems, histogram_row);
