@@ -251,7 +251,7 @@ fn lengths_that_cannot_be_joined_are_refused() {
 struct Scene(PathBuf);
 
 /// What `rt` does where all is well. It takes a moment, so that the next change has a later time.
-const PROVES: &str = "sleep 0.05\nmkdir -p target/bin\ncp tools/phases target/bin/";
+const PROVES: &str = "sleep 0.05\nmkdir -p crates/phases/out\ncp tools/phases crates/phases/out/";
 
 /// What `bin/phases` is given.
 const INPUT: &str = "an input\n";
@@ -267,7 +267,7 @@ fn ended(child: Child) -> Ended {
 impl Scene {
     fn new(name: &str, rt: &str) -> Scene {
         let scene = Scene(folder(name));
-        for folder in ["bin", "tools", "crates/one/src"] {
+        for folder in ["bin", "tools", "crates/one/src", "crates/phases/src"] {
             fs::create_dir_all(scene.0.join(folder)).expect("the folder can be made");
         }
         fs::copy(root().join("bin/phases"), scene.0.join("bin/phases")).expect("the script can be copied");
@@ -291,7 +291,7 @@ impl Scene {
 
     /// `rt` does this, once it has noted what is asked and taken all of standard input.
     fn set_rt(&self, body: &str) {
-        self.script("tools/rt", &format!("echo \"rt $*\" >>runs\ncat >>eaten\n{body}"));
+        self.script("tools/rt", &format!("cd ../..\necho \"rt $*\" >>runs\ncat >>eaten\n{body}"));
     }
 
     /// `bin/phases`, which is found by its path from elsewhere.
@@ -330,7 +330,7 @@ impl Scene {
     fn asked(&self) -> usize {
         let [runs, eaten] = ["runs", "eaten"].map(|name| text(&fs::read(self.0.join(name)).unwrap_or_default()));
         assert_eq!(eaten, "");
-        runs.lines().for_each(|line| assert_eq!(line, "rt check phases"));
+        runs.lines().for_each(|line| assert_eq!(line, "rt run"));
         runs.lines().count()
     }
 

@@ -10,7 +10,7 @@ use frame_tests::histogram::{limits, LIMITS};
 
 /// What the program prints, as the gate has it.
 const OUTPUT: &str = "crates/limits/stdout";
-/// The proved program, which `rt check` and `rt ci` make.
+/// The proved program, which `bin/limits` makes.
 const PROGRAM: &str = "target/bin/limits";
 /// Where the constant stands, and how its declaration begins.
 const SOURCE: &str = "crates/histogram_bucket/src/lib.rt";
@@ -57,7 +57,7 @@ fn same_limits(found: Option<Vec<u64>>, what: &str) {
 #[test]
 fn the_output_of_the_program() {
     same_limits(printed_numbers(&text(OUTPUT)), OUTPUT);
-    assert!(path(PROGRAM).exists(), "{PROGRAM} is missing: `rt check limits` makes it");
+    assert!(path(PROGRAM).exists(), "{PROGRAM} is missing: `bin/limits` makes it");
     let output = Command::new(path(PROGRAM)).output().expect("the program starts");
     assert!(output.status.success() && output.stderr.is_empty(), "{output:?}");
     assert!(output.stdout == text(OUTPUT).as_bytes(), "{PROGRAM} does not print {OUTPUT}");
@@ -109,12 +109,12 @@ fn by_the_script(name: &str, rt: &str) -> (Option<i32>, String, String) {
     if scene.exists() {
         fs::remove_dir_all(&scene).expect("the folder of the run before can be removed");
     }
-    for folder in ["bin", "tools"] {
+    for folder in ["bin", "tools", "crates/limits/out"] {
         fs::create_dir_all(scene.join(folder)).expect("the folder can be made");
     }
     fs::copy(path("bin/limits"), scene.join("bin/limits")).expect("the script can be copied");
     script(&scene.join("tools/program"), "echo 1\necho 2");
-    script(&scene.join("tools/rt"), &format!("[ \"$*\" = 'check limits' ] || exit 9\n{rt}"));
+    script(&scene.join("tools/rt"), &format!("[ \"$*\" = run ] && cd ../.. || exit 9\n{rt}"));
     let tools = format!("{}:{}", scene.join("tools").display(), std::env::var("PATH").expect("there is a PATH"));
     let output = Command::new(scene.join("bin/limits")).env("PATH", tools).output().expect("the script starts");
     let text = |bytes| String::from_utf8(bytes).expect("it is text");
@@ -123,7 +123,7 @@ fn by_the_script(name: &str, rt: &str) -> (Option<i32>, String, String) {
 
 #[test]
 fn the_script_proves_and_runs_the_program() {
-    let proves = "echo proved\nmkdir -p target/bin\ncp tools/program target/bin/limits";
+    let proves = "echo proved\ncp tools/program crates/limits/out/limits";
     assert_eq!(by_the_script("proved", proves), (Some(0), "1\n2\n".to_owned(), String::new()));
     let (status, printed, said) = by_the_script("failed", &format!("{proves}\necho why\nexit 1"));
     assert_eq!((status, printed.as_str()), (Some(2), ""));

@@ -30,10 +30,10 @@ fn root() -> PathBuf {
     Path::new(env!("CARGO_MANIFEST_DIR")).join("..")
 }
 
-/// The proved program, which `rt check` and `rt ci` make, and the simulator's.
+/// The proved program, which `bin/phases` makes, and the simulator's.
 fn programs() -> [PathBuf; 2] {
     let proved = root().join("target/bin/phases");
-    assert!(proved.exists(), "{} is missing: `rt check phases` makes it", proved.display());
+    assert!(proved.exists(), "{} is missing: `bin/phases` makes it", proved.display());
     [proved, env!("CARGO_BIN_EXE_simulate_phases").into()]
 }
 
