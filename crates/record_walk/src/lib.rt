@@ -1,5 +1,7 @@
 // The walk over a list of events: each goes through the same functions as a single event, on arrays of the walk's own and with the
 // tree's tables, which the call has filled once. What it comes to is a refusal with its position, or the log, the trace and the loads.
+#![tactic(auto)]
+
 mod output;
 
 ghost use Rattle.std.specs.Prelude.{◌≡◌, ◌+◌, ◌*◌, ◌/◌, ◌<◌, length, get_or};

@@ -17,27 +17,27 @@ use Rattle.record_walk.specs.Laws.Turns.{ran-turn, stole-fits, stole-movable, st
 use Rattle.record_walk.proofs.walk.Statement.{statement}
 use Rattle.record_walk.proofs.walk.Tie as tie
 
-abbrev invariant-loop : tie.invariant-loop
-invariant-loop tree ends openers sums setup events log₀ trace₀ n place₀ held₀ latest₀ low₀ base₀ steals₀ loads₀ logs₀ k₀
+abbrev invariant-loop-k : tie.invariant-loop-k
+invariant-loop-k tree ends openers sums setup events log₀ trace₀ n place₀ held₀ latest₀ low₀ base₀ steals₀ loads₀ logs₀ k₀
     log trace place held latest low base steals loads logs k =
     (k ≤ length events / 2)
     × Recording setup.workers setup.policy tree events k (fields_of place held latest low base steals setup) log trace loads logs steals
 
-abbrev decreases-loop : tie.decreases-loop
-decreases-loop tree ends openers sums setup events log₀ trace₀ n place₀ held₀ latest₀ low₀ base₀ steals₀ loads₀ logs₀ k₀
+abbrev decreases-loop-k : tie.decreases-loop-k
+decreases-loop-k tree ends openers sums setup events log₀ trace₀ n place₀ held₀ latest₀ low₀ base₀ steals₀ loads₀ logs₀ k₀
     log trace place held latest low base steals loads logs k =
     length events / 2 - k
 
 -- ---- the function's entry
 
-abbrev entry : tie.At-loop invariant-loop decreases-loop → tie.Start invariant-loop decreases-loop
+abbrev entry : tie.At-loop-k invariant-loop-k decreases-loop-k → tie.Start invariant-loop-k decreases-loop-k
 entry c = c.before.before.before.before.before.before.before.before.before.before
 
-weighed : (c : tie.At-loop invariant-loop decreases-loop) → let a = (entry c).args in Weighed a.tree.now a.ends.now a.sums.now
+weighed : (c : tie.At-loop-k invariant-loop-k decreases-loop-k) → let a = (entry c).args in Weighed a.tree.now a.ends.now a.sums.now
 weighed c =
     let tables = (entry c).requires.1 in
     let n = length (kinds (entry c).args.tree.now) in
-    let fits = c.before.before.before.before.before.before.shared-slice-known4.given n in
+    let fits = c.shared_slice_known-4-1.given n in
     record {
       sized = tables.0.0;
       right = tables.0.1;
@@ -47,233 +47,225 @@ weighed c =
     }
 
 -- Log and trace have kept their lengths.
-lent-log : (c : tie.At-loop invariant-loop decreases-loop) → length c.loop.log ≡ length (entry c).args.log.now
-lent-log c = c.loop.invariant.1.log_room ∙ sym (entry c).requires.1.1.1.1.0
+lent-log : (c : tie.At-loop-k invariant-loop-k decreases-loop-k) → length c.loop-k.log ≡ length (entry c).args.log.now
+lent-log c = c.loop-k.invariant.1.log_room ∙ sym (entry c).requires.1.1.1.1.0
 
-lent-trace : (c : tie.At-loop invariant-loop decreases-loop) → length c.loop.trace ≡ length (entry c).args.trace.now
-lent-trace c = c.loop.invariant.1.trace_room ∙ sym (entry c).requires.1.1.1.1.1
+lent-trace : (c : tie.At-loop-k invariant-loop-k decreases-loop-k) → length c.loop-k.trace ≡ length (entry c).args.trace.now
+lent-trace c = c.loop-k.invariant.1.trace_room ∙ sym (entry c).requires.1.1.1.1.1
 
 -- The state before an event.
-abbrev state : tie.At-loop invariant-loop decreases-loop → Fields
+abbrev state : tie.At-loop-k invariant-loop-k decreases-loop-k → Fields
 state c =
-    let l = c.loop in
+    let l = c.loop-k in
     fields_of l.place l.held l.latest l.low l.base l.steals (entry c).args.setup
 
 -- ---- a turn
 
 -- Where the event's bytes have been read.
-abbrev read : tie.After-event-on invariant-loop decreases-loop → tie.After-event-at invariant-loop decreases-loop
+abbrev read : tie.After-event_on-moved invariant-loop-k decreases-loop-k → tie.After-event_at-event invariant-loop-k decreases-loop-k
 read c = c.before.before.before.before.before.before
 
-abbrev top : tie.After-event-on invariant-loop decreases-loop → tie.At-loop invariant-loop decreases-loop
+abbrev top : tie.After-event_on-moved invariant-loop-k decreases-loop-k → tie.At-loop-k invariant-loop-k decreases-loop-k
 top c = (read c).before.before
 
 -- The state after the event.
-abbrev next : tie.After-event-on invariant-loop decreases-loop → Fields
+abbrev next : tie.After-event_on-moved invariant-loop-k decreases-loop-k → Fields
 next c =
-    let r = c.event-on.new.1.1.1 in
-    fields_of r.0 r.1.0 r.1.1.0 r.1.1.1.0 r.1.1.1.1.0 c.event-on.result.steals (entry (top c)).args.setup
+    let r = c.event_on-moved.new in
+    fields_of r.place r.held r.phase r.low r.base c.event_on-moved.result.steals (entry (top c)).args.setup
 
-turn : (c : tie.After-event-on invariant-loop decreases-loop)
+turn : (c : tie.After-event_on-moved invariant-loop-k decreases-loop-k)
     → let at = top c in
     let a = (entry at).args in
-    let l = at.loop in
+    let l = at.loop-k in
     Turn a.setup.workers a.setup.policy a.tree.now a.events.now l.k (state at) l.log l.trace l.loads l.logs
-    (read c).event-at.result.first (read c).event-at.result.second c.event-on.result.outcome (next c)
+    (read c).event_at-event.result.first (read c).event_at-event.result.second c.event_on-moved.result.outcome (next c)
 turn c =
     record {
-      accepts = (entry (top c)).pre.0;
-      so = (top c).loop.invariant.1;
-      more = (read c).before.loop-test.true;
-      first = ap (λ (e : Event). e.first) (read c).event-at.ensures;
-      second = ap (λ (e : Event). e.second) (read c).event-at.ensures;
-      moved = c.event-on.ensures;
+      accepts = (entry (top c)).requires.0;
+      so = (top c).loop-k.invariant.1;
+      more = (read c).loop-k-test.true;
+      first = ap (λ (e : Event). e.first) (read c).event_at-event.ensures;
+      second = ap (λ (e : Event). e.second) (read c).event_at-event.ensures;
+      moved = c.event_on-moved.ensures;
     }
 
 -- The event has run a step, or stolen one.
-abbrev ran : tie.After-outcome invariant-loop decreases-loop → tie.After-event-on invariant-loop decreases-loop
-ran c = c.before.before.before
+abbrev ran : tie.In-Ran invariant-loop-k decreases-loop-k → tie.After-event_on-moved invariant-loop-k decreases-loop-k
+ran c = c.before.before
 
-abbrev stole : tie.After-outcome2 invariant-loop decreases-loop → tie.After-event-on invariant-loop decreases-loop
-stole c = c.before.before.before
+abbrev stole : tie.In-Stole invariant-loop-k decreases-loop-k → tie.After-event_on-moved invariant-loop-k decreases-loop-k
+stole c = c.before.before
 
 -- ---- the needs
 
-steps-requires : tie.Need-steps-requires invariant-loop decreases-loop
-steps-requires c κs = search rules
+steps-n-requires : tie.Need-steps-n-requires invariant-loop-k decreases-loop-k
+steps-n-requires c κs = search rules
 
-array-write-held : tie.Need-array-write-held invariant-loop decreases-loop
-array-write-held c = search rules
+bounds-held-0 : tie.Need-bounds-held-0 invariant-loop-k decreases-loop-k
+bounds-held-0 c = search rules
 
-mul-loads : tie.Need-overflow-mul-loads invariant-loop decreases-loop
-mul-loads c = search rules
+offset_bounds-sums-n : tie.Need-offset_bounds-sums-n invariant-loop-k decreases-loop-k
+offset_bounds-sums-n c = search rules
 
-shared-slice-read-loads : tie.Need-shared-slice-read-loads invariant-loop decreases-loop
-shared-slice-read-loads c = search rules
+bounds-sums-n : tie.Need-bounds-sums-n invariant-loop-k decreases-loop-k
+bounds-sums-n c = search rules
 
-array-write-loads : tie.Need-array-write-loads invariant-loop decreases-loop
-array-write-loads c = search rules
+bounds-loads-0 : tie.Need-bounds-loads-0 invariant-loop-k decreases-loop-k
+bounds-loads-0 c = search rules
 
-loop-holds : tie.Need-loop-init invariant-loop decreases-loop
-loop-holds c =
-    let at = c.before.before.before.before.before.before.before.before.before in
-    let a = at.args in
-    let lent = at.requires.1.1.1 in (
+loop-k-init : tie.Need-loop-k-init invariant-loop-k decreases-loop-k
+loop-k-init c =
+    let a = c.args in
+    let lent = c.requires.1.1.1 in (
       omega arith,
-      turn-start _ _ a.tree.now a.events.now at.requires.0 a.sums.now lent.0.1 _ c.before.steps.ensures
+      turn-start _ _ a.tree.now a.events.now c.requires.0 a.sums.now lent.0.1 _ c.steps-n.ensures
           a.log.now a.trace.now lent.1.0 lent.1.1 _ (fresh_arrays a.setup) _ refl,
     )
 
-add-k : tie.Need-overflow-add-k invariant-loop decreases-loop
-add-k c = omega arith
+overflow_add-k : tie.Need-overflow_add-k invariant-loop-k decreases-loop-k
+overflow_add-k c = omega arith
 
-event-at-requires : tie.Need-event-at-requires invariant-loop decreases-loop
-event-at-requires c κs = c.loop-test.true
+event_at-event-requires : tie.Need-event_at-event-requires invariant-loop-k decreases-loop-k
+event_at-event-requires c κs = c.loop-k-test.true
 
-event-on-requires : tie.Need-event-on-requires invariant-loop decreases-loop
-event-on-requires c κs =
-    let at = c.before.before.before.before.before.before.before in
-    let a = (entry at).args in
-    let tables = (entry at).requires.1 in
-    let so = at.loop.invariant.1 in
-    shows_hints _ a.tree.now (start-frame _ _ a.tree.now (entry at).requires.0) (state at) so.run so.shows
+event_on-moved-requires : tie.Need-event_on-moved-requires invariant-loop-k decreases-loop-k
+event_on-moved-requires c κs =
+    let a = (entry c.before.before.before.before.before.before.before).args in
+    let tables = (entry c.before.before.before.before.before.before.before).requires.1 in
+    let so = c.loop-k.invariant.1 in
+    shows_hints _ a.tree.now (start-frame _ _ a.tree.now (entry c.before.before.before.before.before.before.before).requires.0) (state c.before.before.before.before.before.before.before) so.run so.shows
     a.openers.now (omega (arith, tables.1.0.0)) a.ends.now tables.0.1 tables.1.0.1
 
-wide-requires : tie.Need-wide-requires invariant-loop decreases-loop
-wide-requires c κs = search rules
+wide-before-requires : tie.Need-wide-before-requires invariant-loop-k decreases-loop-k
+wide-before-requires c κs = search rules
 
-enum-known-outcome : tie.Need-enum-known-outcome invariant-loop decreases-loop
-enum-known-outcome c = search rules
+enum_known-outcome : tie.Need-enum_known-outcome invariant-loop-k decreases-loop-k
+enum_known-outcome c = search rules
 
-put-entry-requires : tie.Need-put-entry-requires invariant-loop decreases-loop
-put-entry-requires c κs =
-    let o = c.before.before in
-    (ran-fits (turn (ran o)) o.outcome.given.1).0
+put_entry-requires : tie.Need-put_entry-requires invariant-loop-k decreases-loop-k
+put_entry-requires c κs =
+    (ran-fits (turn (ran c.before)) c.in-Ran.is).0
 
-add-logs : tie.Need-overflow-add-logs invariant-loop decreases-loop
-add-logs c =
-    let o = c.before.before.before.before.before in
-    omega (arith, (ran-fits (turn (ran o)) o.outcome.given.1).1)
+overflow_add-logs : tie.Need-overflow_add-logs invariant-loop-k decreases-loop-k
+overflow_add-logs c =
+    omega (arith, (ran-fits (turn (ran c.before.before.before.before)) c.in-Ran.is).1)
 
-loop-less : tie.Need-loop-smaller invariant-loop decreases-loop
-loop-less c = omega (arith, (turn (ran c.before.before.before.before.before)).more)
+loop-k-smaller-in-Ran : tie.Need-loop-k-smaller-in-Ran invariant-loop-k decreases-loop-k
+loop-k-smaller-in-Ran c = omega (arith, (turn (ran c.before.before.before.before)).more)
 
-loop-again : tie.Need-loop-preserved invariant-loop decreases-loop
-loop-again c =
-    let o = c.before.before.before.before.before in
-    let t = turn (ran o) in
-    (omega (arith, t.more), ran-turn t o.outcome.given.1 _ c.before.before.put-entry.ensures)
+loop-k-preserved-in-Ran : tie.Need-loop-k-preserved-in-Ran invariant-loop-k decreases-loop-k
+loop-k-preserved-in-Ran c =
+    let t = turn (ran c.before.before.before.before) in
+    (omega (arith, t.more), ran-turn t c.in-Ran.is _ c.put_entry.ensures)
 
-enum-known-outcome-2 : tie.Need-enum-known-outcome-2 invariant-loop decreases-loop
-enum-known-outcome-2 c = search rules
+enum_known-outcome-in-Stole-1 : tie.Need-enum_known-outcome-in-Stole-1 invariant-loop-k decreases-loop-k
+enum_known-outcome-in-Stole-1 c = search rules
 
 -- A steal's record has room, and it names two of the workers.
-fits : (c : tie.After-outcome2 invariant-loop decreases-loop)
+fits : (c : tie.In-Stole invariant-loop-k decreases-loop-k)
     → let at = top (stole c) in
-    let event = (read (stole c)).event-at.result in
-    (4 * at.loop.steals + 4 ≤ length at.loop.trace) × (event.first < 16) × (event.second < 16)
+    let event = (read (stole c)).event_at-event.result in
+    (4 * at.loop-k.steals + 4 ≤ length at.loop-k.trace) × (event.first < 16) × (event.second < 16)
     × (event.first ≡ event.second → ⊥)
-fits c = stole-fits (turn (stole c)) c.outcome2.given.1 _ refl
+fits c = stole-fits (turn (stole c)) c.in-Stole.is _ refl
 
-cast-wide : tie.Need-overflow-cast-wide invariant-loop decreases-loop
-cast-wide c = omega (arith, fits c.before.before)
+overflow_cast-event : tie.Need-overflow_cast-event invariant-loop-k decreases-loop-k
+overflow_cast-event c = omega (arith, fits c.before)
 
-mul_wide : tie.Need-overflow-mul-wide invariant-loop decreases-loop
-mul_wide c = omega (arith, fits c.before.before)
+offset_bounds-held-event : tie.Need-offset_bounds-held-event invariant-loop-k decreases-loop-k
+offset_bounds-held-event c = omega (arith, fits c.before)
 
-array-read-wide : tie.Need-array-read-wide invariant-loop decreases-loop
-array-read-wide c = omega (arith, fits c.before.before)
+bounds-held-event : tie.Need-bounds-held-event invariant-loop-k decreases-loop-k
+bounds-held-event c = omega (arith, fits c.before)
 
-wide-requires-2 : tie.Need-wide-requires-2 invariant-loop decreases-loop
-wide-requires-2 c κs = search rules
+wide-requires : tie.Need-wide-requires invariant-loop-k decreases-loop-k
+wide-requires c κs = search rules
 
-trace-steal-requires : tie.Need-trace-steal-requires invariant-loop decreases-loop
-trace-steal-requires c κs =
-    let o = c.before.before.before.before.before in
-    let room = fits o in
-    let step = c.before.before.wide2 in (
-      rw o.before.before.wide.ensures room.0,
-      ((room.1, room.2, room.3), stole-movable (turn (stole o)) o.outcome2.given.1 step.result step.ensures (weighed (top (stole o)))),
+trace_steal-requires : tie.Need-trace_steal-requires invariant-loop-k decreases-loop-k
+trace_steal-requires c κs =
+    let room = fits c.before.before.before.before in
+    let step = c.wide in (
+      rw c.wide-before.ensures room.0,
+      ((room.1, room.2, room.3), stole-movable (turn (stole c.before.before.before.before)) c.in-Stole.is step.result step.ensures (weighed (top (stole c.before.before.before.before)))),
     )
 
-loop-less-2 : tie.Need-loop-smaller-2 invariant-loop decreases-loop
-loop-less-2 c = omega (arith, (turn (stole c.before.before.before.before.before.before.before.before)).more)
+loop-k-smaller : tie.Need-loop-k-smaller invariant-loop-k decreases-loop-k
+loop-k-smaller c = omega (arith, (turn (stole c.before.before.before.before.before.before.before)).more)
 
-loop-again-2 : tie.Need-loop-preserved-2 invariant-loop decreases-loop
-loop-again-2 c =
-    let o = c.before.before.before.before.before.before.before.before in
-    let t = turn (stole o) in
-    let step = c.before.before.before.before.before.wide2 in
-    let traced = c.before.before.trace-steal.ensures in (
+loop-k-preserved : tie.Need-loop-k-preserved invariant-loop-k decreases-loop-k
+loop-k-preserved c =
+    let t = turn (stole c.before.before.before.before.before.before.before) in
+    let step = c.wide in
+    let traced = c.trace_steal.ensures in (
       omega (arith, t.more),
-      stole-turn t o.outcome2.given.1 step.result step.ensures (weighed (top (stole o)))
-          _ (rw o.before.before.wide.ensures at traced.0) _ traced.1,
+      stole-turn t c.in-Stole.is step.result step.ensures (weighed (top (stole c.before.before.before.before.before.before.before)))
+          _ (rw c.wide-before.ensures at traced.0) _ traced.1,
     )
 
-enum-known-outcome-3 : tie.Need-enum-known-outcome-3 invariant-loop decreases-loop
-enum-known-outcome-3 c = search rules
+enum_known-outcome-in-Refused-1 : tie.Need-enum_known-outcome-in-Refused-1 invariant-loop-k decreases-loop-k
+enum_known-outcome-in-Refused-1 c = search rules
 
 -- The event is refused.
-abbrev refused : tie.After-known-told3 invariant-loop decreases-loop → tie.After-event-on invariant-loop decreases-loop
-refused c = c.before.before.before.before
+abbrev refused : tie.In-Refused invariant-loop-k decreases-loop-k → tie.After-event_on-moved invariant-loop-k decreases-loop-k
+refused c = c.before.before
 
-same_length : tie.Need-same-length invariant-loop decreases-loop
-same_length c = lent-log (top (refused c))
+shape_of-log-in-Refused : tie.Need-shape_of-log-in-Refused invariant-loop-k decreases-loop-k
+shape_of-log-in-Refused c = lent-log (top (refused c))
 
-same-length-2 : tie.Need-same-length-2 invariant-loop decreases-loop
-same-length-2 c = lent-trace (top (refused c))
+shape_of-trace-in-Refused : tie.Need-shape_of-trace-in-Refused invariant-loop-k decreases-loop-k
+shape_of-trace-in-Refused c = lent-trace (top (refused c))
 
-returns : tie.Need-returns invariant-loop decreases-loop
-returns c = turn-refused (turn (refused c)) _ c.before.outcome3.given.1 _ _ _
+returns-in-Refused : tie.Need-returns-in-Refused invariant-loop-k decreases-loop-k
+returns-in-Refused c = turn-refused (turn (refused c)) _ c.in-Refused.is _ _ _
 
-wide-requires-3 : tie.Need-wide-requires-3 invariant-loop decreases-loop
-wide-requires-3 c κs = search rules
+wide-requires-2 : tie.Need-wide-requires-2 invariant-loop-k decreases-loop-k
+wide-requires-2 c κs = search rules
 
-same-length-3 : tie.Need-same-length-3 invariant-loop decreases-loop
-same-length-3 c = lent-log c.before.before
+shape_of-log : tie.Need-shape_of-log invariant-loop-k decreases-loop-k
+shape_of-log c = lent-log c.before.before
 
-same-length-4 : tie.Need-same-length-4 invariant-loop decreases-loop
-same-length-4 c = lent-trace c.before.before
+shape_of-trace : tie.Need-shape_of-trace invariant-loop-k decreases-loop-k
+shape_of-trace c = lent-trace c.before.before
 
-returns-2 : tie.Need-returns-2 invariant-loop decreases-loop
-returns-2 c =
-    let at = c.before.before in
-    rw c.wide3.ensures (turn-done (entry at).requires.0 at.loop.invariant.1 c.before.loop-test.false)
+returns : tie.Need-returns invariant-loop-k decreases-loop-k
+returns c =
+    rw c.wide-2.ensures (turn-done (entry c.before.before).requires.0 c.loop-k.invariant.1 c.loop-k-test.false)
 
-pub walk-spec : {M : Type 1} → statement M
-walk-spec =
+pub walk_spec : {M : Type 1} → statement M
+walk_spec =
     tie.close
     (tie.spec
-    invariant-loop
-    decreases-loop
-    steps-requires
-    array-write-held
-    mul-loads
-    shared-slice-read-loads
-    array-write-loads
-    loop-holds
-    add-k
-    event-at-requires
-    event-on-requires
+    invariant-loop-k
+    decreases-loop-k
+    steps-n-requires
+    bounds-held-0
+    offset_bounds-sums-n
+    bounds-sums-n
+    bounds-loads-0
+    loop-k-init
+    overflow_add-k
+    event_at-event-requires
+    event_on-moved-requires
+    wide-before-requires
+    enum_known-outcome
+    put_entry-requires
+    overflow_add-logs
+    loop-k-smaller-in-Ran
+    loop-k-preserved-in-Ran
+    enum_known-outcome-in-Stole-1
+    overflow_cast-event
+    offset_bounds-held-event
+    bounds-held-event
     wide-requires
-    enum-known-outcome
-    put-entry-requires
-    add-logs
-    loop-less
-    loop-again
-    enum-known-outcome-2
-    cast-wide
-    mul_wide
-    array-read-wide
+    trace_steal-requires
+    loop-k-smaller
+    loop-k-preserved
+    enum_known-outcome-in-Refused-1
+    shape_of-log-in-Refused
+    shape_of-trace-in-Refused
+    returns-in-Refused
     wide-requires-2
-    trace-steal-requires
-    loop-less-2
-    loop-again-2
-    enum-known-outcome-3
-    same_length
-    same-length-2
-    returns
-    wide-requires-3
-    same-length-3
-    same-length-4
-    returns-2)
+    shape_of-log
+    shape_of-trace
+    returns)

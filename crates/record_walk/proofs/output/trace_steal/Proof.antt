@@ -4,37 +4,36 @@ use borrow.Author.Rules.{rules}
 use Rattle.record_walk.proofs.output.trace_steal.Statement.{statement}
 use Rattle.record_walk.proofs.output.trace_steal.Tie as tie
 
-encode-number-requires : tie.Need-encode-number-requires
-encode-number-requires c κs = search rules
+encode_number-number-requires : tie.Need-encode_number-number-requires
+encode_number-number-requires c κs = search rules
 
-put-steal-requires : tie.Need-put-steal-requires
-put-steal-requires c κs = search rules
+put_steal-requires : tie.Need-put_steal-requires
+put_steal-requires c κs = search rules
 
-cast-move-part : tie.Need-overflow-cast-move-part
-cast-move-part c = search rules
+overflow_cast-thief : tie.Need-overflow_cast-thief
+overflow_cast-thief c = search rules
 
-cast-move-part-2 : tie.Need-overflow-cast-move-part-2
-cast-move-part-2 c = search rules
+overflow_cast-victim : tie.Need-overflow_cast-victim
+overflow_cast-victim c = search rules
 
-move-part-requires : tie.Need-move-part-requires
-move-part-requires c κs = search rules
+move_part-requires : tie.Need-move_part-requires
+move_part-requires c κs = search rules
 
-same_length : tie.Need-same-length
-same_length c = search rules
+shape_of-trace : tie.Need-shape_of-trace
+shape_of-trace c = search rules
 
 returns : tie.Need-returns
 returns c =
-    let put = c.before.before.before.before in
-    (rw (← put.before.before.encode-number.ensures) put.put-steal.ensures, c.move-part.ensures)
+    (rw (← c.encode_number-number.ensures) c.put_steal.ensures, c.move_part.ensures)
 
-pub trace-steal-spec : {M : Type 1} → statement M
-trace-steal-spec =
+pub trace_steal_spec : {M : Type 1} → statement M
+trace_steal_spec =
     tie.close
     (tie.spec
-    encode-number-requires
-    put-steal-requires
-    cast-move-part
-    cast-move-part-2
-    move-part-requires
-    same_length
+    encode_number-number-requires
+    put_steal-requires
+    overflow_cast-thief
+    overflow_cast-victim
+    move_part-requires
+    shape_of-trace
     returns)
