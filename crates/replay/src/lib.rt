@@ -1,5 +1,7 @@
 // Replay: a trace becomes the run list, or a refusal with its position (document 01, "Trace, log, run list" and "Refusals").
 // The list is written once every record is accepted, unless the caller has no room for the trace (document 02, #106).
+#![tactic(auto)]
+
 pub mod answer;
 pub mod body;
 

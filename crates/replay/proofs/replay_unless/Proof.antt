@@ -11,53 +11,47 @@ use Rattle.replay.proofs.replay_unless.Statement.{statement}
 use Rattle.replay.proofs.replay_unless.Tie as tie
 
 -- What the call is given has been judged.
-abbrev entry : tie.After-judge-replay → tie.Start
+abbrev entry : tie.After-judge_replay-admitted → tie.Start
 entry c = c.before.before.before.before
 
-judged : (c : tie.After-judge-replay)
+judged : (c : tie.After-judge_replay-admitted)
     → let a = (entry c).args in
-    c.judge-replay.result
+    c.judge_replay-admitted.result
     ≡ replay_judged a.setup.workers a.setup.policy a.tree.now a.trace.now (length a.list.now)
-judged c = c.judge-replay.ensures
+judged c = c.judge_replay-admitted.ensures
 
-judge-replay-requires : tie.Need-judge-replay-requires
-judge-replay-requires c κs = search rules
+judge_replay-admitted-requires : tie.Need-judge_replay-admitted-requires
+judge_replay-admitted-requires c κs = search rules
 
 refused-requires : tie.Need-refused-requires
 refused-requires c κs = search rules
 
-returns : tie.Need-returns
-returns c =
-    let at = c.before.before.before in
-    let a = (entry at).args in
-    given-refusal a.full _ _ a.tree.now a.trace.now a.list.now at.judge-replay.result (judged at)
-    c.before.if1.true c.refused.result c.refused.ensures
+returns-then-admitted-ne0 : tie.Need-returns-then-admitted-ne0
+returns-then-admitted-ne0 c =
+    let a = (entry c.before.before.before).args in
+    given-refusal a.full _ _ a.tree.now a.trace.now a.list.now c.judge_replay-admitted.result (judged c.before.before.before)
+    c.if-admitted-ne0.true c.refused.result c.refused.ensures
 
-run-requires : tie.Need-run-requires
-run-requires c κs =
-    let one = c.before.before in
-    let at = one.before.before in
-    let a = (entry at).args in
-    let ready = replay-ready _ _ a.tree.now a.trace.now a.list.now at.judge-replay.result (judged at) in
-    (ready one.if1.false, refl)
+run-walked-requires : tie.Need-run-walked-requires
+run-walked-requires c κs =
+    let a = (entry c.before.before.before.before).args in
+    let ready = replay-ready _ _ a.tree.now a.trace.now a.list.now c.judge_replay-admitted.result (judged c.before.before.before.before) in
+    (ready c.if-admitted-ne0.false, refl)
 
 answer-requires : tie.Need-answer-requires
 answer-requires c κs = search rules
 
-same_length : tie.Need-same-length
-same_length c = search rules
+shape_of-list : tie.Need-shape_of-list
+shape_of-list c = search rules
 
-returns-2 : tie.Need-returns-2
-returns-2 c =
-    let walked = c.before.before.before.before in
-    let run = walked.run in
-    let one = walked.before.before.before in
-    let at = one.before.before in
-    let a = (entry at).args in
-    walk-answered a.full _ _ a.tree.now a.trace.now a.list.now at.judge-replay.result (judged at)
-    one.if1.false run.result run.new.1.1.1.1.0 _ run.ensures c.answer.result c.answer.ensures
+returns : tie.Need-returns
+returns c =
+    let run = c.run-walked in
+    let a = (entry c.before.before.before.before.before.before.before.before.before).args in
+    walk-answered a.full _ _ a.tree.now a.trace.now a.list.now c.judge_replay-admitted.result (judged c.before.before.before.before.before.before.before.before.before)
+    c.if-admitted-ne0.false run.result run.new.list _ run.ensures c.answer.result c.answer.ensures
 
-pub replay-unless-spec : {M : Type 1} → statement M
-replay-unless-spec =
+pub replay_unless_spec : {M : Type 1} → statement M
+replay_unless_spec =
     tie.close
-    (tie.spec judge-replay-requires refused-requires returns run-requires answer-requires same_length returns-2)
+    (tie.spec judge_replay-admitted-requires refused-requires returns-then-admitted-ne0 run-walked-requires answer-requires shape_of-list returns)

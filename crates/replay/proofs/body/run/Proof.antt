@@ -43,187 +43,181 @@ fits c e = omega (arith, most c, (ready c).steps, e)
 abbrev entry : tie.After-fill → tie.Start
 entry c = c.before.before.before.before.before.before
 
-abbrev filled : tie.After-add-up → tie.After-fill
+abbrev filled : tie.After-add_up → tie.After-fill
 filled c = c.before.before.before.before.before
 
-ends-room : (c : tie.After-fill) → (entry c).args.n ≤ length c.fill.new.1.0
-ends-room c = fits (entry c) c.fill.auto.1.0
+ends-room : (c : tie.After-fill) → (entry c).args.n ≤ length c.fill.new.ends
+ends-room c = fits (entry c) c.fill.auto.ends
 
 ends-lent : (c : tie.After-fill)
     → let at = entry c in
     let ks = kinds at.args.tree.now in
-    let ends = take at.args.n c.fill.new.1.0 in
+    let ends = take at.args.n c.fill.new.ends in
     (length ends ≡ length ks) × Ends ks ends (length ends)
 ends-lent c =
     let at = entry c in
     let ks = kinds at.args.tree.now in
-    ends_prefix ks c.fill.new.1.0 at.args.n (ready at).steps (ends-room c) c.fill.ensures.0
+    ends_prefix ks c.fill.new.ends at.args.n (ready at).steps (ends-room c) c.fill.ensures.0
 
-openers-room : (c : tie.After-fill) → (entry c).args.n ≤ length c.fill.new.1.1.0
-openers-room c = fits (entry c) c.fill.auto.1.1.0
+openers-room : (c : tie.After-fill) → (entry c).args.n ≤ length c.fill.new.openers
+openers-room c = fits (entry c) c.fill.auto.openers
 
 -- Past the walk over the trace's records.
-abbrev summed : tie.After-firsts → tie.After-add-up
+abbrev summed : tie.After-firsts-1 → tie.After-add_up
 summed c = c.before.before.before.before.before.before
 
-abbrev start : tie.After-walk → tie.Start
+abbrev start : tie.After-walk-walked → tie.Start
 start c = entry (filled (summed c.before))
 
-abbrev labels : tie.After-walk → List ℕ
-labels c = c.walk.new.1.1.1.1.1.1.0
+abbrev labels : tie.After-walk-walked → List ℕ
+labels c = c.walk-walked.new.labels
 
-abbrev firsts : tie.After-walk → List ℕ
-firsts c = c.walk.new.1.1.1.1.1.1.1.0
+abbrev firsts : tie.After-walk-walked → List ℕ
+firsts c = c.walk-walked.new.firsts
 
-walked : (c : tie.After-walk)
+walked : (c : tie.After-walk-walked)
     → let a = (start c).args in
-    Retraced a.setup.workers a.setup.policy a.tree.now a.trace.now c.walk.result (labels c) (firsts c)
-walked c = c.walk.ensures
+    Retraced a.setup.workers a.setup.policy a.tree.now a.trace.now c.walk-walked.result (labels c) (firsts c)
+walked c = c.walk-walked.ensures
 
 -- It leaves as many labels as it is lent, so the front of the array is those.
-labels-many : (c : tie.After-walk) → length (labels c) ≡ (start c).args.n
+labels-many : (c : tie.After-walk-walked) → length (labels c) ≡ (start c).args.n
 labels-many c = (walked c).sizes.0 ∙ sym (ready (start c)).steps
 
-abbrev walk_at : tie.Else2 → tie.After-walk
+abbrev walk_at : tie.Else-full → tie.After-walk-walked
 walk_at c = c.before.before.before.before
 
 -- ---- the needs
 
-slice-aggregate-fill : tie.Need-slice-aggregate-fill
-slice-aggregate-fill c = search rules
+slice_bounds-fill-end : tie.Need-slice_bounds-fill-end
+slice_bounds-fill-end c = search rules
 
-slice-aggregate-fill-2 : tie.Need-slice-aggregate-fill-2
-slice-aggregate-fill-2 c = search rules
+slice_bounds-fill-end-2 : tie.Need-slice_bounds-fill-end-2
+slice_bounds-fill-end-2 c = search rules
 
 fill-requires : tie.Need-fill-requires
 fill-requires c κs =
-    let start = c.before.before.before.before.before in
-    (start-tree-accepts _ _ start.args.tree.now (ready start).started, (most start, most start))
+    (start-tree-accepts _ _ c.args.tree.now (ready c.before.before.before.before.before).started, (most c.before.before.before.before.before, most c.before.before.before.before.before))
 
-slice-aggregate-add-up : tie.Need-slice-aggregate-add-up
-slice-aggregate-add-up c = search rules
+slice_bounds-add_up-end : tie.Need-slice_bounds-add_up-end
+slice_bounds-add_up-end c = search rules
 
-add-up-requires : tie.Need-add-up-requires
-add-up-requires c κs =
+add_up-requires : tie.Need-add_up-requires
+add_up-requires c κs =
     let at = entry c.before.before.before.before in
     let few = most at in
-    (few, (omega (arith, few), ((frame at).class, at.pre.1)))
+    (few, (omega (arith, few), ((frame at).class, at.requires.1)))
 
-array-share-prefix-ends : tie.Need-array-share-prefix-ends
-array-share-prefix-ends c = ends-room (filled c.before)
+slice_bounds-ends-end : tie.Need-slice_bounds-ends-end
+slice_bounds-ends-end c = ends-room (filled c.before)
 
-slice-aggregate-walk : tie.Need-slice-aggregate-walk
-slice-aggregate-walk c =
+slice_bounds-walk-end : tie.Need-slice_bounds-walk-end
+slice_bounds-walk-end c =
     let at = filled c.before.before in
-    sym (length-take-le (entry at).args.n at.fill.last.1.0 (ends-room at))
+    sym (length-take-le (entry at).args.n at.fill.new.ends (ends-room at))
 
-array-share-prefix-openers : tie.Need-array-share-prefix-openers
-array-share-prefix-openers c = openers-room (filled c.before.before)
+slice_bounds-openers-end : tie.Need-slice_bounds-openers-end
+slice_bounds-openers-end c = openers-room (filled c.before.before)
 
-slice-aggregate-walk-2 : tie.Need-slice-aggregate-walk-2
-slice-aggregate-walk-2 c =
+slice_bounds-walk-end-2 : tie.Need-slice_bounds-walk-end-2
+slice_bounds-walk-end-2 c =
     let at = filled c.before.before.before in
-    sym (length-take-le (entry at).args.n at.fill.last.1.1.0 (openers-room at))
+    sym (length-take-le (entry at).args.n at.fill.new.openers (openers-room at))
 
-slice-aggregate-walk-3 : tie.Need-slice-aggregate-walk-3
-slice-aggregate-walk-3 c = search rules
+slice_bounds-walk-end-3 : tie.Need-slice_bounds-walk-end-3
+slice_bounds-walk-end-3 c = search rules
 
-array-borrow-prefix-labels : tie.Need-array-borrow-prefix-labels
-array-borrow-prefix-labels c = fits (entry (filled c.before.before.before.before)) refl
+slice_bounds-labels-end : tie.Need-slice_bounds-labels-end
+slice_bounds-labels-end c = fits (entry (filled c.before.before.before.before)) refl
 
-slice-aggregate-walk-4 : tie.Need-slice-aggregate-walk-4
-slice-aggregate-walk-4 c =
+slice_bounds-walk-end-4 : tie.Need-slice_bounds-walk-end-4
+slice_bounds-walk-end-4 c =
     let at = entry (filled c.before.before.before.before.before) in
     sym (length-take-le at.args.n (replicate 4095 65535) (fits at refl))
 
-walk-requires : tie.Need-walk-requires
-walk-requires c κs =
+walk-walked-requires : tie.Need-walk-walked-requires
+walk-walked-requires c κs =
     let sums = summed c in
     let tables = filled sums in
     let one = entry tables in
     let ks = kinds one.args.tree.now in
     let n = one.args.n in
     let fill = tables.fill in
-    let openers = openers_prefix ks fill.last.1.1.0 n (ready one).steps (openers-room tables) fill.ensures.1 in
-    let few : length ks < length sums.add-up.last.1.0 = omega (arith, most one, sums.add-up.kept.1.0) in
+    let openers = openers_prefix ks fill.new.openers n (ready one).steps (openers-room tables) fill.ensures.1 in
+    let few : length ks < length sums.add_up.new.sums = omega (arith, most one, sums.add_up.auto.sums) in
     let free = take-replicate n 4095 65535 (fits one refl) ∙ ap (λ (m : ℕ). replicate m 65535) (ready one).steps in
-    (((ready one).started, (ready one).traced), (ends-lent tables, (openers, ((few, sums.add-up.ensures.0), (free, refl)))))
+    (((ready one).started, (ready one).traced), (ends-lent tables, (openers, ((few, sums.add_up.ensures.0), (free, refl)))))
 
-returns : tie.Need-returns
-returns c =
-    let at = c.before.before.before in
-    lost_result (ready (start at)) (walked at) c.if1.true _
+returns-then-walked-ne0 : tie.Need-returns-then-walked-ne0
+returns-then-walked-ne0 c =
+    lost_result (ready (start c.before.before.before)) (walked c.before.before.before) c.if-walked-ne0.true _
 
-returns-2 : tie.Need-returns-2
-returns-2 c =
-    let at = c.before.before.before.before in
-    full-result (ready (start at)) (walked at) c.before.if1.false c.if2.true _ _ _
+returns-then-full : tie.Need-returns-then-full
+returns-then-full c =
+    full-result (ready (start c.before.before.before.before)) (walked c.before.before.before.before) c.if-walked-ne0.false c.if-full.true _ _ _
 
-array-share-prefix-ends-2 : tie.Need-array-share-prefix-ends-2
-array-share-prefix-ends-2 c = ends-room (filled (summed (walk_at c).before))
+slice_bounds-ends-end-2 : tie.Need-slice_bounds-ends-end-2
+slice_bounds-ends-end-2 c = ends-room (filled (summed (walk_at c).before))
 
-slice-aggregate-write-list : tie.Need-slice-aggregate-write-list
-slice-aggregate-write-list c =
+slice_bounds-write_list-end : tie.Need-slice_bounds-write_list-end
+slice_bounds-write_list-end c =
     let at = filled (summed (walk_at c.before).before) in
-    sym (length-take-le (entry at).args.n at.fill.last.1.0 (ends-room at))
+    sym (length-take-le (entry at).args.n at.fill.new.ends (ends-room at))
 
-array-share-prefix-labels : tie.Need-array-share-prefix-labels
-array-share-prefix-labels c = front_room _ (labels (walk_at c.before)) _ (labels-many (walk_at c.before))
+slice_bounds-labels-end-2 : tie.Need-slice_bounds-labels-end-2
+slice_bounds-labels-end-2 c = front_room _ (labels (walk_at c.before)) _ (labels-many (walk_at c.before))
 
-slice-aggregate-write-list-2 : tie.Need-slice-aggregate-write-list-2
-slice-aggregate-write-list-2 c =
+slice_bounds-write_list-end-2 : tie.Need-slice_bounds-write_list-end-2
+slice_bounds-write_list-end-2 c =
     let at = walk_at c.before.before in
     front_length _ (labels at) _ (labels-many at)
 
-slice-aggregate-write-list-3 : tie.Need-slice-aggregate-write-list-3
-slice-aggregate-write-list-3 c = search rules
+slice_bounds-write_list-end-3 : tie.Need-slice_bounds-write_list-end-3
+slice_bounds-write_list-end-3 c = search rules
 
-write-list-requires : tie.Need-write-list-requires
-write-list-requires c κs =
-    let one = c.before.before.before.before in
-    let at = walk_at one in
+write_list-requires : tie.Need-write_list-requires
+write_list-requires c κs =
+    let at = walk_at c.before.before.before.before in
     let s = start at in
     let same = take_at (labels at) _ s.args.n (labels-many at) in
-    let asked = done-asked (ready s) (walked at) one.before.if1.false _ same in
+    let asked = done-asked (ready s) (walked at) c.if-walked-ne0.false _ same in
     ((start-tree-accepts _ _ s.args.tree.now (ready s).started, (ends-lent (filled (summed at.before))).1), asked)
 
-same_length : tie.Need-same-length
-same_length c = search rules
+shape_of-list : tie.Need-shape_of-list
+shape_of-list c = search rules
 
-returns-3 : tie.Need-returns-3
-returns-3 c =
-    let wrote = c.before.before in
-    let list = wrote.write-list in
-    let one = wrote.before.before.before.before.before in
-    let at = walk_at one in
+returns : tie.Need-returns
+returns c =
+    let list = c.write_list in
+    let at = walk_at c.before.before.before.before.before.before.before in
     let same = take_at (labels at) _ (start at).args.n (labels-many at) in
-    done-result (ready (start at)) (walked at) one.before.if1.false one.if2.false _ same list.new.1.1.1.1.1.1.0 _
-    list.ensures (summed at.before).add-up.ensures.1
+    done-result (ready (start at)) (walked at) c.if-walked-ne0.false c.if-full.false _ same list.new.list _
+    list.ensures (summed at.before).add_up.ensures.1
 
 pub run_spec : {M : Type 1} → statement M
 run_spec =
     tie.close
     (tie.spec
-    slice-aggregate-fill
-    slice-aggregate-fill-2
+    slice_bounds-fill-end
+    slice_bounds-fill-end-2
     fill-requires
-    slice-aggregate-add-up
-    add-up-requires
-    array-share-prefix-ends
-    slice-aggregate-walk
-    array-share-prefix-openers
-    slice-aggregate-walk-2
-    slice-aggregate-walk-3
-    array-borrow-prefix-labels
-    slice-aggregate-walk-4
-    walk-requires
-    returns
-    returns-2
-    array-share-prefix-ends-2
-    slice-aggregate-write-list
-    array-share-prefix-labels
-    slice-aggregate-write-list-2
-    slice-aggregate-write-list-3
-    write-list-requires
-    same_length
-    returns-3)
+    slice_bounds-add_up-end
+    add_up-requires
+    slice_bounds-ends-end
+    slice_bounds-walk-end
+    slice_bounds-openers-end
+    slice_bounds-walk-end-2
+    slice_bounds-walk-end-3
+    slice_bounds-labels-end
+    slice_bounds-walk-end-4
+    walk-walked-requires
+    returns-then-walked-ne0
+    returns-then-full
+    slice_bounds-ends-end-2
+    slice_bounds-write_list-end
+    slice_bounds-labels-end-2
+    slice_bounds-write_list-end-2
+    slice_bounds-write_list-end-3
+    write_list-requires
+    shape_of-list
+    returns)
