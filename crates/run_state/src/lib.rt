@@ -2,6 +2,8 @@
 // first state; `run`, `steal` and `event` take a state and hand back the next with the event's outcome; `idle` tells the idle workers.
 // Nothing is kept elsewhere: a host may copy a state, keep it or go back to it. Any state and any bytes are safe: a held step
 // beyond the tree is none, a tree with more records than a tree may have is refused with 2, and a count above 16 is 16.
+#![tactic(auto)]
+
 pub mod start;
 
 ghost use Rattle.std.specs.Prelude.{◌≡◌};

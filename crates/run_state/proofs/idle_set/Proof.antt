@@ -9,97 +9,94 @@ use Rattle.run_spec.specs.Laws.Idle.{Built, built-start, built-fits, built-idle,
 use Rattle.run_state.proofs.idle_set.Statement.{statement}
 use Rattle.run_state.proofs.idle_set.Tie as tie
 
-abbrev invariant-loop : tie.invariant-loop
-invariant-loop held workers w₀ set₀ w set = Built held (worker_limit workers) w set
+abbrev invariant-loop-w : tie.invariant-loop-w
+invariant-loop-w held workers w₀ set₀ w set = Built held (worker_limit workers) w set
 
-abbrev decreases-loop : tie.decreases-loop
-decreases-loop held workers w₀ set₀ w set = w
+abbrev decreases-loop-w : tie.decreases-loop-w
+decreases-loop-w held workers w₀ set₀ w set = w
 
 -- How many workers the run has.
-abbrev many : tie.At-loop invariant-loop decreases-loop → ℕ
-many c = worker_limit c.before.before.args.workers
+abbrev many : tie.At-loop-w invariant-loop-w decreases-loop-w → ℕ
+many c = worker_limit c.args.workers
 
-within : (c : tie.At-loop invariant-loop decreases-loop) → c.loop.w ≤ 16
-within c = omega (arith, c.loop.invariant.within, limit_most c.before.before.args.workers)
+within : (c : tie.At-loop-w invariant-loop-w decreases-loop-w) → c.loop-w.w ≤ 16
+within c = omega (arith, c.loop-w.invariant.within, limit_most c.args.workers)
 
 -- The set has room for one bit more.
-fits : (c : tie.In-loop invariant-loop decreases-loop) → let loop = c.before.loop in 2 * loop.set + 1 < 65536
+fits : (c : tie.In-loop-w invariant-loop-w decreases-loop-w) → let loop = c.loop-w in 2 * loop.set + 1 < 65536
 fits c =
-    let at = c.before in
-    let a = at.before.before.args in
-    built-fits a.held.now (many at) at.loop.w at.loop.set (omega arith) at.loop.invariant (limit_most a.workers)
+    let a = c.args in
+    built-fits a.held.now (many c.before) c.loop-w.w c.loop-w.set (omega arith) c.loop-w.invariant (limit_most a.workers)
 
-limit-requires : tie.Need-limit-requires invariant-loop decreases-loop
-limit-requires c κs = search rules
+limit-w-requires : tie.Need-limit-w-requires invariant-loop-w decreases-loop-w
+limit-w-requires c κs = search rules
 
-loop-holds : tie.Need-loop-init invariant-loop decreases-loop
-loop-holds c =
-    let a = c.before.args in
-    rw c.limit.ensures (built-start a.held.now (worker_limit a.workers))
+loop-w-init : tie.Need-loop-w-init invariant-loop-w decreases-loop-w
+loop-w-init c =
+    let a = c.args in
+    rw c.limit-w.ensures (built-start a.held.now (worker_limit a.workers))
 
-sub-w : tie.Need-overflow-sub-w invariant-loop decreases-loop
-sub-w c = omega arith
+overflow_sub-w : tie.Need-overflow_sub-w invariant-loop-w decreases-loop-w
+overflow_sub-w c = omega arith
 
-mul_wide : tie.Need-overflow-mul-wide invariant-loop decreases-loop
-mul_wide c = omega (arith, within c.before)
+offset_bounds-held-w : tie.Need-offset_bounds-held-w invariant-loop-w decreases-loop-w
+offset_bounds-held-w c = omega (arith, within c.before)
 
-element-copy-out-wide : tie.Need-element-copy-out-wide invariant-loop decreases-loop
-element-copy-out-wide c = omega (arith, within c.before)
+bounds-held-w : tie.Need-bounds-held-w invariant-loop-w decreases-loop-w
+bounds-held-w c = omega (arith, within c.before.before)
 
-wide-requires : tie.Need-wide-requires invariant-loop decreases-loop
+wide-requires : tie.Need-wide-requires invariant-loop-w decreases-loop-w
 wide-requires c κs = search rules
 
-mul-set : tie.Need-overflow-mul-set invariant-loop decreases-loop
-mul-set c = omega (arith, fits c.before.before.before)
+overflow_mul-set : tie.Need-overflow_mul-set invariant-loop-w decreases-loop-w
+overflow_mul-set c = omega (arith, fits c.before.before.before.before)
 
-add-set : tie.Need-overflow-add-set invariant-loop decreases-loop
-add-set c = omega (arith, fits c.before.before.before)
+overflow_add-set : tie.Need-overflow_add-set invariant-loop-w decreases-loop-w
+overflow_add-set c = omega (arith, fits c.before.before.before.before)
 
-loop-less : tie.Need-loop-smaller invariant-loop decreases-loop
-loop-less c = omega arith
+loop-w-smaller-then-wide-ge-MOST_STEPS : tie.Need-loop-w-smaller-then-wide-ge-MOST_STEPS invariant-loop-w decreases-loop-w
+loop-w-smaller-then-wide-ge-MOST_STEPS c = omega arith
 
-loop-again : tie.Need-loop-preserved invariant-loop decreases-loop
-loop-again c =
-    let at = c.before.before.before.before in
-    let loop = at.loop in
-    built-idle at.before.before.args.held.now (many at) loop.w loop.set (omega arith) loop.invariant
-    (omega (arith, c.before.wide.ensures))
+loop-w-preserved-then-wide-ge-MOST_STEPS : tie.Need-loop-w-preserved-then-wide-ge-MOST_STEPS invariant-loop-w decreases-loop-w
+loop-w-preserved-then-wide-ge-MOST_STEPS c =
+    let loop = c.loop-w in
+    built-idle c.args.held.now (many c.before.before.before.before.before) loop.w loop.set (omega arith) loop.invariant
+    (omega (arith, c.wide.ensures))
 
-mul-set-2 : tie.Need-overflow-mul-set-2 invariant-loop decreases-loop
-mul-set-2 c = omega (arith, fits c.before.before.before)
+overflow_mul-set-else-wide-ge-MOST_STEPS : tie.Need-overflow_mul-set-else-wide-ge-MOST_STEPS invariant-loop-w decreases-loop-w
+overflow_mul-set-else-wide-ge-MOST_STEPS c = omega (arith, fits c.before.before.before.before)
 
-loop-less-2 : tie.Need-loop-smaller-2 invariant-loop decreases-loop
-loop-less-2 c = omega arith
+loop-w-smaller : tie.Need-loop-w-smaller invariant-loop-w decreases-loop-w
+loop-w-smaller c = omega arith
 
-loop-again-2 : tie.Need-loop-preserved-2 invariant-loop decreases-loop
-loop-again-2 c =
-    let at = c.before.before.before.before in
-    let loop = at.loop in
-    built-busy at.before.before.args.held.now (many at) loop.w loop.set (omega arith) loop.invariant
-    (omega (arith, c.before.wide.ensures))
+loop-w-preserved : tie.Need-loop-w-preserved invariant-loop-w decreases-loop-w
+loop-w-preserved c =
+    let loop = c.loop-w in
+    built-busy c.args.held.now (many c.before.before.before.before.before) loop.w loop.set (omega arith) loop.invariant
+    (omega (arith, c.wide.ensures))
 
-returns : tie.Need-returns invariant-loop decreases-loop
+returns : tie.Need-returns invariant-loop-w decreases-loop-w
 returns c =
-    let loop = c.before.loop in
-    built-done c.before.before.before.args.held.now (many c.before) loop.w loop.set (omega arith) loop.invariant
+    let loop = c.loop-w in
+    built-done c.args.held.now (many c.before) loop.w loop.set (omega arith) loop.invariant
 
-pub idle-set-spec : {M : Type 1} → statement M
-idle-set-spec =
+pub idle_set_spec : {M : Type 1} → statement M
+idle_set_spec =
     tie.close
     (tie.spec
-    invariant-loop
-    decreases-loop
-    limit-requires
-    loop-holds
-    sub-w
-    mul_wide
-    element-copy-out-wide
+    invariant-loop-w
+    decreases-loop-w
+    limit-w-requires
+    loop-w-init
+    overflow_sub-w
+    offset_bounds-held-w
+    bounds-held-w
     wide-requires
-    mul-set
-    add-set
-    loop-less
-    loop-again
-    mul-set-2
-    loop-less-2
-    loop-again-2
+    overflow_mul-set
+    overflow_add-set
+    loop-w-smaller-then-wide-ge-MOST_STEPS
+    loop-w-preserved-then-wide-ge-MOST_STEPS
+    overflow_mul-set-else-wide-ge-MOST_STEPS
+    loop-w-smaller
+    loop-w-preserved
     returns)

@@ -9,18 +9,18 @@ use Rattle.run_state.proofs.RunState.event.Tie as tie
 run-requires : tie.Need-run-requires
 run-requires c κs = search rules
 
-returns : tie.Need-returns
-returns c =
-    let a = c.before.before.before.args in
-    c.run.ensures ∙ equal_runs a.self a.tree.now a.first a.second c.before.if1.true
+returns-then-first-second : tie.Need-returns-then-first-second
+returns-then-first-second c =
+    let a = c.args in
+    c.run.ensures ∙ equal_runs a.self a.tree.now a.first a.second c.if-first-second.true
 
 steal-requires : tie.Need-steal-requires
 steal-requires c κs = search rules
 
-returns-2 : tie.Need-returns-2
-returns-2 c =
-    let a = c.before.before.before.args in
-    c.steal.ensures ∙ different_steals a.self a.tree.now a.first a.second c.before.if1.false
+returns : tie.Need-returns
+returns c =
+    let a = c.args in
+    c.steal.ensures ∙ different_steals a.self a.tree.now a.first a.second c.if-first-second.false
 
-pub event-spec : {M : Type 1} → statement M
-event-spec = tie.close (tie.spec run-requires returns steal-requires returns-2)
+pub event_spec : {M : Type 1} → statement M
+event_spec = tie.close (tie.spec run-requires returns-then-first-second steal-requires returns)

@@ -5,11 +5,11 @@ use borrow.Author.Rules.{rules}
 use Rattle.run_state.proofs.RunState.idle.Statement.{statement}
 use Rattle.run_state.proofs.RunState.idle.Tie as tie
 
-idle-set-requires : tie.Need-idle-set-requires
-idle-set-requires c κs = search rules
+idle_set-set-requires : tie.Need-idle_set-set-requires
+idle_set-set-requires c κs = search rules
 
 returns : tie.Need-returns
-returns c = idle_answers c.before.before.before.args.self c.idle-set.result c.idle-set.ensures
+returns c = idle_answers c.args.self c.idle_set-set.result c.idle_set-set.ensures
 
 pub idle_spec : {M : Type 1} → statement M
-idle_spec = tie.close (tie.spec idle-set-requires returns)
+idle_spec = tie.close (tie.spec idle_set-set-requires returns)

@@ -5,16 +5,13 @@ use borrow.Author.Rules.{rules}
 use Rattle.run_state.proofs.RunState.steal.Statement.{statement}
 use Rattle.run_state.proofs.RunState.steal.Tie as tie
 
-slice-aggregate-steal-on : tie.Need-slice-aggregate-steal-on
-slice-aggregate-steal-on c = search rules
-
-steal-on-requires : tie.Need-steal-on-requires
-steal-on-requires c κs = search rules
+steal_on-moved-requires : tie.Need-steal_on-moved-requires
+steal_on-moved-requires c κs = search rules
 
 returns : tie.Need-returns
 returns c =
-    let a = c.before.before.before.before.before.before.before.before.before.before.before.before.args in
-    steal-answers a.self a.tree.now a.thief a.victim _ c.steal-on.ensures
+    let a = c.args in
+    steal-answers a.self a.tree.now a.thief a.victim _ c.steal_on-moved.ensures
 
-pub steal-spec : {M : Type 1} → statement M
-steal-spec = tie.close (tie.spec slice-aggregate-steal-on steal-on-requires returns)
+pub steal_spec : {M : Type 1} → statement M
+steal_spec = tie.close (tie.spec steal_on-moved-requires returns)

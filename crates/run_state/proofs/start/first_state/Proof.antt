@@ -5,12 +5,12 @@ use borrow.Author.Rules.{rules}
 use Rattle.run_state.proofs.start.first_state.Statement.{statement}
 use Rattle.run_state.proofs.start.first_state.Tie as tie
 
-array-write-held : tie.Need-array-write-held
-array-write-held c = search rules
+bounds-held-0 : tie.Need-bounds-held-0
+bounds-held-0 c = search rules
 
 returns : tie.Need-returns
 unfolding fresh
 returns c = refl
 
-pub first-state-spec : {M : Type 1} → statement M
-first-state-spec = tie.close (tie.spec array-write-held returns)
+pub first_state_spec : {M : Type 1} → statement M
+first_state_spec = tie.close (tie.spec bounds-held-0 returns)

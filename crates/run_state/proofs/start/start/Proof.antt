@@ -5,28 +5,28 @@ use borrow.Author.Rules.{rules}
 use Rattle.run_state.proofs.start.start.Statement.{statement}
 use Rattle.run_state.proofs.start.start.Tie as tie
 
-judge-start-requires : tie.Need-judge-start-requires
-judge-start-requires c κs = search rules
+judge_start-admitted-requires : tie.Need-judge_start-admitted-requires
+judge_start-admitted-requires c κs = search rules
 
-no-state-requires : tie.Need-no-state-requires
-no-state-requires c κs = search rules
+no_state-requires : tie.Need-no_state-requires
+no_state-requires c κs = search rules
+
+returns-then-admitted-ne0 : tie.Need-returns-then-admitted-ne0
+returns-then-admitted-ne0 c =
+    let a = c.args in
+    let judged = c.judge_start-admitted in
+    start-refused a.setup.workers a.setup.policy a.tree.now judged.result judged.ensures c.if-admitted-ne0.true
+    c.no_state.result c.no_state.ensures
+
+first_state-requires : tie.Need-first_state-requires
+first_state-requires c κs = search rules
 
 returns : tie.Need-returns
 returns c =
-    let a = c.before.before.before.before.before.args in
-    let judged = c.before.before.before.judge-start in
-    start-refused a.setup.workers a.setup.policy a.tree.now judged.result judged.ensures c.before.if1.true
-    c.no-state.result c.no-state.ensures
-
-first-state-requires : tie.Need-first-state-requires
-first-state-requires c κs = search rules
-
-returns-2 : tie.Need-returns-2
-returns-2 c =
-    let a = c.before.before.before.before.before.args in
-    let judged = c.before.before.before.judge-start in
-    start-accepts a.setup.workers a.setup.policy a.tree.now judged.result judged.ensures c.before.if1.false
-    c.first-state.result c.first-state.ensures
+    let a = c.args in
+    let judged = c.judge_start-admitted in
+    start-accepts a.setup.workers a.setup.policy a.tree.now judged.result judged.ensures c.if-admitted-ne0.false
+    c.first_state.result c.first_state.ensures
 
 pub start_spec : {M : Type 1} → statement M
-start_spec = tie.close (tie.spec judge-start-requires no-state-requires returns first-state-requires returns-2)
+start_spec = tie.close (tie.spec judge_start-admitted-requires no_state-requires returns-then-admitted-ne0 first_state-requires returns)
