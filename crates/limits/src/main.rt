@@ -1,34 +1,36 @@
 // Program `limits`: prints the limits of the histogram (document 02, #106), one on a line.
 //
-// What a descriptor takes no contract can say. Proved is that the number for each k is limit k (`limits_root::limit`), and that
+// What standard output takes no contract can say. Proved is that the number for each k is limit k (`limits_root::limit`), and that
 // the program is safe and ends. Tested is that it writes all of them in order and nothing else: `stdout` has what it must write.
+#![tactic(auto)]
+
 ghost use Rattle.std.specs.Prelude.{◌<◌};
 ghost use Rattle.rules_histogram.specs.Limits.{limit_count};
 
-use libc::{STDERR_FILENO, STDOUT_FILENO};
 use limits_root::limit;
+use std::io;
+use std::process::ExitCode;
 
 // How many limits there are.
 const LIMITS: usize = 176;
 
 // Prints limit k, and answers whether standard output took it.
-fn print_limit(k: usize) -> bool
+fn print_limit(rt: &impl Print, k: usize) -> io::Result<()>
     requires { k < limit_count }
 {
-    io::print_decimal(STDOUT_FILENO, limit(k)) && io::write_all(STDOUT_FILENO, b"\n")
+    println!(rt; "{}", limit(k))
 }
 
-// A program cannot set its exit status yet: that it failed stands on standard error alone.
-fn main() {
-    let mut k = 0;
-    while k < LIMITS {
-        if !print_limit(k) {
-            io::write_all(
-                STDERR_FILENO,
-                b"limits: standard output could not be written\n",
-            );
-            return;
+// Where standard output cannot be written, standard error says so, and the exit status.
+fn main(rt: HostRuntime) -> ExitCode {
+    for k in 0..LIMITS {
+        match print_limit(&rt, k) {
+            Ok(()) => {}
+            Err(_) => {
+                let _ = eprintln!(rt; "limits: standard output could not be written");
+                return ExitCode::FAILURE;
+            }
         }
-        k += 1;
     }
+    ExitCode::SUCCESS
 }
