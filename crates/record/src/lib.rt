@@ -1,5 +1,7 @@
 // Recording: a list of events becomes the log and the trace, or a refusal with its position (document 01, "Trace, log, run list"
 // and "Refusals"). Log and trace are written once every event is accepted.
+#![tactic(auto)]
+
 pub mod answer;
 pub mod body;
 

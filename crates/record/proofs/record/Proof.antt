@@ -10,79 +10,75 @@ use Rattle.record.proofs.record.Statement.{statement}
 use Rattle.record.proofs.record.Tie as tie
 
 -- What the call is given has been judged.
-abbrev entry : tie.After-judge-record → tie.Start
+abbrev entry : tie.After-judge_record-admitted → tie.Start
 entry c = c.before.before.before.before.before
 
-judged : (c : tie.After-judge-record)
+judged : (c : tie.After-judge_record-admitted)
     → let a = (entry c).args in
-    c.judge-record.result
+    c.judge_record-admitted.result
     ≡ record_judged a.setup.workers a.setup.policy a.tree.now a.events.now (length a.log.now) (length a.trace.now)
-judged c = c.judge-record.ensures
+judged c = c.judge_record-admitted.ensures
 
 -- The events have been walked.
-abbrev given : tie.After-struct-known2 → tie.Else1
+abbrev given : tie.After-struct_known-2-1 → tie.Else-admitted-ne0
 given c = c.before.before.before.before.before.before.before.before.before
 
-judge-record-requires : tie.Need-judge-record-requires
-judge-record-requires c κs = search rules
+judge_record-admitted-requires : tie.Need-judge_record-admitted-requires
+judge_record-admitted-requires c κs = search rules
 
 refused-requires : tie.Need-refused-requires
 refused-requires c κs = search rules
 
-returns : tie.Need-returns
-returns c =
-    let at = c.before.before.before in
-    let a = (entry at).args in
-    given-refusal _ _ a.tree.now a.events.now a.log.now a.trace.now at.judge-record.result (judged at)
-    c.before.if1.true c.refused.result c.refused.ensures
+returns-then-admitted-ne0 : tie.Need-returns-then-admitted-ne0
+returns-then-admitted-ne0 c =
+    let a = (entry c.before.before.before).args in
+    given-refusal _ _ a.tree.now a.events.now a.log.now a.trace.now c.judge_record-admitted.result (judged c.before.before.before)
+    c.if-admitted-ne0.true c.refused.result c.refused.ensures
 
-run-requires : tie.Need-run-requires
-run-requires c κs =
-    let one = c.before.before.before in
-    let at = one.before.before in
-    let a = (entry at).args in
-    let ready = record-ready _ _ a.tree.now a.events.now a.log.now a.trace.now at.judge-record.result (judged at)
-    one.if1.false in
+run-walked-requires : tie.Need-run-walked-requires
+run-walked-requires c κs =
+    let a = (entry c.before.before.before.before.before).args in
+    let ready = record-ready _ _ a.tree.now a.events.now a.log.now a.trace.now c.judge_record-admitted.result (judged c.before.before.before.before.before)
+    c.if-admitted-ne0.false in
     (ready_admitted a.events.now ready, refl)
 
-sub-last : tie.Need-overflow-sub-last
-sub-last c =
+overflow_sub-last : tie.Need-overflow_sub-last
+overflow_sub-last c =
     let one = given c in
     let at = one.before.before in
     let a = (entry at).args in
-    some_steps _ _ a.tree.now a.events.now a.log.now a.trace.now at.judge-record.result (judged at)
-    one.if1.left
+    some_steps _ _ a.tree.now a.events.now a.log.now a.trace.now at.judge_record-admitted.result (judged at)
+    one.if-admitted-ne0.false
 
 answer-requires : tie.Need-answer-requires
 answer-requires c κs = search rules
 
-same_length : tie.Need-same-length
-same_length c = search rules
+shape_of-log : tie.Need-shape_of-log
+shape_of-log c = search rules
 
-same-length-2 : tie.Need-same-length-2
-same-length-2 c = search rules
+shape_of-trace : tie.Need-shape_of-trace
+shape_of-trace c = search rules
 
-returns-2 : tie.Need-returns-2
-returns-2 c =
-    let walked = c.before.before in
-    let run = walked.before.before.before.before.before.run in
-    let one = given walked in
+returns : tie.Need-returns
+returns c =
+    let run = c.run-walked in
+    let one = given c.before.before in
     let at = one.before.before in
     let a = (entry at).args in
-    walk-answered _ _ a.tree.now a.events.now a.log.now a.trace.now at.judge-record.result (judged at)
-    one.if1.left run.result run.new.1.1.1.0 run.new.1.1.1.1.0 _ run.ensures c.answer.result
+    walk-answered _ _ a.tree.now a.events.now a.log.now a.trace.now at.judge_record-admitted.result (judged at)
+    one.if-admitted-ne0.false run.result run.new.log run.new.trace _ run.ensures c.answer.result
     c.answer.ensures
 
-pub record-spec : {M : Type 1} → statement M
-record-spec =
+pub record_spec : {M : Type 1} → statement M
+record_spec =
     tie.close
     (tie.spec
-    judge-record-requires
+    judge_record-admitted-requires
     refused-requires
-    returns
-    run-requires
-    sub-last
+    returns-then-admitted-ne0
+    run-walked-requires
+    overflow_sub-last
     answer-requires
-    same_length
-    same-length-2
-    returns-2)
+    shape_of-log
+    shape_of-trace
+    returns)

@@ -10,15 +10,15 @@ use Rattle.record.specs.Answer.Terms.{refusal, answered}
 use Rattle.record.proofs.answer.answer.Statement.{statement}
 use Rattle.record.proofs.answer.answer.Tie as tie
 
-totals-of-requires : tie.Need-totals-of-requires
-totals-of-requires c κs = search rules
+totals_of-totals-requires : tie.Need-totals_of-totals-requires
+totals_of-totals-requires c κs = search rules
 
-returns : tie.Need-returns
+returns-then-number-ne0 : tie.Need-returns-then-number-ne0
 unfolding answered refusal
-returns c =
-    let a = c.before.before.before.before.args in
-    let none = c.before.before.before.totals-of.ensures ∙ totals_refused a.number a.loads a.classes c.if1.true in
-    rw (ne_eqb a.number 0 c.if1.true)
+returns-then-number-ne0 c =
+    let a = c.args in
+    let none = c.totals_of-totals.ensures ∙ totals_refused a.number a.loads a.classes c.if-number-ne0.true in
+    rw (ne_eqb a.number 0 c.if-number-ne0.true)
     (λ k. record {
       number = a.number;
       position = a.position;
@@ -30,12 +30,12 @@ returns c =
       classes = (none k).classes;
     })
 
-returns-2 : tie.Need-returns-2
+returns : tie.Need-returns
 unfolding answered
-returns-2 c =
-    let a = c.before.before.before.before.args in
-    let all = c.before.before.before.totals-of.ensures ∙ totals_accepted a.number a.loads a.classes c.if1.false in
-    rw (eq-eqb a.number 0 c.if1.false)
+returns c =
+    let a = c.args in
+    let all = c.totals_of-totals.ensures ∙ totals_accepted a.number a.loads a.classes c.if-number-ne0.false in
+    rw (eq-eqb a.number 0 c.if-number-ne0.false)
     (λ k. record {
       number = 0;
       position = 0;
@@ -47,5 +47,5 @@ returns-2 c =
       classes = (all k).classes;
     })
 
-pub answer-spec : {M : Type 1} → statement M
-answer-spec = tie.close (tie.spec totals-of-requires returns returns-2)
+pub answer_spec : {M : Type 1} → statement M
+answer_spec = tie.close (tie.spec totals_of-totals-requires returns-then-number-ne0 returns)

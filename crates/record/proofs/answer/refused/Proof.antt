@@ -12,7 +12,7 @@ answer-requires c κs = search rules
 
 returns : tie.Need-returns
 unfolding answered
-returns c = c.answer.ensures ∙ rw (ne_eqb c.before.args.number 0 c.before.requires) refl
+returns c = c.answer.ensures ∙ rw (ne_eqb c.args.number 0 c.requires) refl
 
-pub refused-spec : {M : Type 1} → statement M
-refused-spec = tie.close (tie.spec answer-requires returns)
+pub refused_spec : {M : Type 1} → statement M
+refused_spec = tie.close (tie.spec answer-requires returns)

@@ -17,100 +17,90 @@ frame : (c : tie.Start) → Frame c.args.tree.now
 frame c = start-frame c.args.setup.workers c.args.setup.policy c.args.tree.now c.requires.0
 
 -- Either array has room for the steps.
-room : (c : tie.After-steps) {m : ℕ} → m ≡ 4095 → c.steps.result ≤ m
-room c e = omega (arith, (frame c.before.before.before.before.before).most, c.steps.ensures, e)
+room : (c : tie.After-steps-n) {m : ℕ} → m ≡ 4095 → c.steps-n.result ≤ m
+room c e = omega (arith, (frame c.before.before.before.before.before).most, c.steps-n.ensures, e)
 
-ends-room : (c : tie.After-fill) → c.before.before.before.steps.result ≤ length c.fill.new.1.0
-ends-room c = room c.before.before.before c.fill.auto.1.0
+ends-room : (c : tie.After-fill) → c.steps-n.result ≤ length c.fill.new.ends
+ends-room c = room c.before.before.before c.fill.auto.ends
 
-openers-room : (c : tie.After-fill) → c.before.before.before.steps.result ≤ length c.fill.new.1.1.0
-openers-room c = room c.before.before.before c.fill.auto.1.1.0
+openers-room : (c : tie.After-fill) → c.steps-n.result ≤ length c.fill.new.openers
+openers-room c = room c.before.before.before c.fill.auto.openers
 
-steps-requires : tie.Need-steps-requires
-steps-requires c κs = search rules
+steps-n-requires : tie.Need-steps-n-requires
+steps-n-requires c κs = search rules
 
-slice-aggregate-fill : tie.Need-slice-aggregate-fill
-slice-aggregate-fill c = search rules
+slice_bounds-fill-end : tie.Need-slice_bounds-fill-end
+slice_bounds-fill-end c = search rules
 
-slice-aggregate-fill-2 : tie.Need-slice-aggregate-fill-2
-slice-aggregate-fill-2 c = search rules
+slice_bounds-fill-end-2 : tie.Need-slice_bounds-fill-end-2
+slice_bounds-fill-end-2 c = search rules
 
 fill-requires : tie.Need-fill-requires
 fill-requires c κs =
-    let at = c.before.before.before.before.before.before.before in
-    let most = (frame at).most in
-    (start-tree-accepts at.args.setup.workers at.args.setup.policy at.args.tree.now at.requires.0, (most, most))
+    let most = (frame c.before.before.before.before.before.before.before).most in
+    (start-tree-accepts c.args.setup.workers c.args.setup.policy c.args.tree.now c.requires.0, (most, most))
 
-slice-aggregate-add-up : tie.Need-slice-aggregate-add-up
-slice-aggregate-add-up c = search rules
+slice_bounds-add_up-end : tie.Need-slice_bounds-add_up-end
+slice_bounds-add_up-end c = search rules
 
-add-up-requires : tie.Need-add-up-requires
-add-up-requires c κs =
-    let at = c.before.before.before.before.before.before.before.before.before.before.before.before in
-    let most = (frame at).most in
-    (most, (omega (arith, most), ((frame at).class, at.requires.1.1)))
+add_up-requires : tie.Need-add_up-requires
+add_up-requires c κs =
+    let most = (frame c.before.before.before.before.before.before.before.before.before.before.before.before).most in
+    (most, (omega (arith, most), ((frame c.before.before.before.before.before.before.before.before.before.before.before.before).class, c.requires.1.1)))
 
-array-share-prefix-ends : tie.Need-array-share-prefix-ends
-array-share-prefix-ends c = ends-room c.before.before.before.before.before.before
+slice_bounds-ends-end : tie.Need-slice_bounds-ends-end
+slice_bounds-ends-end c = ends-room c.before.before.before.before.before.before
 
-slice-aggregate-walk : tie.Need-slice-aggregate-walk
-slice-aggregate-walk c =
-    let at = c.before.before.before.before.before.before.before in
-    sym (length-take-le at.before.before.before.steps.result at.fill.new.1.0 (ends-room at))
+slice_bounds-walk-end : tie.Need-slice_bounds-walk-end
+slice_bounds-walk-end c =
+    sym (length-take-le c.steps-n.result c.fill.new.ends (ends-room c.before.before.before.before.before.before.before))
 
-array-share-prefix-openers : tie.Need-array-share-prefix-openers
-array-share-prefix-openers c = openers-room c.before.before.before.before.before.before.before
+slice_bounds-openers-end : tie.Need-slice_bounds-openers-end
+slice_bounds-openers-end c = openers-room c.before.before.before.before.before.before.before
 
-slice-aggregate-walk-2 : tie.Need-slice-aggregate-walk-2
-slice-aggregate-walk-2 c =
-    let at = c.before.before.before.before.before.before.before.before in
-    sym (length-take-le at.before.before.before.steps.result at.fill.new.1.1.0 (openers-room at))
+slice_bounds-walk-end-2 : tie.Need-slice_bounds-walk-end-2
+slice_bounds-walk-end-2 c =
+    sym (length-take-le c.steps-n.result c.fill.new.openers (openers-room c.before.before.before.before.before.before.before.before))
 
-slice-aggregate-walk-3 : tie.Need-slice-aggregate-walk-3
-slice-aggregate-walk-3 c = search rules
+slice_bounds-walk-end-3 : tie.Need-slice_bounds-walk-end-3
+slice_bounds-walk-end-3 c = search rules
 
 walk-requires : tie.Need-walk-requires
 walk-requires c κs =
-    let summed = c.before.before.before.before.before.before in
-    let filled = summed.before.before.before.before.before in
-    let counted = filled.before.before.before in
-    let at = counted.before.before.before.before.before in
-    let ks = kinds at.args.tree.now in
-    let n = counted.steps in
-    let tables = filled.fill in
-    let ends = ends_prefix ks tables.new.1.0 n.result n.ensures (ends-room filled) tables.ensures.0 in
-    let openers = openers_prefix ks tables.new.1.1.0 n.result n.ensures (openers-room filled) tables.ensures.1 in
-    let few : length ks < length summed.add-up.new.1.0 = omega (arith, (frame at).most, summed.add-up.auto.1.0) in
-    (at.requires.0, (ends, (openers, ((few, summed.add-up.ensures.0), at.requires.1.0))))
+    let ks = kinds c.args.tree.now in
+    let n = c.steps-n in
+    let tables = c.fill in
+    let ends = ends_prefix ks tables.new.ends n.result n.ensures (ends-room c.before.before.before.before.before.before.before.before.before.before.before) tables.ensures.0 in
+    let openers = openers_prefix ks tables.new.openers n.result n.ensures (openers-room c.before.before.before.before.before.before.before.before.before.before.before) tables.ensures.1 in
+    let few : length ks < length c.add_up.new.sums = omega (arith, (frame c.before.before.before.before.before.before.before.before.before.before.before.before.before.before.before.before.before.before.before).most, c.add_up.auto.sums) in
+    (c.requires.0, (ends, (openers, ((few, c.add_up.ensures.0), c.requires.1.0))))
 
-same_length : tie.Need-same-length
-same_length c = search rules
+shape_of-log : tie.Need-shape_of-log
+shape_of-log c = search rules
 
-same-length-2 : tie.Need-same-length-2
-same-length-2 c = search rules
+shape_of-trace : tie.Need-shape_of-trace
+shape_of-trace c = search rules
 
 returns : tie.Need-returns
 returns c =
-    let walked = c.before.before.before.before in
-    let summed = walked.before.before.before.before.before.before.before in
-    (walked.walk.ensures, summed.add-up.ensures.1)
+    (c.walk.ensures, c.add_up.ensures.1)
 
-pub walk-events-spec : {M : Type 1} → statement M
-walk-events-spec =
+pub walk_events_spec : {M : Type 1} → statement M
+walk_events_spec =
     tie.close
     (tie.spec
-    steps-requires
-    slice-aggregate-fill
-    slice-aggregate-fill-2
+    steps-n-requires
+    slice_bounds-fill-end
+    slice_bounds-fill-end-2
     fill-requires
-    slice-aggregate-add-up
-    add-up-requires
-    array-share-prefix-ends
-    slice-aggregate-walk
-    array-share-prefix-openers
-    slice-aggregate-walk-2
-    slice-aggregate-walk-3
+    slice_bounds-add_up-end
+    add_up-requires
+    slice_bounds-ends-end
+    slice_bounds-walk-end
+    slice_bounds-openers-end
+    slice_bounds-walk-end-2
+    slice_bounds-walk-end-3
     walk-requires
-    same_length
-    same-length-2
+    shape_of-log
+    shape_of-trace
     returns)
