@@ -1,5 +1,7 @@
 // The phases of a trace in the histogram (document 02, #106): one pass over the run list that replay has written, where the phases
 // stand one behind the other, adds up the weights of each phase's steps and counts the phase in the bucket of that load.
+#![tactic(auto)]
+
 ghost use Rattle.std.specs.Prelude.{◌≡◌, ◌*◌, ◌≤◌, length};
 ghost use Rattle.rules.specs.Tree.{most_steps, weights};
 ghost use Rattle.rules_histogram.specs.Histograms.{wrapping, add_load, add_loads};

@@ -7,39 +7,39 @@ use Rattle.histogram_limits.specs.Laws.Buckets.{place_within}
 use Rattle.histogram_phases.proofs.add_load.Statement.{statement}
 use Rattle.histogram_phases.proofs.add_load.Tie as tie
 
-within : (c : tie.After-bucket) → c.bucket.result < bucket_count
-within c = rw c.bucket.ensures (place_within c.before.args.load)
+within : (c : tie.After-bucket-place) → c.bucket-place.result < bucket_count
+within c = rw c.bucket-place.ensures (place_within c.args.load)
 
-bucket-requires : tie.Need-bucket-requires
-bucket-requires c κs = search rules
+bucket-place-requires : tie.Need-bucket-place-requires
+bucket-place-requires c κs = search rules
 
-mul-wrapping-add-u32 : tie.Need-overflow-mul-wrapping-add-u32
-mul-wrapping-add-u32 c = omega (arith, within c)
+offset_bounds-counts-place : tie.Need-offset_bounds-counts-place
+offset_bounds-counts-place c = omega (arith, within c)
 
-element-copy-out-wrapping-add-u32 : tie.Need-element-copy-out-wrapping-add-u32
-element-copy-out-wrapping-add-u32 c = within c
+bounds-counts-place : tie.Need-bounds-counts-place
+bounds-counts-place c = within c.before
 
-wrapping-add-u32-requires : tie.Need-wrapping-add-u32-requires
-wrapping-add-u32-requires c κs = search rules
+wrapping_add_u32-requires : tie.Need-wrapping_add_u32-requires
+wrapping_add_u32-requires c κs = search rules
 
-mul-counts : tie.Need-overflow-mul-counts
-mul-counts c = omega (arith, within c.before.before)
+offset_bounds-counts-place-2 : tie.Need-offset_bounds-counts-place-2
+offset_bounds-counts-place-2 c = omega (arith, within c.before.before.before)
 
-element-write-counts : tie.Need-element-write-counts
-element-write-counts c = within c.before.before
+bounds-counts-place-2 : tie.Need-bounds-counts-place-2
+bounds-counts-place-2 c = within c.before.before.before
 
 returns : tie.Need-returns
 unfolding add_load wrapping
-returns c = rw (c.wrapping-add-u32.ensures, c.before.before.bucket.ensures) refl
+returns c = rw (c.wrapping_add_u32.ensures, c.bucket-place.ensures) refl
 
-pub add-load-spec : {M : Type 1} → statement M
-add-load-spec =
+pub add_load_spec : {M : Type 1} → statement M
+add_load_spec =
     tie.close
     (tie.spec
-    bucket-requires
-    mul-wrapping-add-u32
-    element-copy-out-wrapping-add-u32
-    wrapping-add-u32-requires
-    mul-counts
-    element-write-counts
+    bucket-place-requires
+    offset_bounds-counts-place
+    bounds-counts-place
+    wrapping_add_u32-requires
+    offset_bounds-counts-place-2
+    bounds-counts-place-2
     returns)

@@ -7,111 +7,106 @@ use Rattle.histogram_phases.specs.Laws.Passes.{Adding, adding_start, adding-own,
 use Rattle.histogram_phases.proofs.add_phases.Statement.{statement}
 use Rattle.histogram_phases.proofs.add_phases.Tie as tie
 
-abbrev invariant-loop : tie.invariant-loop
-invariant-loop tree list n counts₀ i₀ phase₀ load₀ counts i phase load = Adding (weights tree) list n counts₀ i phase load counts
+abbrev invariant-loop-i : tie.invariant-loop-i
+invariant-loop-i tree list n counts₀ i₀ phase₀ load₀ counts i phase load = Adding (weights tree) list n counts₀ i phase load counts
 
-abbrev decreases-loop : tie.decreases-loop
-decreases-loop tree list n counts₀ i₀ phase₀ load₀ counts i phase load = n - i
+abbrev decreases-loop-i : tie.decreases-loop-i
+decreases-loop-i tree list n counts₀ i₀ phase₀ load₀ counts i phase load = n - i
 
 -- The loop's head, from where a record is read.
-abbrev head : tie.After-weight invariant-loop decreases-loop → tie.At-loop invariant-loop decreases-loop
+abbrev head : tie.After-weight-weight invariant-loop-i decreases-loop-i → tie.At-loop-i invariant-loop-i decreases-loop-i
 head c = c.before.before.before.before
 
-abbrev entry : tie.At-loop invariant-loop decreases-loop → tie.Start invariant-loop decreases-loop
+abbrev entry : tie.At-loop-i invariant-loop-i decreases-loop-i → tie.Start invariant-loop-i decreases-loop-i
 entry c = c.before.before.before
 
-loop-holds : tie.Need-loop-init invariant-loop decreases-loop
-loop-holds c =
-    let a = c.before.before.args in
+loop-i-init : tie.Need-loop-i-init invariant-loop-i decreases-loop-i
+loop-i-init c =
+    let a = c.args in
     adding_start (weights a.tree.now) a.list.now a.n a.counts.now
 
-mul_at : tie.Need-overflow-mul-at invariant-loop decreases-loop
-mul_at c = omega arith
+overflow_mul-at : tie.Need-overflow_mul-at invariant-loop-i decreases-loop-i
+overflow_mul-at c = omega arith
 
-add-i : tie.Need-overflow-add-i invariant-loop decreases-loop
-add-i c = omega arith
+overflow_add-i : tie.Need-overflow_add-i invariant-loop-i decreases-loop-i
+overflow_add-i c = omega arith
 
-number-at-requires : tie.Need-number-at-requires invariant-loop decreases-loop
-number-at-requires c κs = omega arith
+number_at-next-requires : tie.Need-number_at-next-requires invariant-loop-i decreases-loop-i
+number_at-next-requires c κs = omega arith
 
-add-number-at : tie.Need-overflow-add-number-at invariant-loop decreases-loop
-add-number-at c = omega arith
+overflow_add-at : tie.Need-overflow_add-at invariant-loop-i decreases-loop-i
+overflow_add-at c = omega arith
 
-number-at-requires-2 : tie.Need-number-at-requires-2 invariant-loop decreases-loop
-number-at-requires-2 c κs = omega arith
+number_at-requires : tie.Need-number_at-requires invariant-loop-i decreases-loop-i
+number_at-requires c κs = omega arith
 
-weight-requires : tie.Need-weight-requires invariant-loop decreases-loop
-weight-requires c κs = search rules
+weight-weight-requires : tie.Need-weight-weight-requires invariant-loop-i decreases-loop-i
+weight-weight-requires c κs = search rules
 
-cast-weight : tie.Need-overflow-cast-weight invariant-loop decreases-loop
-cast-weight c = search rules
+overflow_cast-weight : tie.Need-overflow_cast-weight invariant-loop-i decreases-loop-i
+overflow_cast-weight c = search rules
 
-add-load : tie.Need-overflow-add-load invariant-loop decreases-loop
-add-load c = omega (arith, (head c.before).loop.inv.light)
+overflow_add-load : tie.Need-overflow_add-load invariant-loop-i decreases-loop-i
+overflow_add-load c = omega (arith, (head c.before).loop-i.invariant.light)
 
-loop-less : tie.Need-loop-smaller invariant-loop decreases-loop
-loop-less c = omega arith
+loop-i-smaller-then-next-phase : tie.Need-loop-i-smaller-then-next-phase invariant-loop-i decreases-loop-i
+loop-i-smaller-then-next-phase c = omega arith
 
-loop-again : tie.Need-loop-preserved invariant-loop decreases-loop
-loop-again c =
-    let w = c.before in
-    let at = head w in
+loop-i-preserved-then-next-phase : tie.Need-loop-i-preserved-then-next-phase invariant-loop-i decreases-loop-i
+loop-i-preserved-then-next-phase c =
+    let at = head c.before in
     let a = (entry at).args in
-    let loop = at.loop in
+    let loop = at.loop-i in
     adding-own (weights a.tree.now) a.list.now a.n a.counts.now loop.i loop.phase loop.load loop.counts
-    loop.inv (omega arith) w.before.before.number_at_lem.result w.before.number-at2.result w.weight.result
-    w.before.before.number_at_lem.ensures w.before.number-at2.ensures w.weight.ensures (omega arith) c.if1.true
+    loop.invariant (omega arith) c.number_at-next.result c.number_at.result c.weight-weight.result
+    c.number_at-next.ensures c.number_at.ensures c.weight-weight.ensures (omega arith) c.if-next-phase.true
 
-add-load-requires : tie.Need-add-load-requires invariant-loop decreases-loop
-add-load-requires c κs = search rules
+add_load-requires : tie.Need-add_load-requires invariant-loop-i decreases-loop-i
+add_load-requires c κs = search rules
 
-loop-less-2 : tie.Need-loop-smaller-2 invariant-loop decreases-loop
-loop-less-2 c = omega arith
+loop-i-smaller : tie.Need-loop-i-smaller invariant-loop-i decreases-loop-i
+loop-i-smaller c = omega arith
 
-loop-again-2 : tie.Need-loop-preserved-2 invariant-loop decreases-loop
-loop-again-2 c =
-    let one = c.before.before in
-    let w = one.before in
-    let at = head w in
+loop-i-preserved : tie.Need-loop-i-preserved invariant-loop-i decreases-loop-i
+loop-i-preserved c =
+    let at = head c.before.before.before in
     let a = (entry at).args in
-    let loop = at.loop in
+    let loop = at.loop-i in
     adding-next (weights a.tree.now) a.list.now a.n a.counts.now loop.i loop.phase loop.load loop.counts
-    loop.inv (omega arith) w.before.before.number_at_lem.result w.before.number-at2.result w.weight.result
-    w.before.before.number_at_lem.ensures w.before.number-at2.ensures w.weight.ensures (omega arith) one.if1.false
-    _ c.add-load.ensures
+    loop.invariant (omega arith) c.number_at-next.result c.number_at.result c.weight-weight.result
+    c.number_at-next.ensures c.number_at.ensures c.weight-weight.ensures (omega arith) c.if-next-phase.false
+    _ c.add_load.ensures
 
-add-load-requires-2 : tie.Need-add-load-requires-2 invariant-loop decreases-loop
-add-load-requires-2 c κs = search rules
+add_load-requires-2 : tie.Need-add_load-requires-2 invariant-loop-i decreases-loop-i
+add_load-requires-2 c κs = search rules
 
-returns : tie.Need-returns invariant-loop decreases-loop
+returns : tie.Need-returns invariant-loop-i decreases-loop-i
 returns c =
-    let after = c.before.before in
-    let at = after.before in
-    let a = (entry at).args in
-    let loop = at.loop in
-    c.add-load2.ensures
+    let a = (entry c.before.before.before).args in
+    let loop = c.loop-i in
+    c.add_load-2.ensures
     ∙ adding-done (weights a.tree.now) a.list.now a.n a.counts.now loop.i loop.phase loop.load
     loop.counts loop.invariant (omega arith)
 
-pub add-phases-spec : {M : Type 1} → statement M
-add-phases-spec =
+pub add_phases_spec : {M : Type 1} → statement M
+add_phases_spec =
     tie.close
     (tie.spec
-    invariant-loop
-    decreases-loop
-    loop-holds
-    mul_at
-    add-i
-    number-at-requires
-    add-number-at
-    number-at-requires-2
-    weight-requires
-    cast-weight
-    add-load
-    loop-less
-    loop-again
-    add-load-requires
-    loop-less-2
-    loop-again-2
-    add-load-requires-2
+    invariant-loop-i
+    decreases-loop-i
+    loop-i-init
+    overflow_mul-at
+    overflow_add-i
+    number_at-next-requires
+    overflow_add-at
+    number_at-requires
+    weight-weight-requires
+    overflow_cast-weight
+    overflow_add-load
+    loop-i-smaller-then-next-phase
+    loop-i-preserved-then-next-phase
+    add_load-requires
+    loop-i-smaller
+    loop-i-preserved
+    add_load-requires-2
     returns)
