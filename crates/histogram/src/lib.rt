@@ -1,5 +1,7 @@
 // Phase loads over many traces (document 02, #106): a histogram by value, its start, and the call that replays a trace and adds its
 // phases.
+#![tactic(auto)]
+
 ghost use Rattle.std.specs.Prelude.{◌≡◌};
 ghost use Rattle.rules_histogram.specs.Histograms.{empty, wrapping, add_call};
 ghost use Rattle.histogram.specs.Contract.{given, stored, answers};

@@ -11,76 +11,72 @@ use Rattle.histogram.proofs.Histogram.add.Tie as tie
 
 -- ---- what is known once replay has answered
 
-abbrev entry : tie.After-replay-unless → tie.Start
+abbrev entry : tie.After-replay_unless-replayed → tie.Start
 entry c = c.before.before.before.before.before.before
 
-abbrev list_left : tie.After-replay-unless → List ℕ
-list_left c = c.replay-unless.new.1.1.1.0
+abbrev list_left : tie.After-replay_unless-replayed → List ℕ
+list_left c = c.replay_unless-replayed.new.list
 
-abbrev accepted : tie.Else1 → tie.After-replay-unless
+abbrev accepted : tie.Else-replayed-ne0 → tie.After-replay_unless-replayed
 accepted c = c.before.before.before.before
 
 -- ---- the needs
 
-replay-unless-requires : tie.Need-replay-unless-requires
-replay-unless-requires c κs = search rules
+replay_unless-replayed-requires : tie.Need-replay_unless-replayed-requires
+replay_unless-replayed-requires c κs = search rules
 
-same_length : tie.Need-same-length
-same_length c = search rules
+shape_of-list-then-replayed-ne0 : tie.Need-shape_of-list-then-replayed-ne0
+shape_of-list-then-replayed-ne0 c = search rules
 
-returns : tie.Need-returns
-returns c =
-    let at = c.before.before.before.before in
-    let a = (entry at).args in
-    refused-meets _ _ a.tree.now a.trace.now a.list.now a.self at.replay-unless.result (list_left at)
-    at.replay-unless.ensures.0 at.replay-unless.ensures.1 c.if1.true
+returns-then-replayed-ne0 : tie.Need-returns-then-replayed-ne0
+returns-then-replayed-ne0 c =
+    let a = (entry c.before.before.before.before).args in
+    refused-meets _ _ a.tree.now a.trace.now a.list.now a.self c.replay_unless-replayed.result (list_left c.before.before.before.before)
+    c.replay_unless-replayed.ensures.0 c.replay_unless-replayed.ensures.1 c.if-replayed-ne0.true
 
 steps-requires : tie.Need-steps-requires
 steps-requires c κs = search rules
 
-add-phases-requires : tie.Need-add-phases-requires
-add-phases-requires c κs =
-    let one = c.before.before.before.before in
-    let at = accepted one in
+add_phases-requires : tie.Need-add_phases-requires
+add_phases-requires c κs =
+    let at = accepted c.before.before.before in
     let a = (entry at).args in
-    rw c.before.steps.ensures
-    (listed _ _ a.tree.now a.trace.now a.list.now a.self at.replay-unless.result (list_left at)
-    at.replay-unless.ensures.0 at.replay-unless.ensures.1 one.if1.false)
+    rw c.steps.ensures
+    (listed _ _ a.tree.now a.trace.now a.list.now a.self at.replay_unless-replayed.result (list_left at)
+    at.replay_unless-replayed.ensures.0 at.replay_unless-replayed.ensures.1 c.if-replayed-ne0.false)
 
-add-traces : tie.Need-overflow-add-traces
-add-traces c =
-    let one = c.before.before.before.before.before.before in
-    let at = accepted one in
+overflow_add-traces : tie.Need-overflow_add-traces
+overflow_add-traces c =
+    let at = accepted c.before.before.before.before.before in
     let a = (entry at).args in
     record {
       fits = omega (
         arith,
-        room _ _ a.tree.now a.trace.now a.list.now a.self at.replay-unless.result (list_left at)
-            at.replay-unless.ensures.0 at.replay-unless.ensures.1 one.if1.false,
+        room _ _ a.tree.now a.trace.now a.list.now a.self at.replay_unless-replayed.result (list_left at)
+            at.replay_unless-replayed.ensures.0 at.replay_unless-replayed.ensures.1 c.if-replayed-ne0.false,
       );
     }
 
-same-length-2 : tie.Need-same-length-2
-same-length-2 c = search rules
+shape_of-list : tie.Need-shape_of-list
+shape_of-list c = search rules
 
-returns-2 : tie.Need-returns-2
-returns-2 c =
-    let one = c.before.before.before.before.before.before in
-    let at = accepted one in
+returns : tie.Need-returns
+returns c =
+    let at = accepted c.before.before.before.before.before in
     let a = (entry at).args in
-    added-meets _ _ a.tree.now a.trace.now a.list.now a.self at.replay-unless.result (list_left at)
-    at.replay-unless.ensures.0 at.replay-unless.ensures.1 one.if1.false _
-    (rw (← c.before.before.before.steps.ensures) c.before.add-phases.ensures)
+    added-meets _ _ a.tree.now a.trace.now a.list.now a.self at.replay_unless-replayed.result (list_left at)
+    at.replay_unless-replayed.ensures.0 at.replay_unless-replayed.ensures.1 c.if-replayed-ne0.false _
+    (rw (← c.steps.ensures) c.add_phases.ensures)
 
 pub add_spec : {M : Type 1} → statement M
 add_spec =
     tie.close
     (tie.spec
-    replay-unless-requires
-    same_length
-    returns
+    replay_unless-replayed-requires
+    shape_of-list-then-replayed-ne0
+    returns-then-replayed-ne0
     steps-requires
-    add-phases-requires
-    add-traces
-    same-length-2
-    returns-2)
+    add_phases-requires
+    overflow_add-traces
+    shape_of-list
+    returns)
