@@ -216,10 +216,10 @@ module _ (p : ℕ) (ks : List ℕ) (sh : Shape (length ks) (end_at ks) (size_at 
         (i, refl, e, inside.0, inside.1, f.chain)
         (λ gone n. kept-opens p ks gone i deque e (or_none (gone (holds p ks i)) false n).0)
         (λ w.
-            let pushed = sym (first-pushes p ks i w) in
-            let ends = ends_same ks (frontier_end ks ph) i (cont ks i) deque (cont-inside ks sh i here e).3 (f.frontier w) in
-            rw (first_holds p ks i w)
-            (pushed, subst (λ (x : ℕ). EndToEnd ks (x ∷ deque) (frontier_end ks ph)) pushed ends)))
+        let pushed = sym (first-pushes p ks i w) in
+        let ends = ends_same ks (frontier_end ks ph) i (cont ks i) deque (cont-inside ks sh i here e).3 (f.frontier w) in
+        rw (first_holds p ks i w)
+        (pushed, subst (λ (x : ℕ). EndToEnd ks (x ∷ deque) (frontier_end ks ph)) pushed ends)))
 
   pub phase_runs : (ph : Phase) (log : List ℕ) (i : ℕ) (deque : List ℕ) → PhaseFacts p ks ph log (i ∷ deque)
       → PhaseFacts p ks ph (log ++ (i ∷ [])) (stack (after_run (λ x. false) p ks i deque))

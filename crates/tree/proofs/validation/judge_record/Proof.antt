@@ -6,7 +6,6 @@ use mathlib.Core.Path.{◌≡◌, ◌∙◌, sym}
 use mathlib.Core.Bool.{true}
 use mathlib.Core.List.{List, []}
 use lib.ListN.{get_or}
-use borrow.Author.Tests.{not-true, not-false}
 use Rattle.rules.specs.Tree.{tree_records, well_formed}
 use Rattle.tree.specs.Laws.Records.{length-kinds}
 use Rattle.tree.specs.Laws.Acceptance.{record_kind, judge_malformed, judge_full, judge_last_end, judge_after, judge_fine}
