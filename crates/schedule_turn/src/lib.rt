@@ -1,6 +1,8 @@
 // One turn of the schedule maker (document 02, #102), on the arrays of a run and on the list that is being made: a worker whose step
 // may run runs it, an idle one draws a victim. Two tables beside the run keep nearly every turn that passes from looking through it: the
 // length of each deque, and for each worker the step that it was last seen to wait for.
+#![tactic(auto)]
+
 mod draw;
 mod waiting;
 

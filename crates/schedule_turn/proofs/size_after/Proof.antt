@@ -1,5 +1,5 @@
 -- `schedule_turn::size_after` meets its contract: it goes by the step's kind as `size_after` does. Assumes nothing.
-use Rattle.std.proofs.Common.{◌≡◌, ℕ, pred, ◌+◌, ◌-◌, List, sym, ◌∙◌, arith, rules, eq-eqb, ne_eqb}
+use Rattle.std.proofs.Common.{◌≡◌, ℕ, pred, ◌+◌, List, sym, ◌∙◌, arith, rules, eq-eqb, ne_eqb}
 use Rattle.rules.specs.Tree.{kind_at, is_end}
 use Rattle.schedule_turn.specs.Terms.{size_after}
 use Rattle.schedule_turn.proofs.size_after.Statement.{statement}
@@ -16,24 +16,22 @@ ends ks i size left e less = rw (eq-eqb (kind_at ks i) 3 e) less
 kind-requires : tie.Need-kind-requires
 kind-requires c κs = search rules
 
-add-result : tie.Need-overflow-add-result
-add-result c = search rules
+overflow_add-result : tie.Need-overflow_add-result
+overflow_add-result c = search rules
+
+returns-then-kind-ne-END : tie.Need-returns-then-kind-ne-END
+returns-then-kind-ne-END c = opens _ _ _ (λ e. c.if-kind-ne-END.true (c.kind.ensures ∙ e))
+
+returns-then-size-eq0 : tie.Need-returns-then-size-eq0
+returns-then-size-eq0 c =
+    ends _ _ _ _ (sym c.kind.ensures ∙ c.if-kind-ne-END.false) (omega (arith, c.if-size-eq0.true))
+
+overflow_sub-result : tie.Need-overflow_sub-result
+overflow_sub-result c = search rules
 
 returns : tie.Need-returns
-returns c = opens _ _ _ (λ e. c.if1.true (c.before.kind.ensures ∙ e))
+returns c =
+    ends _ _ _ _ (sym c.kind.ensures ∙ c.if-kind-ne-END.false) (omega arith)
 
-returns-2 : tie.Need-returns-2
-returns-2 c =
-    let at = c.before in
-    ends _ _ _ _ (sym at.before.kind.ensures ∙ at.if1.false) (omega (arith, c.if2.true))
-
-sub-result : tie.Need-overflow-sub-result
-sub-result c = search rules
-
-returns-3 : tie.Need-returns-3
-returns-3 c =
-    let at = c.before in
-    ends _ _ _ _ (sym at.before.kind.ensures ∙ at.if1.false) (omega arith)
-
-pub size-after-spec : {M : Type 1} → statement M
-size-after-spec = tie.close (tie.spec kind-requires add-result returns returns-2 sub-result returns-3)
+pub size_after_spec : {M : Type 1} → statement M
+size_after_spec = tie.close (tie.spec kind-requires overflow_add-result returns-then-kind-ne-END returns-then-size-eq0 overflow_sub-result returns)

@@ -7,104 +7,82 @@ use Rattle.schedule_turn.specs.Laws.Turning.{miss-stands, hit-fits, hit-stands}
 use Rattle.schedule_turn.proofs.steal_turn.Statement.{statement}
 use Rattle.schedule_turn.proofs.steal_turn.Tie as tie
 
--- ---- places
+next_seed-seed-requires : tie.Need-next_seed-seed-requires
+next_seed-seed-requires c κs = search rules
 
-abbrev start : tie.After-named → tie.Start
-start c = c.before.before.before.before.before
+named-victim-requires : tie.Need-named-victim-requires
+named-victim-requires c κs = search rules
 
--- Where the worker drawn is found to have steps, from where the call on the arrays has returned.
-abbrev rich : tie.After-steal-on → tie.Else1
-rich c = c.before.before.before.before.before.before
+overflow_cast-v : tie.Need-overflow_cast-v
+overflow_cast-v c = search rules
 
-abbrev stole : tie.After-wide → tie.After-steal-on
-stole c = c.before.before
+offset_bounds-sizes-v : tie.Need-offset_bounds-sizes-v
+offset_bounds-sizes-v c = search rules
 
--- ---- the needs
+bounds-sizes-v : tie.Need-bounds-sizes-v
+bounds-sizes-v c = search rules
 
-next-seed-requires : tie.Need-next-seed-requires
-next-seed-requires c κs = search rules
-
-named-requires : tie.Need-named-requires
-named-requires c κs = search rules
-
-cast-v : tie.Need-overflow-cast-v
-cast-v c = search rules
-
-mul-size : tie.Need-overflow-mul-size
-mul-size c = search rules
-
-element-copy-out-size : tie.Need-element-copy-out-size
-element-copy-out-size c = search rules
-
-returns : tie.Need-returns
-returns c =
-    let drawn = c.before.before in
-    let given = (start drawn).requires.1.0 in
+returns-then-size-eq0 : tie.Need-returns-then-size-eq0
+returns-then-size-eq0 c =
+    let given = c.requires.1.0 in
     record {
       shown = λ lent m stands.
-          miss-stands stands _ given.0 given.1 _ _ drawn.before.next-seed.ensures drawn.named.ensures.0 c.if1.true;
+          miss-stands stands _ given.0 given.1 _ _ c.next_seed-seed.ensures c.named-victim.ensures.0 c.if-size-eq0.true;
     }
 
-steal-on-requires : tie.Need-steal-on-requires
-steal-on-requires c κs = search rules
+steal_on-moved-requires : tie.Need-steal_on-moved-requires
+steal_on-moved-requires c κs = search rules
 
-sub-sizes : tie.Need-overflow-sub-sizes
-sub-sizes c = search rules
+overflow_sub-sizes : tie.Need-overflow_sub-sizes
+overflow_sub-sizes c = search rules
 
-mul-sizes : tie.Need-overflow-mul-sizes
-mul-sizes c = search rules
+offset_bounds-sizes-v-2 : tie.Need-offset_bounds-sizes-v-2
+offset_bounds-sizes-v-2 c = search rules
 
-element-write-sizes : tie.Need-element-write-sizes
-element-write-sizes c = search rules
+bounds-sizes-v-2 : tie.Need-bounds-sizes-v-2
+bounds-sizes-v-2 c = search rules
 
 wide-requires : tie.Need-wide-requires
 wide-requires c κs = search rules
 
-add-put-event : tie.Need-overflow-add-put-event
-add-put-event c =
-    let at = start (rich (stole c)).before.before in
-    record { fits = omega (arith, c.wide.ensures, few_events at.pre.1.1.stands) }
+overflow_add-runs : tie.Need-overflow_add-runs
+overflow_add-runs c =
+    record { fits = omega (arith, c.wide.ensures, few_events c.requires.1.1.stands) }
 
-put-event-requires : tie.Need-put-event-requires
-put-event-requires c κs =
-    let else = rich (stole c) in
-    let drawn = else.before.before in
-    let given = (start drawn).pre.1 in
+put_event-requires : tie.Need-put_event-requires
+put_event-requires c κs =
+    let given = c.requires.1 in
     rw c.wide.ensures
-    (hit-fits given.1.stands _ given.0.0 given.0.1 _ _ drawn.before.next-seed.ensures drawn.named.ensures.0
-    else.if1.left)
+    (hit-fits given.1.stands _ given.0.0 given.0.1 _ _ c.next_seed-seed.ensures c.named-victim.ensures.0 c.if-size-eq0.false)
 
-same_length : tie.Need-same-length
-same_length c = search rules
+shape_of-events : tie.Need-shape_of-events
+shape_of-events c = search rules
 
-returns-2 : tie.Need-returns-2
-returns-2 c =
-    let wide = c.before.before.before in
-    let else = rich (stole wide) in
-    let drawn = else.before.before in
-    let given = (start drawn).pre.1.0 in
+returns : tie.Need-returns
+returns c =
+    let given = c.requires.1.0 in
     record {
       shown = λ lent m stands.
-          hit-stands stands _ given.0 given.1 _ _ drawn.before.next-seed.ensures drawn.named.ensures.0 else.if1.left
-          _ _ (stole wide).steal-on.ensures _ _ refl (rw wide.wide.ensures at c.before.before.put-event.ensures);
+          hit-stands stands _ given.0 given.1 _ _ c.next_seed-seed.ensures c.named-victim.ensures.0 c.if-size-eq0.false
+          _ _ c.steal_on-moved.ensures _ _ refl (rw c.wide.ensures at c.put_event.ensures);
     }
 
-pub steal-turn-spec : {M : Type 1} → statement M
-steal-turn-spec =
+pub steal_turn_spec : {M : Type 1} → statement M
+steal_turn_spec =
     tie.close
     (tie.spec
-    next-seed-requires
-    named-requires
-    cast-v
-    mul-size
-    element-copy-out-size
-    returns
-    steal-on-requires
-    sub-sizes
-    mul-sizes
-    element-write-sizes
+    next_seed-seed-requires
+    named-victim-requires
+    overflow_cast-v
+    offset_bounds-sizes-v
+    bounds-sizes-v
+    returns-then-size-eq0
+    steal_on-moved-requires
+    overflow_sub-sizes
+    offset_bounds-sizes-v-2
+    bounds-sizes-v-2
     wide-requires
-    add-put-event
-    put-event-requires
-    same_length
-    returns-2)
+    overflow_add-runs
+    put_event-requires
+    shape_of-events
+    returns)

@@ -4,45 +4,43 @@ use Rattle.std.proofs.Common.{rules}
 use Rattle.schedule_turn.proofs.turn.Statement.{statement}
 use Rattle.schedule_turn.proofs.turn.Tie as tie
 
-mul-if1 : tie.Need-overflow-mul-if1
-mul-if1 c = search rules
+offset_bounds-held-worker : tie.Need-offset_bounds-held-worker
+offset_bounds-held-worker c = search rules
 
-element-copy-out-if1 : tie.Need-element-copy-out-if1
-element-copy-out-if1 c = search rules
+bounds-held-worker : tie.Need-bounds-held-worker
+bounds-held-worker c = search rules
 
-steal-turn-requires : tie.Need-steal-turn-requires
-steal-turn-requires c κs =
-    let test = c.before.before.before.before.before.before.before.before in
-    let given = test.before.before.before.before.before.before.requires in
-    (given.0.1, ((given.1.1.0, test.if1.true), given.1.1.1))
+steal_turn-requires : tie.Need-steal_turn-requires
+steal_turn-requires c κs =
+    let given = c.requires in
+    (given.0.1, ((given.1.1.0, c.if-held-worker.true), given.1.1.1))
 
-same_length : tie.Need-same-length
-same_length c = search rules
+shape_of-events-then-held-worker : tie.Need-shape_of-events-then-held-worker
+shape_of-events-then-held-worker c = search rules
+
+returns-then-held-worker : tie.Need-returns-then-held-worker
+returns-then-held-worker c = search rules
+
+run_turn-requires : tie.Need-run_turn-requires
+run_turn-requires c κs =
+    let given = c.requires in
+    (given.0, (given.1.0, ((given.1.1.0, c.if-held-worker.false), given.1.1.1)))
+
+shape_of-events : tie.Need-shape_of-events
+shape_of-events c = search rules
 
 returns : tie.Need-returns
 returns c = search rules
-
-run-turn-requires : tie.Need-run-turn-requires
-run-turn-requires c κs =
-    let test = c.before.before.before.before.before.before.before.before in
-    let given = test.before.before.before.before.before.before.requires in
-    (given.0, (given.1.0, ((given.1.1.0, test.if1.false), given.1.1.1)))
-
-same-length-2 : tie.Need-same-length-2
-same-length-2 c = search rules
-
-returns-2 : tie.Need-returns-2
-returns-2 c = search rules
 
 pub turn_spec : {M : Type 1} → statement M
 turn_spec =
     tie.close
     (tie.spec
-    mul-if1
-    element-copy-out-if1
-    steal-turn-requires
-    same_length
-    returns
-    run-turn-requires
-    same-length-2
-    returns-2)
+    offset_bounds-held-worker
+    bounds-held-worker
+    steal_turn-requires
+    shape_of-events-then-held-worker
+    returns-then-held-worker
+    run_turn-requires
+    shape_of-events
+    returns)

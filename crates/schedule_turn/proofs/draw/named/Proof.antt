@@ -4,12 +4,12 @@ use Rattle.rules_schedule.specs.Schedules.{named}
 use Rattle.schedule_turn.proofs.draw.named.Statement.{statement}
 use Rattle.schedule_turn.proofs.draw.named.Tie as tie
 
-cast-result : tie.Need-overflow-cast-result
-cast-result c = search rules
+overflow_cast-result : tie.Need-overflow_cast-result
+overflow_cast-result c = search rules
 
 returns : tie.Need-returns
 unfolding named
 returns c = search rules
 
-pub named-spec : {M : Type 1} → statement M
-named-spec = tie.close (tie.spec cast-result returns)
+pub named_spec : {M : Type 1} → statement M
+named_spec = tie.close (tie.spec overflow_cast-result returns)

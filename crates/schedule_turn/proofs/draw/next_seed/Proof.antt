@@ -4,12 +4,12 @@ use Rattle.rules_schedule.specs.Schedules.{draw}
 use Rattle.schedule_turn.proofs.draw.next_seed.Statement.{statement}
 use Rattle.schedule_turn.proofs.draw.next_seed.Tie as tie
 
-wrapping-add-u32-requires : tie.Need-wrapping-add-u32-requires
-wrapping-add-u32-requires c κs = search rules
+wrapping_add_u32-requires : tie.Need-wrapping_add_u32-requires
+wrapping_add_u32-requires c κs = search rules
 
 returns : tie.Need-returns
 unfolding draw
 returns c = search rules
 
-pub next-seed-spec : {M : Type 1} → statement M
-next-seed-spec = tie.close (tie.spec wrapping-add-u32-requires returns)
+pub next_seed_spec : {M : Type 1} → statement M
+next_seed_spec = tie.close (tie.spec wrapping_add_u32-requires returns)

@@ -9,95 +9,77 @@ use Rattle.run_spec.specs.Laws.Waiting.{child-found}
 use Rattle.schedule_turn.proofs.waiting.awaited_before.Statement.{statement}
 use Rattle.schedule_turn.proofs.waiting.awaited_before.Tie as tie
 
-abbrev start : tie.After-finish-by → tie.Start
-start c = c.before.before.before.before.before
-
--- The finish child, and in it the highest step before `end` that has not run.
-abbrev asked : tie.After-unrun → tie.After-last-unrun
-asked c = c.before.before
-
-abbrev child : tie.After-unrun → tie.After-first
-child c = (asked c).before.before
-
-found : (c : tie.After-unrun)
-    → let a = (start (child c).before.before).args in
-    Highest (marked a.place.now unrun_mark) (child c).first.given.0.0.0 a.end.0 c.unrun.given.0.0.0
+-- In the finish child, the highest step before `end` that has not run.
+found : (c : tie.In-At) → Highest (marked c.args.place.now unrun_mark) c.in-From.first.0 c.args.end.0 c.in-At.unrun.0
 found c =
-    let a = (start (child c).before.before).args in
-    let walk = (asked c).last-unrun in
-    highest-is (marked a.place.now unrun_mark) (child c).first.given.0.0.0 a.end.0 c.unrun.given.0.0.0
-    (found_at (newest_mark a.place.now unrun_mark (child c).first.given.0.0.0 a.end.0) walk.result walk.ensures
-    c.unrun.given.0.0 c.unrun.given.1)
+    let a = c.args in
+    highest-is (marked a.place.now unrun_mark) c.in-From.first.0 a.end.0 c.in-At.unrun.0
+    (found_at (newest_mark a.place.now unrun_mark c.in-From.first.0 a.end.0) c.last_unrun.result c.last_unrun.ensures
+    c.in-At.unrun c.in-At.is)
 
-returns : tie.Need-returns
-returns c = λ n. absurd (n refl)
+returns-then-j-ge-MOST_STEPS : tie.Need-returns-then-j-ge-MOST_STEPS
+returns-then-j-ge-MOST_STEPS c = λ n. absurd (n refl)
 
-returns-2 : tie.Need-returns-2
-returns-2 c = λ n. absurd (n refl)
+returns-then-i-j : tie.Need-returns-then-i-j
+returns-then-i-j c = λ n. absurd (n refl)
 
-finish-by-requires : tie.Need-finish-by-requires
-finish-by-requires c κs = search rules
+finish_by-requires : tie.Need-finish_by-requires
+finish_by-requires c κs = search rules
 
-enum-known-first : tie.Need-enum-known-first
-enum-known-first c = search rules
+enum_known-first : tie.Need-enum_known-first
+enum_known-first c = search rules
 
-last-unrun-requires : tie.Need-last-unrun-requires
-last-unrun-requires c κs =
-    let else = c.before.before.before.before in
-    omega (arith, else.if2.false, else.before.before.before.before.requires.0)
+last_unrun-requires : tie.Need-last_unrun-requires
+last_unrun-requires c κs =
+    omega (arith, c.if-i-j.false, c.requires.0)
 
-enum-known-unrun : tie.Need-enum-known-unrun
-enum-known-unrun c = search rules
+enum_known-unrun : tie.Need-enum_known-unrun
+enum_known-unrun c = search rules
 
-cast-result : tie.Need-overflow-cast-result
-cast-result c =
-    let at = c.before.before in
-    let else = (child at).before.before.before in
-    omega (arith, else.if2.left, else.before.before.before.before.pre.0, (found at).before)
+overflow_cast-result : tie.Need-overflow_cast-result
+overflow_cast-result c = omega (arith, c.if-i-j.false, c.requires.0, (found c.before).before)
 
-enum_told : tie.Need-enum-told
-enum_told c = search rules
+enum_told-1 : tie.Need-enum_told-1
+enum_told-1 c = search rules
 
-enum-told-2 : tie.Need-enum-told-2
-enum-told-2 c = search rules
+enum_told-in-Nothing : tie.Need-enum_told-in-Nothing
+enum_told-in-Nothing c = search rules
 
-returns-3 : tie.Need-returns-3
-returns-3 c =
-    let at = c.before.before in
-    let first = child at in
-    let called = first.before.before in
-    let a = (start called).args in
+returns-in-At : tie.Need-returns-in-At
+returns-in-At c =
+    let a = c.args in
+    let unrun = found c.before in
     λ n. (
       record {
-        first = first.first.given.0.0.0;
+        first = c.in-From.first.0;
         child =
-            child-found (finish_before (kinds a.tree.now) a.step.0) first.first.given.0.0
-            (sym called.finish-by.ensures ∙ first.first.given.1);
-        from = (found at).from;
-        before = omega (arith, (found at).before, called.before.if2.left);
+            child-found (finish_before (kinds a.tree.now) a.step.0) c.in-From.first
+            (sym c.finish_by.ensures ∙ c.in-From.is);
+        from = unrun.from;
+        before = omega (arith, unrun.before, c.if-i-j.false);
       },
-      (found at).passes,
+      unrun.passes,
     )
 
-returns-4 : tie.Need-returns-4
-returns-4 c = λ n. absurd (n refl)
+returns-in-Nothing-last_unrun : tie.Need-returns-in-Nothing-last_unrun
+returns-in-Nothing-last_unrun c = λ n. absurd (n refl)
 
-returns-5 : tie.Need-returns-5
-returns-5 c = λ n. absurd (n refl)
+returns-in-Nothing : tie.Need-returns-in-Nothing
+returns-in-Nothing c = λ n. absurd (n refl)
 
-pub awaited-before-spec : {M : Type 1} → statement M
-awaited-before-spec =
+pub awaited_before_spec : {M : Type 1} → statement M
+awaited_before_spec =
     tie.close
     (tie.spec
-    returns
-    returns-2
-    finish-by-requires
-    enum-known-first
-    last-unrun-requires
-    enum-known-unrun
-    cast-result
-    enum_told
-    enum-told-2
-    returns-3
-    returns-4
-    returns-5)
+    returns-then-j-ge-MOST_STEPS
+    returns-then-i-j
+    finish_by-requires
+    enum_known-first
+    last_unrun-requires
+    enum_known-unrun
+    overflow_cast-result
+    enum_told-1
+    enum_told-in-Nothing
+    returns-in-At
+    returns-in-Nothing-last_unrun
+    returns-in-Nothing)

@@ -14,14 +14,14 @@ a-step : (place : List ℕ) (j : ℕ) → j < most_steps → eqb (get_or place j
 unfolding unrun_still marked
 a-step place j h = rw (lt-ltb j most_steps h) refl
 
+returns-then-j-ge-MOST_STEPS : tie.Need-returns-then-j-ge-MOST_STEPS
+returns-then-j-ge-MOST_STEPS c = no_step _ _ c.if-j-ge-MOST_STEPS.true
+
+bounds-place-j : tie.Need-bounds-place-j
+bounds-place-j c = search rules
+
 returns : tie.Need-returns
-returns c = no_step _ _ c.if1.true
+returns c = a-step _ _ (omega arith)
 
-element-copy-out-result : tie.Need-element-copy-out-result
-element-copy-out-result c = search rules
-
-returns-2 : tie.Need-returns-2
-returns-2 c = a-step _ _ (omega arith)
-
-pub unrun-still-spec : {M : Type 1} → statement M
-unrun-still-spec = tie.close (tie.spec returns element-copy-out-result returns-2)
+pub unrun_still_spec : {M : Type 1} → statement M
+unrun_still_spec = tie.close (tie.spec returns-then-j-ge-MOST_STEPS bounds-place-j returns)
