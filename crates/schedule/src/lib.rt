@@ -1,5 +1,7 @@
 // The schedule maker (document 02, #102): from a tree, a policy, a count of workers and a seed a list of events, written where it is
 // lent. Nothing is refused once the first event is written.
+#![tactic(auto)]
+
 pub mod rounds;
 
 ghost use Rattle.std.specs.Prelude.{◌≡◌, ◌*◌, ◌≤◌, length};

@@ -13,73 +13,63 @@ use Rattle.tree_tables.specs.Laws.Fronts.{start-frame, ends_prefix, openers_pref
 use Rattle.schedule.proofs.make.Statement.{statement}
 use Rattle.schedule.proofs.make.Tie as tie
 
--- ---- places
-
-abbrev start : tie.After-steps → tie.Start
-start c = c.before.before.before
-
-abbrev counted : tie.After-fill → tie.After-steps
-counted c = c.before.before.before
+-- ---- facts
 
 frame : (c : tie.Start) → Frame c.args.tree.now
 frame c = start-frame c.args.setup.workers c.args.setup.policy c.args.tree.now c.requires.0
 
 -- Either array has room for the steps.
-room : (c : tie.After-steps) {m : ℕ} → m ≡ 4095 → c.steps.result ≤ m
-room c e = omega (arith, (frame (start c)).most, c.steps.ensures, e)
+room : (c : tie.After-steps-n) {m : ℕ} → m ≡ 4095 → c.steps-n.result ≤ m
+room c e = omega (arith, (frame c.before.before.before).most, c.steps-n.ensures, e)
 
-ends-room : (c : tie.After-fill) → (counted c).steps.result ≤ length c.fill.new.1.0
-ends-room c = room (counted c) c.fill.auto.1.0
+ends-room : (c : tie.After-fill) → c.steps-n.result ≤ length c.fill.new.ends
+ends-room c = room c.before.before.before c.fill.auto.ends
 
-openers-room : (c : tie.After-fill) → (counted c).steps.result ≤ length c.fill.new.1.1.0
-openers-room c = room (counted c) c.fill.auto.1.1.0
+openers-room : (c : tie.After-fill) → c.steps-n.result ≤ length c.fill.new.openers
+openers-room c = room c.before.before.before c.fill.auto.openers
 
 -- ---- the needs
 
-steps-requires : tie.Need-steps-requires
-steps-requires c κs = search rules
+steps-n-requires : tie.Need-steps-n-requires
+steps-n-requires c κs = search rules
 
-slice-aggregate-fill : tie.Need-slice-aggregate-fill
-slice-aggregate-fill c = search rules
+slice_bounds-fill-end : tie.Need-slice_bounds-fill-end
+slice_bounds-fill-end c = search rules
 
-slice-aggregate-fill-2 : tie.Need-slice-aggregate-fill-2
-slice-aggregate-fill-2 c = search rules
+slice_bounds-fill-end-2 : tie.Need-slice_bounds-fill-end-2
+slice_bounds-fill-end-2 c = search rules
 
 fill-requires : tie.Need-fill-requires
 fill-requires c κs =
-    let at = start c.before.before in
-    let most = (frame at).most in
-    (start-tree-accepts at.args.setup.workers at.args.setup.policy at.args.tree.now at.pre.0, (most, most))
+    let a = c.args in
+    let most = (frame c.before.before.before.before.before).most in
+    (start-tree-accepts a.setup.workers a.setup.policy a.tree.now c.requires.0, (most, most))
 
-array-share-prefix-ends : tie.Need-array-share-prefix-ends
-array-share-prefix-ends c = ends-room c.before.before
+slice_bounds-ends-end : tie.Need-slice_bounds-ends-end
+slice_bounds-ends-end c = ends-room c.before.before
 
-slice-aggregate-make-events : tie.Need-slice-aggregate-make-events
-slice-aggregate-make-events c =
-    let at = c.before.before.before in
-    sym (length-take-le (counted at).steps.result at.fill.new.1.0 (ends-room at))
+slice_bounds-make_events-end : tie.Need-slice_bounds-make_events-end
+slice_bounds-make_events-end c =
+    sym (length-take-le c.steps-n.result c.fill.new.ends (ends-room c.before.before.before))
 
-array-share-prefix-openers : tie.Need-array-share-prefix-openers
-array-share-prefix-openers c = openers-room c.before.before.before
+slice_bounds-openers-end : tie.Need-slice_bounds-openers-end
+slice_bounds-openers-end c = openers-room c.before.before.before
 
-slice-aggregate-make-events-2 : tie.Need-slice-aggregate-make-events-2
-slice-aggregate-make-events-2 c =
-    let at = c.before.before.before.before in
-    sym (length-take-le (counted at).steps.result at.fill.new.1.1.0 (openers-room at))
+slice_bounds-make_events-end-2 : tie.Need-slice_bounds-make_events-end-2
+slice_bounds-make_events-end-2 c =
+    sym (length-take-le c.steps-n.result c.fill.new.openers (openers-room c.before.before.before.before))
 
-make-events-requires : tie.Need-make-events-requires
-make-events-requires c κs =
-    let filled = c.before.before.before.before.before in
-    let at = start (counted filled) in
-    let ks = kinds at.args.tree.now in
-    let n = (counted filled).steps in
-    let tables = filled.fill in
-    let ends = ends_prefix ks tables.new.1.0 n.result n.ensures (ends-room filled) tables.ensures.0 in
-    let openers = openers_prefix ks tables.new.1.1.0 n.result n.ensures (openers-room filled) tables.ensures.1 in
-    (ends, (openers, (at.pre.0, at.pre.1)))
+make_events-requires : tie.Need-make_events-requires
+make_events-requires c κs =
+    let ks = kinds c.args.tree.now in
+    let n = c.steps-n in
+    let tables = c.fill in
+    let ends = ends_prefix ks tables.new.ends n.result n.ensures (ends-room c.before.before.before.before.before) tables.ensures.0 in
+    let openers = openers_prefix ks tables.new.openers n.result n.ensures (openers-room c.before.before.before.before.before) tables.ensures.1 in
+    (ends, (openers, (c.requires.0, c.requires.1)))
 
-same_length : tie.Need-same-length
-same_length c = search rules
+shape_of-events : tie.Need-shape_of-events
+shape_of-events c = search rules
 
 returns : tie.Need-returns
 returns c = search rules
@@ -88,14 +78,14 @@ pub make_spec : {M : Type 1} → statement M
 make_spec =
     tie.close
     (tie.spec
-    steps-requires
-    slice-aggregate-fill
-    slice-aggregate-fill-2
+    steps-n-requires
+    slice_bounds-fill-end
+    slice_bounds-fill-end-2
     fill-requires
-    array-share-prefix-ends
-    slice-aggregate-make-events
-    array-share-prefix-openers
-    slice-aggregate-make-events-2
-    make-events-requires
-    same_length
+    slice_bounds-ends-end
+    slice_bounds-make_events-end
+    slice_bounds-openers-end
+    slice_bounds-make_events-end-2
+    make_events-requires
+    shape_of-events
     returns)

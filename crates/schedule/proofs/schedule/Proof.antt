@@ -5,39 +5,30 @@ use Rattle.schedule.specs.Laws.Results.{refusal_meets, starts, room, list-meets}
 use Rattle.schedule.proofs.schedule.Statement.{statement}
 use Rattle.schedule.proofs.schedule.Tie as tie
 
-abbrev start : tie.After-judge-schedule → tie.Start
-start c = c.before.before.before
+judge_schedule-admitted-requires : tie.Need-judge_schedule-admitted-requires
+judge_schedule-admitted-requires c κs = search rules
 
-judge-schedule-requires : tie.Need-judge-schedule-requires
-judge-schedule-requires c κs = search rules
+returns-then-admitted-ne0 : tie.Need-returns-then-admitted-ne0
+returns-then-admitted-ne0 c =
+    let a = c.args in
+    refusal_meets _ _ a.tree.now a.seed a.events.now _ c.judge_schedule-admitted.ensures c.if-admitted-ne0.true
+
+make-count-requires : tie.Need-make-count-requires
+make-count-requires c κs =
+    let a = c.args in
+    let is = c.judge_schedule-admitted.ensures in (
+      starts _ _ a.tree.now a.seed a.events.now _ is c.if-admitted-ne0.false,
+      room _ _ a.tree.now a.seed a.events.now _ is c.if-admitted-ne0.false,
+    )
+
+shape_of-events : tie.Need-shape_of-events
+shape_of-events c = search rules
 
 returns : tie.Need-returns
 returns c =
-    let judged = c.before.before in
-    let a = (start judged).args in
-    refusal_meets _ _ a.tree.now a.seed a.events.now _ judged.judge-schedule.ensures c.if1.true
+    let a = c.args in
+    list-meets _ _ a.tree.now a.seed a.events.now _ c.judge_schedule-admitted.ensures c.if-admitted-ne0.false _ _ c.make-count.ensures
 
-make-requires : tie.Need-make-requires
-make-requires c κs =
-    let one = c.before in
-    let judged = one.before.before in
-    let a = (start judged).args in
-    let is = judged.judge-schedule.ensures in (
-      starts _ _ a.tree.now a.seed a.events.now _ is one.if1.false,
-      room _ _ a.tree.now a.seed a.events.now _ is one.if1.false,
-    )
-
-same_length : tie.Need-same-length
-same_length c = search rules
-
-returns-2 : tie.Need-returns-2
-returns-2 c =
-    let made = c.before.before in
-    let one = made.before.before in
-    let judged = one.before.before in
-    let a = (start judged).args in
-    list-meets _ _ a.tree.now a.seed a.events.now _ judged.judge-schedule.ensures one.if1.false _ _ made.make.ensures
-
-pub schedule-spec : {M : Type 1} → statement M
-schedule-spec =
-    tie.close (tie.spec judge-schedule-requires returns make-requires same_length returns-2)
+pub schedule_spec : {M : Type 1} → statement M
+schedule_spec =
+    tie.close (tie.spec judge_schedule-admitted-requires returns-then-admitted-ne0 make-count-requires shape_of-events returns)

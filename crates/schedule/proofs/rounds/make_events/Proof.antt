@@ -15,97 +15,75 @@ use Rattle.schedule.specs.Laws.Rounding.{making_begins, making_standing, making-
 use Rattle.schedule.proofs.rounds.make_events.Statement.{statement}
 use Rattle.schedule.proofs.rounds.make_events.Tie as tie
 
-abbrev invariant-loop : tie.invariant-loop
-invariant-loop tree ends openers setup seed events₀ n place₀ held₀ phase₀ low₀ base₀ sizes₀ awaited₀ turned₀
+abbrev invariant-loop-turned : tie.invariant-loop-turned
+invariant-loop-turned tree ends openers setup seed events₀ n place₀ held₀ phase₀ low₀ base₀ sizes₀ awaited₀ turned₀
     events place held phase low base sizes awaited turned =
     (length events ≡ length events₀)
     × Underway setup tree events₀ seed (arrays_of place held phase low base sizes awaited events setup turned)
 
-abbrev decreases-loop : tie.decreases-loop
-decreases-loop tree ends openers setup seed events₀ n place₀ held₀ phase₀ low₀ base₀ sizes₀ awaited₀ turned₀
+abbrev decreases-loop-turned : tie.decreases-loop-turned
+decreases-loop-turned tree ends openers setup seed events₀ n place₀ held₀ phase₀ low₀ base₀ sizes₀ awaited₀ turned₀
     events place held phase low base sizes awaited turned =
     n - turned.runs
 
--- ---- places
-
-abbrev start : tie.After-steps invariant-loop decreases-loop → tie.Start invariant-loop decreases-loop
-start c = c.before.before.before.before.before
-
-abbrev top : tie.Then1 invariant-loop decreases-loop → tie.At-loop invariant-loop decreases-loop
-top c = c.before.before
-
-abbrev asked : tie.After-round invariant-loop decreases-loop → tie.Then1 invariant-loop decreases-loop
-asked c = c.before.before.before.before.before.before.before.before.before
-
 -- Not every step has run.
-more : (c : tie.Then1 invariant-loop decreases-loop) → (top c).loop.turned.runs < length (kinds (start (top c).before).args.tree.now)
-more c = omega (arith, c.if1.true, (top c).before.steps.ensures)
+more : (c : tie.In-loop-turned invariant-loop-turned decreases-loop-turned) → c.loop-turned.turned.runs < length (kinds c.args.tree.now)
+more c = omega (arith, c.loop-turned-test.true, c.steps-n.ensures)
 
 -- ---- the needs
 
-steps-requires : tie.Need-steps-requires invariant-loop decreases-loop
-steps-requires c κs = search rules
+steps-n-requires : tie.Need-steps-n-requires invariant-loop-turned decreases-loop-turned
+steps-n-requires c κs = search rules
 
-array-write-held : tie.Need-array-write-held invariant-loop decreases-loop
-array-write-held c = search rules
+bounds-held-0 : tie.Need-bounds-held-0 invariant-loop-turned decreases-loop-turned
+bounds-held-0 c = search rules
 
-loop-holds : tie.Need-loop-init invariant-loop decreases-loop
-loop-holds c =
-    let at = start c in
-    let a = at.args in
-    let given = at.pre.1.1 in
+loop-turned-init : tie.Need-loop-turned-init invariant-loop-turned decreases-loop-turned
+loop-turned-init c =
+    let a = c.args in
+    let given = c.requires.1.1 in
     (refl, making_begins a.setup a.tree.now a.events.now a.seed given.0 given.1 _ (fresh_arrays a.setup))
 
-round-requires : tie.Need-round-requires invariant-loop decreases-loop
-round-requires c κs =
-    let at = top c.before.before.before.before.before.before.before.before in
-    let given = (start at.before).pre in
-    (given.0, (given.1.0, making_standing at.loop.inv.1))
+round-turned-requires : tie.Need-round-turned-requires invariant-loop-turned decreases-loop-turned
+round-turned-requires c κs =
+    let given = c.requires in
+    (given.0, (given.1.0, making_standing c.loop-turned.invariant.1))
 
-loop-less : tie.Need-loop-smaller invariant-loop decreases-loop
-loop-less c =
-    let called = c.before.before in
-    let test = asked called in
-    omega (arith, test.if1.taken, making-falls (top test).loop.inv.1 (more test) called.round.ensures)
+loop-turned-smaller : tie.Need-loop-turned-smaller invariant-loop-turned decreases-loop-turned
+loop-turned-smaller c =
+    omega (arith, c.loop-turned-test.true, making-falls c.loop-turned.invariant.1 (more c.before.before.before.before.before.before.before.before.before.before.before) c.round-turned.ensures)
 
-loop-again : tie.Need-loop-preserved invariant-loop decreases-loop
-loop-again c =
-    let called = c.before.before in
-    let test = asked called in
-    (search rules, making-goes-on (top test).loop.inv.1 (more test) called.round.ensures)
+loop-turned-preserved : tie.Need-loop-turned-preserved invariant-loop-turned decreases-loop-turned
+loop-turned-preserved c =
+    (search rules, making-goes-on c.loop-turned.invariant.1 (more c.before.before.before.before.before.before.before.before.before.before.before) c.round-turned.ensures)
 
-wide-requires : tie.Need-wide-requires invariant-loop decreases-loop
+wide-requires : tie.Need-wide-requires invariant-loop-turned decreases-loop-turned
 wide-requires c κs = search rules
 
-add-result : tie.Need-overflow-add-result invariant-loop decreases-loop
-add-result c =
-    let wide = c.before in
-    let at = wide.before.before.before in
-    record { fits = omega (arith, wide.wide.ensures, few_events at.loop.invariant.1.stands) }
+overflow_add-result : tie.Need-overflow_add-result invariant-loop-turned decreases-loop-turned
+overflow_add-result c =
+    record { fits = omega (arith, c.wide.ensures, few_events c.loop-turned.invariant.1.stands) }
 
-same_length : tie.Need-same-length invariant-loop decreases-loop
-same_length c = c.before.before.before.before.loop.invariant.0
+shape_of-events : tie.Need-shape_of-events invariant-loop-turned decreases-loop-turned
+shape_of-events c = c.loop-turned.invariant.0
 
-returns : tie.Need-returns invariant-loop decreases-loop
+returns : tie.Need-returns invariant-loop-turned decreases-loop-turned
 returns c =
-    let wide = c.before in
-    let else = wide.before in
-    let at = else.before.before in
-    rw wide.wide.ensures (making_ends at.loop.invariant.1 (omega (arith, else.if1.false, at.before.steps.ensures)))
+    rw c.wide.ensures (making_ends c.loop-turned.invariant.1 (omega (arith, c.loop-turned-test.false, c.steps-n.ensures)))
 
-pub make-events-spec : {M : Type 1} → statement M
-make-events-spec =
+pub make_events_spec : {M : Type 1} → statement M
+make_events_spec =
     tie.close
     (tie.spec
-    invariant-loop
-    decreases-loop
-    steps-requires
-    array-write-held
-    loop-holds
-    round-requires
-    loop-less
-    loop-again
+    invariant-loop-turned
+    decreases-loop-turned
+    steps-n-requires
+    bounds-held-0
+    loop-turned-init
+    round-turned-requires
+    loop-turned-smaller
+    loop-turned-preserved
     wide-requires
-    add-result
-    same_length
+    overflow_add-result
+    shape_of-events
     returns)

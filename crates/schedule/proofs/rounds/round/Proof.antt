@@ -5,87 +5,64 @@ use mathlib.Core.Path.{◌≡◌, refl}
 use native.Mathlib.Omega.{arith}
 use lib.ListN.{length}
 use borrow.Author.Rules.{rules}
-use Rattle.rules.specs.Scheduling.{most_workers}
 use Rattle.schedule_turn.specs.Terms.{arrays_of}
 use Rattle.schedule.specs.Terms.{FirstTurns}
 use Rattle.schedule.specs.Laws.Rounding.{round-begins, round_standing, round_goes_on}
 use Rattle.schedule.proofs.rounds.round.Statement.{statement}
 use Rattle.schedule.proofs.rounds.round.Tie as tie
 
-abbrev invariant-loop : tie.invariant-loop
-invariant-loop tree ends openers place₀ held₀ phase₀ low₀ base₀ sizes₀ awaited₀ events₀ setup turned₀ next₀
+abbrev invariant-loop-next : tie.invariant-loop-next
+invariant-loop-next tree ends openers place₀ held₀ phase₀ low₀ base₀ sizes₀ awaited₀ events₀ setup turned₀ next₀
     place held phase low base sizes awaited events turned next =
     (next ≤ setup.workers) × (length events ≡ length events₀)
     × FirstTurns setup tree next (arrays_of place₀ held₀ phase₀ low₀ base₀ sizes₀ awaited₀ events₀ setup turned₀)
     (arrays_of place held phase low base sizes awaited events setup turned)
 
-abbrev decreases-loop : tie.decreases-loop
-decreases-loop tree ends openers place₀ held₀ phase₀ low₀ base₀ sizes₀ awaited₀ events₀ setup turned₀ next₀
+abbrev decreases-loop-next : tie.decreases-loop-next
+decreases-loop-next tree ends openers place₀ held₀ phase₀ low₀ base₀ sizes₀ awaited₀ events₀ setup turned₀ next₀
     place held phase low base sizes awaited events turned next =
     setup.workers - next
 
--- ---- places
+loop-next-init : tie.Need-loop-next-init invariant-loop-next decreases-loop-next
+loop-next-init c = (omega arith, refl, round-begins)
 
-abbrev start : tie.At-loop invariant-loop decreases-loop → tie.Start invariant-loop decreases-loop
-start c = c.before.before.before.before.before
+overflow_cast-next : tie.Need-overflow_cast-next invariant-loop-next decreases-loop-next
+overflow_cast-next c = search rules
 
-abbrev top : tie.Then1 invariant-loop decreases-loop → tie.At-loop invariant-loop decreases-loop
-top c = c.before.before
+overflow_add-next : tie.Need-overflow_add-next invariant-loop-next decreases-loop-next
+overflow_add-next c = record { fits = omega (arith, c.loop-next-test.true, c.requires.1.1.stands.shows.most) }
 
-abbrev asked : tie.After-turn invariant-loop decreases-loop → tie.Then1 invariant-loop decreases-loop
-asked c = c.before.before.before.before.before.before.before.before.before
+turn-turned-requires : tie.Need-turn-turned-requires invariant-loop-next decreases-loop-next
+turn-turned-requires c κs =
+    let given = c.requires in
+    (given.0, (given.1.0, (c.loop-next-test.true, round_standing given.1.1 c.loop-next.invariant.2)))
 
-few : (c : tie.At-loop invariant-loop decreases-loop) → (start c).args.setup.workers ≤ most_workers
-few c = (start c).requires.1.1.stands.shows.most
+loop-next-smaller : tie.Need-loop-next-smaller invariant-loop-next decreases-loop-next
+loop-next-smaller c = omega (arith, c.loop-next-test.true)
 
--- ---- the needs
+loop-next-preserved : tie.Need-loop-next-preserved invariant-loop-next decreases-loop-next
+loop-next-preserved c =
+    (omega (arith, c.loop-next-test.true), search rules, round_goes_on c.loop-next.invariant.2 c.turn-turned.ensures)
 
-loop-holds : tie.Need-loop-init invariant-loop decreases-loop
-loop-holds c = (omega arith, refl, round-begins)
+shape_of-events : tie.Need-shape_of-events invariant-loop-next decreases-loop-next
+shape_of-events c = c.loop-next.invariant.1
 
-cast-if1 : tie.Need-overflow-cast-if1 invariant-loop decreases-loop
-cast-if1 c = search rules
-
-add-next : tie.Need-overflow-add-next invariant-loop decreases-loop
-add-next c = record { fits = omega (arith, c.if1.true, few (top c)) }
-
-turn-requires : tie.Need-turn-requires invariant-loop decreases-loop
-turn-requires c κs =
-    let test = c.before.before.before.before.before.before.before.before in
-    let at = top test in
-    let given = (start at).pre in
-    (given.0, (given.1.0, (test.if1.true, round_standing given.1.1 at.loop.inv.2)))
-
-loop-less : tie.Need-loop-smaller invariant-loop decreases-loop
-loop-less c = omega (arith, (asked c.before.before).if1.taken)
-
-loop-again : tie.Need-loop-preserved invariant-loop decreases-loop
-loop-again c =
-    let called = c.before.before in
-    let test = asked called in
-    let inv = (top test).loop.inv in
-    (omega (arith, test.if1.taken), search rules, round_goes_on inv.2 called.turn.ensures)
-
-same_length : tie.Need-same-length invariant-loop decreases-loop
-same_length c = c.before.before.loop.invariant.1
-
-returns : tie.Need-returns invariant-loop decreases-loop
+returns : tie.Need-returns invariant-loop-next decreases-loop-next
 returns c =
-    let at = c.before.before in
-    let all : at.loop.next ≡ (start at).args.setup.workers = omega (arith, c.if1.false, at.loop.invariant.0) in
-    rw all at at.loop.invariant.2
+    let all : c.loop-next.next ≡ c.args.setup.workers = omega (arith, c.loop-next-test.false, c.loop-next.invariant.0) in
+    rw all at c.loop-next.invariant.2
 
-pub round-spec : {M : Type 1} → statement M
-round-spec =
+pub round_spec : {M : Type 1} → statement M
+round_spec =
     tie.close
     (tie.spec
-    invariant-loop
-    decreases-loop
-    loop-holds
-    cast-if1
-    add-next
-    turn-requires
-    loop-less
-    loop-again
-    same_length
+    invariant-loop-next
+    decreases-loop-next
+    loop-next-init
+    overflow_cast-next
+    overflow_add-next
+    turn-turned-requires
+    loop-next-smaller
+    loop-next-preserved
+    shape_of-events
     returns)
