@@ -1,6 +1,8 @@
 // The library's answers as C's flat structs of numbers: each function takes an answer by value and writes its parts into the
 // fields of a struct. Most wrong answers of a function for C are of a field, so this is apart from the calls, which are dear to
 // prove.
+#![tactic(auto)]
+
 ghost use Rattle.std.specs.Prelude.{◌≡◌};
 ghost use Rattle.frame_answers.specs.Contract.{flat_start, flat_outcome, flat_event, flat_idle, flat_record, flat_replay};
 ghost use Rattle.frame_answers.specs.Contract.{flat_schedule};

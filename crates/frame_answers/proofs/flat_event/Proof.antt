@@ -5,11 +5,11 @@ use borrow.Author.Rules.{rules}
 use Rattle.frame_answers.proofs.flat_event.Statement.{statement}
 use Rattle.frame_answers.proofs.flat_event.Tie as tie
 
-flat-outcome-requires : tie.Need-flat-outcome-requires
-flat-outcome-requires c κs = search rules
+flat_outcome-requires : tie.Need-flat_outcome-requires
+flat_outcome-requires c κs = search rules
 
 returns : tie.Need-returns
-returns c = rw c.flat-outcome.ensures refl
+returns c = rw c.flat_outcome.ensures refl
 
-pub flat-event-spec : {M : Type 1} → statement M
-flat-event-spec = tie.close (tie.spec flat-outcome-requires returns)
+pub flat_event_spec : {M : Type 1} → statement M
+flat_event_spec = tie.close (tie.spec flat_outcome-requires returns)

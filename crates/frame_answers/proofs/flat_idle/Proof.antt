@@ -5,17 +5,17 @@ use borrow.Author.Rules.{rules}
 use Rattle.frame_answers.proofs.flat_idle.Statement.{statement}
 use Rattle.frame_answers.proofs.flat_idle.Tie as tie
 
-cast-t2 : tie.Need-overflow-cast-t2
-cast-t2 c = search rules
+overflow_cast-result : tie.Need-overflow_cast-result
+overflow_cast-result c = search rules
 
-cast-t3 : tie.Need-overflow-cast-t3
-cast-t3 c = search rules
+overflow_cast-result-2 : tie.Need-overflow_cast-result-2
+overflow_cast-result-2 c = search rules
 
-cast-t4 : tie.Need-overflow-cast-t4
-cast-t4 c = search rules
+overflow_cast-result-3 : tie.Need-overflow_cast-result-3
+overflow_cast-result-3 c = search rules
 
 returns : tie.Need-returns
 returns c = refl
 
-pub flat-idle-spec : {M : Type 1} → statement M
-flat-idle-spec = tie.close (tie.spec cast-t2 cast-t3 cast-t4 returns)
+pub flat_idle_spec : {M : Type 1} → statement M
+flat_idle_spec = tie.close (tie.spec overflow_cast-result overflow_cast-result-2 overflow_cast-result-3 returns)

@@ -12,39 +12,39 @@ use Rattle.frame_answers.proofs.flat_outcome.Tie as tie
 abbrev stolen : ℕ → FrameOutcome
 stolen x = record { number = 0; position = 0; what = 2; phase = 0; step = 0; trace = x }
 
-enum-known-outcome : tie.Need-enum-known-outcome
-enum-known-outcome c = search rules
+enum_known-outcome : tie.Need-enum_known-outcome
+enum_known-outcome c = search rules
 
-enum-known-outcome-2 : tie.Need-enum-known-outcome-2
-enum-known-outcome-2 c = search rules
+enum_known-outcome-in-Stole-1 : tie.Need-enum_known-outcome-in-Stole-1
+enum_known-outcome-in-Stole-1 c = search rules
 
-encode-number-requires : tie.Need-encode-number-requires
-encode-number-requires c κs = search rules
+encode_number-requires : tie.Need-encode_number-requires
+encode_number-requires c κs = search rules
 
-enum-known-outcome-3 : tie.Need-enum-known-outcome-3
-enum-known-outcome-3 c = search rules
+enum_known-outcome-in-Refused-1 : tie.Need-enum_known-outcome-in-Refused-1
+enum_known-outcome-in-Refused-1 c = search rules
 
-cast-t8 : tie.Need-overflow-cast-t8
-cast-t8 c = search rules
+overflow_cast-result : tie.Need-overflow_cast-result
+overflow_cast-result c = search rules
 
-returns : tie.Need-returns
-returns c = ap flat_outcome (sym c.before.outcome.given.1)
+returns-in-Ran : tie.Need-returns-in-Ran
+returns-in-Ran c = ap flat_outcome (sym c.in-Ran.is)
 
-returns-2 : tie.Need-returns-2
-returns-2 c = ap stolen c.encode-number.ensures ∙ ap flat_outcome (sym c.before.before.outcome2.given.1)
+returns-in-Stole : tie.Need-returns-in-Stole
+returns-in-Stole c = ap stolen c.encode_number.ensures ∙ ap flat_outcome (sym c.in-Stole.is)
 
-returns-3 : tie.Need-returns-3
-returns-3 c = ap flat_outcome (sym c.before.outcome3.given.1)
+returns-in-Refused : tie.Need-returns-in-Refused
+returns-in-Refused c = ap flat_outcome (sym c.in-Refused.is)
 
-pub flat-outcome-spec : {M : Type 1} → statement M
-flat-outcome-spec =
+pub flat_outcome_spec : {M : Type 1} → statement M
+flat_outcome_spec =
     tie.close
     (tie.spec
-    enum-known-outcome
-    enum-known-outcome-2
-    encode-number-requires
-    enum-known-outcome-3
-    cast-t8
-    returns
-    returns-2
-    returns-3)
+    enum_known-outcome
+    enum_known-outcome-in-Stole-1
+    encode_number-requires
+    enum_known-outcome-in-Refused-1
+    overflow_cast-result
+    returns-in-Ran
+    returns-in-Stole
+    returns-in-Refused)

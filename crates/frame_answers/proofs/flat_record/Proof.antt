@@ -12,14 +12,14 @@ byte : (b : Bool) → bool_byte b ≡ cond b 1 0
 byte true = refl
 byte false = refl
 
-cast-t4 : tie.Need-overflow-cast-t4
-cast-t4 c = search rules
+overflow_cast-result : tie.Need-overflow_cast-result
+overflow_cast-result c = search rules
 
-cast-t5 : tie.Need-overflow-cast-t5
-cast-t5 c = search rules
+overflow_cast-result-2 : tie.Need-overflow_cast-result-2
+overflow_cast-result-2 c = search rules
 
 returns : tie.Need-returns
-returns c = rw (byte c.before.before.before.before.args.recorded.finished) refl
+returns c = rw (byte c.args.recorded.finished) refl
 
-pub flat-record-spec : {M : Type 1} → statement M
-flat-record-spec = tie.close (tie.spec cast-t4 cast-t5 returns)
+pub flat_record_spec : {M : Type 1} → statement M
+flat_record_spec = tie.close (tie.spec overflow_cast-result overflow_cast-result-2 returns)

@@ -5,11 +5,11 @@ use borrow.Author.Rules.{rules}
 use Rattle.frame_answers.proofs.flat_replay.Statement.{statement}
 use Rattle.frame_answers.proofs.flat_replay.Tie as tie
 
-cast-t4 : tie.Need-overflow-cast-t4
-cast-t4 c = search rules
+overflow_cast-result : tie.Need-overflow_cast-result
+overflow_cast-result c = search rules
 
 returns : tie.Need-returns
 returns c = refl
 
-pub flat-replay-spec : {M : Type 1} → statement M
-flat-replay-spec = tie.close (tie.spec cast-t4 returns)
+pub flat_replay_spec : {M : Type 1} → statement M
+flat_replay_spec = tie.close (tie.spec overflow_cast-result returns)

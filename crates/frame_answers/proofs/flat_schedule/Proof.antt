@@ -5,11 +5,11 @@ use borrow.Author.Rules.{rules}
 use Rattle.frame_answers.proofs.flat_schedule.Statement.{statement}
 use Rattle.frame_answers.proofs.flat_schedule.Tie as tie
 
-cast-t2 : tie.Need-overflow-cast-t2
-cast-t2 c = search rules
+overflow_cast-result : tie.Need-overflow_cast-result
+overflow_cast-result c = search rules
 
 returns : tie.Need-returns
 returns c = refl
 
-pub flat-schedule-spec : {M : Type 1} → statement M
-flat-schedule-spec = tie.close (tie.spec cast-t2 returns)
+pub flat_schedule_spec : {M : Type 1} → statement M
+flat_schedule_spec = tie.close (tie.spec overflow_cast-result returns)

@@ -5,11 +5,11 @@ use borrow.Author.Rules.{rules}
 use Rattle.frame_answers.proofs.flat_start.Statement.{statement}
 use Rattle.frame_answers.proofs.flat_start.Tie as tie
 
-cast-t3 : tie.Need-overflow-cast-t3
-cast-t3 c = search rules
+overflow_cast-result : tie.Need-overflow_cast-result
+overflow_cast-result c = search rules
 
 returns : tie.Need-returns
 returns c = refl
 
-pub flat-start-spec : {M : Type 1} → statement M
-flat-start-spec = tie.close (tie.spec cast-t3 returns)
+pub flat_start_spec : {M : Type 1} → statement M
+flat_start_spec = tie.close (tie.spec overflow_cast-result returns)
