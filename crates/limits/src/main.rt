@@ -9,7 +9,6 @@ ghost use Rattle.rules_histogram.specs.Limits.{limit_count};
 
 use limits_root::limit;
 use std::io;
-use std::process::ExitCode;
 
 // How many limits there are.
 const LIMITS: usize = 176;
@@ -21,16 +20,15 @@ fn print_limit(rt: &impl Print, k: usize) -> io::Result<()>
     println!(rt; "{}", limit(k))
 }
 
-// Where standard output cannot be written, standard error says so, and the exit status.
-fn main(rt: HostRuntime) -> ExitCode {
+// Its exit status is 0 whatever comes: that it failed stands on standard error alone.
+fn main(rt: HostRuntime) {
     for k in 0..LIMITS {
         match print_limit(&rt, k) {
             Ok(()) => {}
             Err(_) => {
                 let _ = eprintln!(rt; "limits: standard output could not be written");
-                return ExitCode::FAILURE;
+                return;
             }
         }
     }
-    ExitCode::SUCCESS
 }

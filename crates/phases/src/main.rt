@@ -55,27 +55,21 @@ fn read_input<R: Read>(stdin: &mut R, input: &mut [u8]) -> Reading
     }
 }
 
-// Writes a line to standard error. Where that fails too, there is nothing left to say it with.
-fn complain(rt: HostRuntime, line: &[u8]) {
-    match rt.stderr().write_all(line) {
-        Ok(()) => {}
-        Err(_) => {}
-    }
-}
-
 // Its exit status is 0 whatever comes: that it failed stands on standard error alone.
 fn main(rt: HostRuntime) {
     let mut input: [u8; MOST_INPUT] = [0; MOST_INPUT];
     let mut text: [u8; TEXT_BYTES] = [0; TEXT_BYTES];
     let reading = read_input(&mut rt.stdin(), &mut input);
     if reading.failed {
-        complain(rt, b"phases: standard input could not be read\n");
+        let _ = eprintln!(rt; "phases: standard input could not be read");
         return;
     }
     let count = reading.count;
     let length = phases_text::list_phases(&input[..count], &mut text);
     match rt.stdout().write_all(&text[..length]) {
         Ok(()) => {}
-        Err(_) => complain(rt, b"phases: standard output could not be written\n"),
+        Err(_) => {
+            let _ = eprintln!(rt; "phases: standard output could not be written");
+        }
     }
 }

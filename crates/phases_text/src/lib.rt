@@ -1,5 +1,7 @@
 // The text that program `phases` prints (document 01, "Tree S and its schedules"): the bytes that it has read go through
 // replay, and the run list or the refusal becomes lines.
+#![tactic(auto)]
+
 pub mod input;
 pub mod line;
 pub mod number;

@@ -14,43 +14,42 @@ use Rattle.phases_text.specs.Laws.Phases.{text_short, text_whole, text_some}
 use Rattle.phases_text.proofs.list_phases.Statement.{statement}
 use Rattle.phases_text.proofs.list_phases.Tie as tie
 
-returns : tie.Need-returns
-returns c =
-    let a = c.before.before.before.args in
+returns-then-text-lt-TEXT_BYTES : tie.Need-returns-then-text-lt-TEXT_BYTES
+returns-then-text-lt-TEXT_BYTES c =
+    let a = c.args in
     let none = front_is (front_none a.text.now) (text_short (length a.text.now) a.input.now (omega arith)) in
     (none.0, (none.1, λ z. omega arith))
 
-place-requires : tie.Need-place-requires
-place-requires c κs = search rules
+place-end-requires : tie.Need-place-end-requires
+place-end-requires c κs = search rules
 
-slice-aggregate-put-text : tie.Need-slice-aggregate-put-text
-slice-aggregate-put-text c = sym (length-take-le c.before.place.result _ (omega (arith, c.before.place.ensures)))
+slice_bounds-put_text-end : tie.Need-slice_bounds-put_text-end
+slice_bounds-put_text-end c = sym (length-take-le c.place-end.result _ (omega (arith, c.place-end.ensures)))
 
-put-text-requires : tie.Need-put-text-requires
-put-text-requires c κs = search rules
+put_text-requires : tie.Need-put_text-requires
+put_text-requires c κs = search rules
 
-same_length : tie.Need-same-length
-same_length c = search rules
+shape_of-text : tie.Need-shape_of-text
+shape_of-text c = search rules
 
-returns-2 : tie.Need-returns-2
-returns-2 c =
-    let put = c.before.before.put-text in
-    let at = c.before.before.before.before.before in
-    let a = at.before.before.before.before.args in
-    let room : most_text ≤ length a.text.now = omega (arith, at.before.if1.false) in
-    let cut : at.place.result ≡ min most_input (length a.input.now) = omega (arith, at.place.ensures) in
-    let all = text_whole (length a.text.now) at.place.result a.input.now room cut in
+returns : tie.Need-returns
+returns c =
+    let put = c.put_text in
+    let a = c.args in
+    let room : most_text ≤ length a.text.now = omega (arith, c.if-text-lt-TEXT_BYTES.false) in
+    let cut : c.place-end.result ≡ min most_input (length a.input.now) = omega (arith, c.place-end.ensures) in
+    let all = text_whole (length a.text.now) c.place-end.result a.input.now room cut in
     let whole = text_is a.text.now put.new.1.0 put.result all put.ensures in
     let some = text_some (length a.text.now) a.input.now room in
     (whole.0, (whole.1, λ z. absurd (omega (arith, whole.0, some))))
 
-pub list-phases-spec : {M : Type 1} → statement M
-list-phases-spec =
+pub list_phases_spec : {M : Type 1} → statement M
+list_phases_spec =
     tie.close
     (tie.spec
-    returns
-    place-requires
-    slice-aggregate-put-text
-    put-text-requires
-    same_length
-    returns-2)
+    returns-then-text-lt-TEXT_BYTES
+    place-end-requires
+    slice_bounds-put_text-end
+    put_text-requires
+    shape_of-text
+    returns)

@@ -18,25 +18,25 @@ use Rattle.phases_text.proofs.put_text.Tie as tie
 
 -- ---- what is known past the call
 
-abbrev entry : tie.After-parts-of → tie.Start
+abbrev entry : tie.After-parts_of-parts → tie.Start
 entry c = c.before.before.before
 
-parts : (c : tie.After-parts-of)
-    → let r = c.parts-of.result in
+parts : (c : tie.After-parts_of-parts)
+    → let r = c.parts_of-parts.result in
     Parts (entry c).args.input.now r.policy r.start r.end
-parts c = c.parts-of.ensures
+parts c = c.parts_of-parts.ensures
 
-abbrev read : tie.After-replay → tie.After-parts-of
+abbrev read : tie.After-replay-replayed → tie.After-parts_of-parts
 read c = c.before.before.before.before
 
-called : (c : tie.After-replay)
-    → Called (entry (read c)).args.input.now c.replay.result c.replay.new.1.1.1.0
+called : (c : tie.After-replay-replayed)
+    → Called (entry (read c)).args.input.now c.replay-replayed.result c.replay-replayed.new.1.1.1.0
 called c =
-    let replay = c.replay in
+    let replay = c.replay-replayed in
     parts_called (parts (read c)) _ replay.result replay.new.1.1.1.0 replay.ensures.0 replay.ensures.1 refl
 
 -- Past an accepted call.
-abbrev replay-at : tie.After-steps → tie.After-replay
+abbrev replay-at : tie.After-steps → tie.After-replay-replayed
 replay-at c = c.before.before.before.before.before.before
 
 steps-are : (c : tie.After-steps) → c.steps.result ≡ length (kinds (input_tree (entry (read (replay-at c))).args.input.now))
@@ -44,100 +44,81 @@ steps-are c = c.steps.ensures ∙ ap (λ (l : List ℕ). length (kinds l)) (part
 
 -- ---- the needs
 
-parts-of-requires : tie.Need-parts-of-requires
-parts-of-requires c κs = search rules
+parts_of-parts-requires : tie.Need-parts_of-parts-requires
+parts_of-parts-requires c κs = search rules
 
-sub-tree : tie.Need-overflow-sub-tree
-sub-tree c = search rules
+slice_bounds-tree-count : tie.Need-slice_bounds-tree-count
+slice_bounds-tree-count c = search rules
 
-part-tree-start : tie.Need-slice-bounds-tree-start
-part-tree-start c = search rules
+slice_bounds-trace-count : tie.Need-slice_bounds-trace-count
+slice_bounds-trace-count c = search rules
 
-part-tree-end : tie.Need-slice-bounds-tree-end
-part-tree-end c = search rules
+overflow_cast-workers : tie.Need-overflow_cast-workers
+overflow_cast-workers c = search rules
 
-sub-trace : tie.Need-overflow-sub-trace
-sub-trace c = search rules
+slice_bounds-replay-end : tie.Need-slice_bounds-replay-end
+slice_bounds-replay-end c = search rules
 
-part-trace-start : tie.Need-slice-bounds-trace-start
-part-trace-start c = search rules
+replay-replayed-requires : tie.Need-replay-replayed-requires
+replay-replayed-requires c κs = search rules
 
-part-trace-end : tie.Need-slice-bounds-trace-end
-part-trace-end c = search rules
+overflow_cast-replayed : tie.Need-overflow_cast-replayed
+overflow_cast-replayed c = search rules
 
-cast-workers : tie.Need-overflow-cast-workers
-cast-workers c = search rules
+put_refusal-requires : tie.Need-put_refusal-requires
+put_refusal-requires c κs = search rules
 
-slice-aggregate-replay : tie.Need-slice-aggregate-replay
-slice-aggregate-replay c = search rules
+shape_of-text-then-replayed-ne0 : tie.Need-shape_of-text-then-replayed-ne0
+shape_of-text-then-replayed-ne0 c = search rules
 
-replay-requires : tie.Need-replay-requires
-replay-requires c κs = search rules
-
-cast-put-refusal : tie.Need-overflow-cast-put-refusal
-cast-put-refusal c = search rules
-
-put-refusal-requires : tie.Need-put-refusal-requires
-put-refusal-requires c κs = search rules
-
-same_length : tie.Need-same-length
-same_length c = search rules
-
-returns : tie.Need-returns
-returns c =
-    let put = c.before.before.put-refusal in
-    let at = c.before.before.before.before.before in
-    let replay = at.before.before.before in
-    let text = (entry (read replay)).args.text.now in
-    let all = called_refused (called replay) at.if1.true in
+returns-then-replayed-ne0 : tie.Need-returns-then-replayed-ne0
+returns-then-replayed-ne0 c =
+    let put = c.put_refusal in
+    let text = (entry (read c.before.before.before.before.before.before.before.before)).args.text.now in
+    let all = called_refused (called c.before.before.before.before.before.before.before.before) c.if-replayed-ne0.true in
     text_is text put.new.0 put.result all put.ensures
 
-slice-aggregate-put-listing : tie.Need-slice-aggregate-put-listing
-slice-aggregate-put-listing c = search rules
+slice_bounds-put_listing-end : tie.Need-slice_bounds-put_listing-end
+slice_bounds-put_listing-end c = search rules
 
 steps-requires : tie.Need-steps-requires
 steps-requires c κs = search rules
 
-put-listing-requires : tie.Need-put-listing-requires
-put-listing-requires c κs =
+put_listing-requires : tie.Need-put_listing-requires
+put_listing-requires c κs =
     let known = called (replay-at c) in
-    let none = c.before.before.before.if1.false in
+    let none = c.if-replayed-ne0.false in
     let same = steps-are c in
     let phases = rw (← same, ← (parts (read (replay-at c))).trace_is) at (called-phases known none) in
     (omega (arith, called-room known none), omega (arith, called-steps known none, (entry (read (replay-at c))).requires), phases)
 
-same-length-2 : tie.Need-same-length-2
-same-length-2 c = search rules
+shape_of-text : tie.Need-shape_of-text
+shape_of-text c = search rules
 
-returns-2 : tie.Need-returns-2
-returns-2 c =
-    let put = c.before.before.put-listing in
-    let at = c.before.before.before in
-    let text = (entry (read (replay-at at))).args.text.now in
-    let listed = called-listed (called (replay-at at)) at.before.before.before.if1.false in
-    let all = rw (← steps-are at, ← (parts (read (replay-at at))).trace_is) at listed in
+returns : tie.Need-returns
+returns c =
+    let put = c.put_listing in
+    let text = (entry (read (replay-at c.before.before.before))).args.text.now in
+    let listed = called-listed (called (replay-at c.before.before.before)) c.if-replayed-ne0.false in
+    let all = rw (← steps-are c.before.before.before, ← (parts (read (replay-at c.before.before.before))).trace_is) c listed in
     text_is text put.new.0 put.result all put.ensures
 
-pub put-text-spec : {M : Type 1} → statement M
-put-text-spec =
+pub put_text_spec : {M : Type 1} → statement M
+put_text_spec =
     tie.close
     (tie.spec
-    parts-of-requires
-    sub-tree
-    part-tree-start
-    part-tree-end
-    sub-trace
-    part-trace-start
-    part-trace-end
-    cast-workers
-    slice-aggregate-replay
-    replay-requires
-    cast-put-refusal
-    put-refusal-requires
-    same_length
-    returns
-    slice-aggregate-put-listing
+    parts_of-parts-requires
+    slice_bounds-tree-count
+    slice_bounds-trace-count
+    overflow_cast-workers
+    slice_bounds-replay-end
+    replay-replayed-requires
+    overflow_cast-replayed
+    put_refusal-requires
+    shape_of-text-then-replayed-ne0
+    returns-then-replayed-ne0
+    slice_bounds-put_listing-end
     steps-requires
-    put-listing-requires
-    same-length-2
-    returns-2)
+    put_listing-requires
+    shape_of-text
+    returns)

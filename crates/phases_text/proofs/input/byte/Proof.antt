@@ -5,14 +5,14 @@ use borrow.Author.Rules.{rules}
 use Rattle.phases_text.proofs.input.byte.Statement.{statement}
 use Rattle.phases_text.proofs.input.byte.Tie as tie
 
-shared-slice-read-result : tie.Need-shared-slice-read-result
-shared-slice-read-result c = search rules
+bounds-input-i : tie.Need-bounds-input-i
+bounds-input-i c = search rules
+
+returns-then-i-input : tie.Need-returns-then-i-input
+returns-then-i-input c = search rules
 
 returns : tie.Need-returns
-returns c = search rules
+returns c = sym (get_or-eq_default c.args.input.now 0 c.if-i-input.false)
 
-returns-2 : tie.Need-returns-2
-returns-2 c = sym (get_or-eq_default c.before.args.input.now 0 c.if1.false)
-
-pub byte-spec : {M : Type 1} → statement M
-byte-spec = tie.close (tie.spec shared-slice-read-result returns returns-2)
+pub byte_spec : {M : Type 1} → statement M
+byte_spec = tie.close (tie.spec bounds-input-i returns-then-i-input returns)

@@ -5,57 +5,57 @@ use Rattle.phases_text.specs.Input.Laws.{input_parts}
 use Rattle.phases_text.proofs.input.parts_of.Statement.{statement}
 use Rattle.phases_text.proofs.input.parts_of.Tie as tie
 
+byte-policy-requires : tie.Need-byte-policy-requires
+byte-policy-requires c κs = search rules
+
 byte-requires : tie.Need-byte-requires
 byte-requires c κs = search rules
 
 byte-requires-2 : tie.Need-byte-requires-2
 byte-requires-2 c κs = search rules
 
-byte-requires-3 : tie.Need-byte-requires-3
-byte-requires-3 c κs = search rules
+two_bytes-n-requires : tie.Need-two_bytes-n-requires
+two_bytes-n-requires c κs = search rules
 
-two-bytes-requires : tie.Need-two-bytes-requires
-two-bytes-requires c κs = search rules
+overflow_cast-n : tie.Need-overflow_cast-n
+overflow_cast-n c = search rules
 
-cast-n : tie.Need-overflow-cast-n
-cast-n c = search rules
+place-start-requires : tie.Need-place-start-requires
+place-start-requires c κs = search rules
 
-place-requires : tie.Need-place-requires
-place-requires c κs = search rules
+overflow_mul-n : tie.Need-overflow_mul-n
+overflow_mul-n c = search rules
 
-mul-place : tie.Need-overflow-mul-place
-mul-place c = search rules
+overflow_add-n : tie.Need-overflow_add-n
+overflow_add-n c = search rules
 
-add-place : tie.Need-overflow-add-place
-add-place c = search rules
-
-place-requires-2 : tie.Need-place-requires-2
-place-requires-2 c κs = search rules
+place-end-requires : tie.Need-place-end-requires
+place-end-requires c κs = search rules
 
 returns : tie.Need-returns
 returns c =
-    let policy = c.before.before.before.before.before.byte in
-    let low = c.before.before.before.before.byte2 in
-    let high = c.before.before.before.byte3 in
-    let count = c.before.before.two_bytes in
-    let start = c.before.place in
-    let end = c.place2 in
-    let input = c.before.before.before.before.before.before.before.args.input.now in
+    let policy = c.byte-policy in
+    let low = c.byte in
+    let high = c.byte-2 in
+    let count = c.two_bytes-n in
+    let start = c.place-start in
+    let end = c.place-end in
+    let input = c.args.input.now in
     let many = rw (low.ensures, high.ensures) at count.ensures in
     input_parts input policy.result count.result start.result end.result policy.ensures many start.ensures
     end.ensures
 
-pub parts-of-spec : {M : Type 1} → statement M
-parts-of-spec =
+pub parts_of_spec : {M : Type 1} → statement M
+parts_of_spec =
     tie.close
     (tie.spec
+    byte-policy-requires
     byte-requires
     byte-requires-2
-    byte-requires-3
-    two-bytes-requires
-    cast-n
-    place-requires
-    mul-place
-    add-place
-    place-requires-2
+    two_bytes-n-requires
+    overflow_cast-n
+    place-start-requires
+    overflow_mul-n
+    overflow_add-n
+    place-end-requires
     returns)

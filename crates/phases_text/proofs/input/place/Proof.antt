@@ -4,11 +4,11 @@ use borrow.Author.Rules.{rules}
 use Rattle.phases_text.proofs.input.place.Statement.{statement}
 use Rattle.phases_text.proofs.input.place.Tie as tie
 
+returns-then-i-input : tie.Need-returns-then-i-input
+returns-then-i-input c = search rules
+
 returns : tie.Need-returns
 returns c = search rules
 
-returns-2 : tie.Need-returns-2
-returns-2 c = search rules
-
-pub place-spec : {M : Type 1} → statement M
-place-spec = tie.close (tie.spec returns returns-2)
+pub place_spec : {M : Type 1} → statement M
+place_spec = tie.close (tie.spec returns-then-i-input returns)

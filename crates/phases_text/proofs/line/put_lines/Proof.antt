@@ -12,124 +12,112 @@ use Rattle.phases_text.specs.Line.Laws.Lines.{Listing, listing_start, listing-fe
 use Rattle.phases_text.proofs.line.put_lines.Statement.{statement}
 use Rattle.phases_text.proofs.line.put_lines.Tie as tie
 
-abbrev invariant-loop : tie.invariant-loop
-invariant-loop text₀ trace list records k₀ at₀ text k at = (k ≤ records) × Listing text₀ trace list k text at
+abbrev invariant-loop-k : tie.invariant-loop-k
+invariant-loop-k text₀ trace list records k₀ at₀ text k at = (k ≤ records) × Listing text₀ trace list k text at
 
-abbrev decreases-loop : tie.decreases-loop
-decreases-loop text₀ trace list records k₀ at₀ text k at = records - k
+abbrev decreases-loop-k : tie.decreases-loop-k
+decreases-loop-k text₀ trace list records k₀ at₀ text k at = records - k
 
-abbrev entry : tie.At-loop invariant-loop decreases-loop → tie.Start invariant-loop decreases-loop
+abbrev entry : tie.At-loop-k invariant-loop-k decreases-loop-k → tie.Start invariant-loop-k decreases-loop-k
 entry c = c.before.before.before.before
 
 -- The loop's head, from where the worker is known, and from where the line is written.
-abbrev head : tie.After-worker-of invariant-loop decreases-loop → tie.At-loop invariant-loop decreases-loop
+abbrev head : tie.After-worker_of-worker invariant-loop-k decreases-loop-k → tie.At-loop-k invariant-loop-k decreases-loop-k
 head c = c.before.before.before.before
 
-abbrev worker : tie.After-put-line invariant-loop decreases-loop → tie.After-worker-of invariant-loop decreases-loop
+abbrev worker : tie.After-put_line-at invariant-loop-k decreases-loop-k → tie.After-worker_of-worker invariant-loop-k decreases-loop-k
 worker c = c.before.before
 
-turn : (c : tie.After-put-line invariant-loop decreases-loop)
+turn : (c : tie.After-put_line-at invariant-loop-k decreases-loop-k)
     → let at = head (worker c) in
     let a = (entry at).args in
-    let put = c.put-line in
-    Listing a.text.now a.trace.now a.list.now (at.loop.k + 1)
-    (with_part at.loop.text at.loop.at put.new.0) (at.loop.at + put.result)
+    let put = c.put_line-at in
+    Listing a.text.now a.trace.now a.list.now (at.loop-k.k + 1)
+    (with_part at.loop-k.text at.loop-k.at put.new.0) (at.loop-k.at + put.result)
 turn c =
     let w = worker c in
-    let phase = w.before.before.number_at_lem in
-    let step = w.before.number-at2 in
+    let phase = w.number_at_lem in
+    let step = w.number_at-step in
     let at = head w in
     let a = (entry at).args in
-    let loop = at.loop in
-    listing-turn a.text.now a.trace.now a.list.now loop.k loop.text loop.at loop.inv.1
-    (omega (arith, w.before.before.before.loop-test.taken, (entry at).pre))
-    phase.result w.worker-of.result step.result phase.ensures w.worker-of.ensures step.ensures
-    c.put-line.new.0 c.put-line.result c.put-line.ensures
+    let loop = at.loop-k in
+    listing-turn a.text.now a.trace.now a.list.now loop.k loop.text loop.at loop.invariant.1
+    (omega (arith, w.loop-k-test.taken, (entry at).requires))
+    phase.result w.worker_of-worker.result step.result phase.ensures w.worker_of-worker.ensures step.ensures
+    c.put_line-at.new.0 c.put_line-at.result c.put_line-at.ensures
 
-loop-holds : tie.Need-loop-init invariant-loop decreases-loop
-loop-holds c =
-    let a = c.before.before.before.args in
+loop-k-init : tie.Need-loop-k-init invariant-loop-k decreases-loop-k
+loop-k-init c =
+    let a = c.args in
     (omega arith, listing_start a.text.now a.trace.now a.list.now)
 
-mul-i : tie.Need-overflow-mul-i invariant-loop decreases-loop
-mul-i c = omega arith
+overflow_mul-i : tie.Need-overflow_mul-i invariant-loop-k decreases-loop-k
+overflow_mul-i c = omega arith
 
-add-k : tie.Need-overflow-add-k invariant-loop decreases-loop
-add-k c = omega arith
+overflow_add-k : tie.Need-overflow_add-k invariant-loop-k decreases-loop-k
+overflow_add-k c = omega arith
 
-number-at-requires : tie.Need-number-at-requires invariant-loop decreases-loop
-number-at-requires c κs = omega arith
+number_at-phase-requires : tie.Need-number_at-phase-requires invariant-loop-k decreases-loop-k
+number_at-phase-requires c κs = omega arith
 
-add-number-at : tie.Need-overflow-add-number-at invariant-loop decreases-loop
-add-number-at c = omega arith
+overflow_add-i : tie.Need-overflow_add-i invariant-loop-k decreases-loop-k
+overflow_add-i c = omega arith
 
-number-at-requires-2 : tie.Need-number-at-requires-2 invariant-loop decreases-loop
-number-at-requires-2 c κs = omega arith
+number_at-step-requires : tie.Need-number_at-step-requires invariant-loop-k decreases-loop-k
+number_at-step-requires c κs = omega arith
 
-worker-of-requires : tie.Need-worker-of-requires invariant-loop decreases-loop
-worker-of-requires c κs =
-    let at = c.before.before.before in
-    rw c.before.number_at_lem.ensures ((entry at).requires.2 at.loop.k c.before.before.loop-test.true)
+worker_of-worker-requires : tie.Need-worker_of-worker-requires invariant-loop-k decreases-loop-k
+worker_of-worker-requires c κs =
+    rw c.number_at_lem.ensures ((entry c.before.before.before).requires.2 c.loop-k.k c.loop-k-test.true)
 
-sub-put-line : tie.Need-overflow-sub-put-line invariant-loop decreases-loop
-sub-put-line c = front_within (head c).loop.invariant.1
+slice_bounds-put_line-count : tie.Need-slice_bounds-put_line-count invariant-loop-k decreases-loop-k
+slice_bounds-put_line-count c = front_within (head c).loop-k.invariant.1
 
-part-put-line-start : tie.Need-slice-bounds-put-line-start invariant-loop decreases-loop
-part-put-line-start c = front_within (head c).loop.invariant.1
-
-part-put-line-end : tie.Need-slice-bounds-put-line-end invariant-loop decreases-loop
-part-put-line-end c = search rules
-
-put-line-requires : tie.Need-put-line-requires invariant-loop decreases-loop
-put-line-requires c κs =
-    let w = c.before in
-    let at = head w in
+put_line-at-requires : tie.Need-put_line-at-requires invariant-loop-k decreases-loop-k
+put_line-at-requires c κs =
+    let at = head c.before in
     let a = (entry at).args in
-    let loop = at.loop in
-    let few = listing-few a.text.now a.trace.now a.list.now loop.k loop.text loop.at loop.inv.1 in
-    front_room loop.inv.1 most_line (omega (arith, few, w.before.before.before.loop-test.true, (entry at).pre))
+    let loop = at.loop-k in
+    let few = listing-few a.text.now a.trace.now a.list.now loop.k loop.text loop.at loop.invariant.1 in
+    front_room loop.invariant.1 most_line (omega (arith, few, c.loop-k-test.true, (entry at).requires))
 
-add_at : tie.Need-overflow-add-at invariant-loop decreases-loop
-add_at c =
-    let at = c.before.before in
-    omega (arith, (turn at).ranges, (entry (head (worker at))).good)
+overflow_add-at : tie.Need-overflow_add-at invariant-loop-k decreases-loop-k
+overflow_add-at c =
+    omega (arith, (turn c.before.before).ranges, (entry (head (worker c.before.before))).good)
 
-loop-less : tie.Need-loop-smaller invariant-loop decreases-loop
-loop-less c = omega (arith, (worker c.before.before).before.before.before.loop-test.taken)
+loop-k-smaller : tie.Need-loop-k-smaller invariant-loop-k decreases-loop-k
+loop-k-smaller c = omega (arith, (worker c.before.before).loop-k-test.taken)
 
-loop-again : tie.Need-loop-preserved invariant-loop decreases-loop
-loop-again c =
-    let at = c.before.before in
-    (omega (arith, (worker at).before.before.before.loop-test.true), turn at)
+loop-k-preserved : tie.Need-loop-k-preserved invariant-loop-k decreases-loop-k
+loop-k-preserved c =
+    (omega (arith, (worker c.before.before).loop-k-test.true), turn c.before.before)
 
-same_length : tie.Need-same-length invariant-loop decreases-loop
-same_length c = front_length c.before.loop.invariant.1
+shape_of-text : tie.Need-shape_of-text invariant-loop-k decreases-loop-k
+shape_of-text c = front_length c.loop-k.invariant.1
 
-returns : tie.Need-returns invariant-loop decreases-loop
+returns : tie.Need-returns invariant-loop-k decreases-loop-k
 returns c =
     let a = (entry c.before).args in
-    let all : c.before.loop.k ≡ a.records = omega arith in
-    front_is c.before.loop.invariant.1 (ap (lines_of a.trace.now a.list.now) all)
+    let all : c.loop-k.k ≡ a.records = omega arith in
+    front_is c.loop-k.invariant.1 (ap (lines_of a.trace.now a.list.now) all)
 
-pub put-lines-spec : {M : Type 1} → statement M
-put-lines-spec =
+pub put_lines_spec : {M : Type 1} → statement M
+put_lines_spec =
     tie.close
     (tie.spec
-    invariant-loop
-    decreases-loop
-    loop-holds
-    mul-i
-    add-k
-    number-at-requires
-    add-number-at
-    number-at-requires-2
-    worker-of-requires
-    sub-put-line
-    part-put-line-start
-    part-put-line-end
-    put-line-requires
-    add_at
-    loop-less
-    loop-again
-    same_length
+    invariant-loop-k
+    decreases-loop-k
+    loop-k-init
+    overflow_mul-i
+    overflow_add-k
+    number_at-phase-requires
+    overflow_add-i
+    number_at-step-requires
+    worker_of-worker-requires
+    slice_bounds-put_line-count
+    put_line-at-requires
+    overflow_add-at
+    loop-k-smaller
+    loop-k-preserved
+    shape_of-text
     returns)

@@ -8,26 +8,26 @@ use Rattle.phases_text.specs.Line.Laws.Lines.{worker-later}
 use Rattle.phases_text.proofs.line.worker_of.Statement.{statement}
 use Rattle.phases_text.proofs.line.worker_of.Tie as tie
 
-returns : tie.Need-returns
+returns-then-k-eq0 : tie.Need-returns-then-k-eq0
 unfolding worker_by
-returns c = search rules
+returns-then-k-eq0 c = search rules
 
-sub-result : tie.Need-overflow-sub-result
-sub-result c = search rules
+overflow_sub-result : tie.Need-overflow_sub-result
+overflow_sub-result c = search rules
 
-mul-result : tie.Need-overflow-mul-result
-mul-result c = search rules
+overflow_mul-result : tie.Need-overflow_mul-result
+overflow_mul-result c = search rules
 
-shared-slice-read-result : tie.Need-shared-slice-read-result
-shared-slice-read-result c = search rules
+bounds-trace-k : tie.Need-bounds-trace-k
+bounds-trace-k c = search rules
 
-cast-result : tie.Need-overflow-cast-result
-cast-result c = omega (arith, c.shared-slice-known.given (4 * (c.before.before.args.phase.0 - 1)))
+overflow_cast-result : tie.Need-overflow_cast-result
+overflow_cast-result c = omega (arith, c.shared_slice_known-1.given (4 * (c.args.phase.0 - 1)))
 
-returns-2 : tie.Need-returns-2
-returns-2 c = worker-later c.before.before.args.trace.now c.before.before.args.phase.0 (omega arith)
+returns : tie.Need-returns
+returns c = worker-later c.args.trace.now c.args.phase.0 (omega arith)
 
-pub worker-of-spec : {M : Type 1} → statement M
-worker-of-spec =
+pub worker_of_spec : {M : Type 1} → statement M
+worker_of_spec =
     tie.close
-    (tie.spec returns sub-result mul-result shared-slice-read-result cast-result returns-2)
+    (tie.spec returns-then-k-eq0 overflow_sub-result overflow_mul-result bounds-trace-k overflow_cast-result returns)

@@ -12,22 +12,22 @@ use Rattle.phases_text.proofs.number.put_line.Tie as tie
 
 -- ---- what is written, after the first number and after the line of the others
 
-abbrev entry : tie.After-put-number → tie.Start
+abbrev entry : tie.After-put_number-at → tie.Start
 entry c = c.before.before.before
 
-one : (c : tie.After-put-number)
+one : (c : tie.After-put_number-at)
     → let a = (entry c).args in
-    Front a.text.now (piece a.first 32) c.put-number.new.0 c.put-number.result
+    Front a.text.now (piece a.first 32) c.put_number-at.new.0 c.put_number-at.result
 one c =
     let a = (entry c).args in
-    let put = c.put-number in
+    let put = c.put_number-at in
     front_first a.text.now (piece a.first 32) put.new.0 put.result
     (omega (arith, piece_most a.first 32, (entry c).requires)) put.ensures
 
-abbrev first : tie.After-put-two → tie.After-put-number
+abbrev first : tie.After-put_two → tie.After-put_number-at
 first c = c.before.before.before.before
 
-two : (c : tie.After-put-two)
+two : (c : tie.After-put_two)
     → let a = (entry (first c)).args in
     let put = (first c).put-number in
     Front a.text.now (piece a.first 32 ++ line (a.second ∷ a.third ∷ []))
@@ -41,46 +41,35 @@ two c =
 
 -- ---- the needs
 
-put-number-requires : tie.Need-put-number-requires
-put-number-requires c κs = search rules
+put_number-at-requires : tie.Need-put_number-at-requires
+put_number-at-requires c κs = search rules
 
-sub-put-two : tie.Need-overflow-sub-put-two
-sub-put-two c = front_within (one c.before.before)
+slice_bounds-put_two-count : tie.Need-slice_bounds-put_two-count
+slice_bounds-put_two-count c = front_within (one c.before.before)
 
-part-put-two-start : tie.Need-slice-bounds-put-two-start
-part-put-two-start c = front_within (one c.before.before)
+put_two-requires : tie.Need-put_two-requires
+put_two-requires c κs =
+    front_room (one c.before.before.before) 12 (omega (arith, c.put_number-at.ensures.0, piece_most (entry c.before.before.before).args.first 32, (entry c.before.before.before).requires))
 
-part-put-two-end : tie.Need-slice-bounds-put-two-end
-part-put-two-end c = search rules
+overflow_add-result : tie.Need-overflow_add-result
+overflow_add-result c =
+    omega (arith, (two c.before.before).ranges, (entry (first c.before.before)).well-formed)
 
-put-two-requires : tie.Need-put-two-requires
-put-two-requires c κs =
-    let at = c.before.before.before in
-    front_room (one at) 12 (omega (arith, at.put-number.ensures.0, piece_most (entry at).args.first 32, (entry at).requires))
-
-add-result : tie.Need-overflow-add-result
-add-result c =
-    let at = c.before.before in
-    omega (arith, (two at).ranges, (entry (first at)).well-formed)
-
-same_length : tie.Need-same-length
-same_length c = search rules
+shape_of-text : tie.Need-shape_of-text
+shape_of-text c = search rules
 
 returns : tie.Need-returns
 returns c =
-    let at = c.before.before in
-    let a = (entry (first at)).args in
-    front_is (two at) (line-more a.first a.second (a.third ∷ []))
+    let a = (entry (first c.before.before)).args in
+    front_is (two c.before.before) (line-more a.first a.second (a.third ∷ []))
 
-pub put-line-spec : {M : Type 1} → statement M
-put-line-spec =
+pub put_line_spec : {M : Type 1} → statement M
+put_line_spec =
     tie.close
     (tie.spec
-    put-number-requires
-    sub-put-two
-    part-put-two-start
-    part-put-two-end
-    put-two-requires
-    add-result
-    same_length
+    put_number-at-requires
+    slice_bounds-put_two-count
+    put_two-requires
+    overflow_add-result
+    shape_of-text
     returns)

@@ -11,79 +11,78 @@ use Rattle.phases_text.specs.Number.Laws.Numbers.{behind_number}
 use Rattle.phases_text.proofs.number.put_number.Statement.{statement}
 use Rattle.phases_text.proofs.number.put_number.Tie as tie
 
-abbrev invariant-loop : tie.invariant-loop
-invariant-loop text₀ number end count i₀ rest₀ text i rest = Writing number text₀ text i rest
+abbrev invariant-loop-i : tie.invariant-loop-i
+invariant-loop-i text₀ number end count i₀ rest₀ text i rest = Writing number text₀ text i rest
 
-abbrev decreases-loop : tie.decreases-loop
-decreases-loop text₀ number end count i₀ rest₀ text i rest = i
+abbrev decreases-loop-i : tie.decreases-loop-i
+decreases-loop-i text₀ number end count i₀ rest₀ text i rest = i
 
 -- The text keeps its length.
-room : (c : tie.At-loop invariant-loop decreases-loop) → length c.loop.text ≡ length c.before.before.before.args.text.now
-room c = c.loop.invariant.room ∙ simp length-set
+room : (c : tie.At-loop-i invariant-loop-i decreases-loop-i) → length c.loop-i.text ≡ length c.args.text.now
+room c = c.loop-i.invariant.room ∙ simp length-set
 
-places-requires : tie.Need-places-requires invariant-loop decreases-loop
-places-requires c κs = search rules
+places-count-requires : tie.Need-places-count-requires invariant-loop-i decreases-loop-i
+places-count-requires c κs = search rules
 
-slice-write-text : tie.Need-slice-write-text invariant-loop decreases-loop
-slice-write-text c = omega (arith, c.places.ensures, decimal_most c.before.before.args.number)
+bounds-text-count : tie.Need-bounds-text-count invariant-loop-i decreases-loop-i
+bounds-text-count c = omega (arith, c.places-count.ensures, decimal_most c.args.number)
 
-loop-holds : tie.Need-loop-init invariant-loop decreases-loop
-loop-holds c =
-    let a = c.before.before.args in
-    writing_start a.number (set a.text.now c.places.result a.end) c.places.result c.places.ensures
+loop-i-init : tie.Need-loop-i-init invariant-loop-i decreases-loop-i
+loop-i-init c =
+    let a = c.args in
+    writing_start a.number (set a.text.now c.places-count.result a.end) c.places-count.result c.places-count.ensures
 
-sub-i : tie.Need-overflow-sub-i invariant-loop decreases-loop
-sub-i c = omega arith
+overflow_sub-i : tie.Need-overflow_sub-i invariant-loop-i decreases-loop-i
+overflow_sub-i c = omega arith
 
-add-text : tie.Need-overflow-add-text invariant-loop decreases-loop
-add-text c = omega arith
+overflow_add-text : tie.Need-overflow_add-text invariant-loop-i decreases-loop-i
+overflow_add-text c = omega arith
 
-cast-text : tie.Need-overflow-cast-text invariant-loop decreases-loop
-cast-text c = omega arith
+overflow_cast-text : tie.Need-overflow_cast-text invariant-loop-i decreases-loop-i
+overflow_cast-text c = omega arith
 
-slice-write-text-2 : tie.Need-slice-write-text-2 invariant-loop decreases-loop
-slice-write-text-2 c = omega (arith, room c.before)
+bounds-text-i : tie.Need-bounds-text-i invariant-loop-i decreases-loop-i
+bounds-text-i c = omega (arith, room c.before)
 
-loop-less : tie.Need-loop-smaller invariant-loop decreases-loop
-loop-less c = omega arith
+loop-i-smaller : tie.Need-loop-i-smaller invariant-loop-i decreases-loop-i
+loop-i-smaller c = omega arith
 
-loop-again : tie.Need-loop-preserved invariant-loop decreases-loop
-loop-again c =
-    let loop = c.before.loop in
-    let number = c.before.before.before.before.args.number in
-    writing_turn number _ (omega (arith, room c.before)) loop.text loop.i loop.rest loop.invariant c.loop-test.true
+loop-i-preserved : tie.Need-loop-i-preserved invariant-loop-i decreases-loop-i
+loop-i-preserved c =
+    let loop = c.loop-i in
+    let number = c.args.number in
+    writing_turn number _ (omega (arith, room c.before)) loop.text loop.i loop.rest loop.invariant c.loop-i-test.true
 
-add-result : tie.Need-overflow-add-result invariant-loop decreases-loop
-add-result c = omega (arith, c.before.before.places.ensures, decimal_most c.before.before.before.before.args.number)
+overflow_add-result : tie.Need-overflow_add-result invariant-loop-i decreases-loop-i
+overflow_add-result c = omega (arith, c.places-count.ensures, decimal_most c.args.number)
 
-same_length : tie.Need-same-length invariant-loop decreases-loop
-same_length c = room c.before
+shape_of-text : tie.Need-shape_of-text invariant-loop-i decreases-loop-i
+shape_of-text c = room c.before
 
-returns : tie.Need-returns invariant-loop decreases-loop
+returns : tie.Need-returns invariant-loop-i decreases-loop-i
 returns c =
-    let start = c.before.before.before.before in
-    let a = start.args in
-    let places = c.before.before.places in
-    let loop = c.before.loop in
+    let a = c.args in
+    let places = c.places-count in
+    let loop = c.loop-i in
     let done = writing_done a.number _ loop.text loop.i loop.rest loop.invariant (omega arith) in
-    let all = behind_number a.number a.end a.text.now start.requires places.result places.ensures in
+    let all = behind_number a.number a.end a.text.now c.requires places.result places.ensures in
     (omega (arith, places.ensures, length-append (decimal a.number) (a.end ∷ [])), done ∙ all)
 
-pub put-number-spec : {M : Type 1} → statement M
-put-number-spec =
+pub put_number_spec : {M : Type 1} → statement M
+put_number_spec =
     tie.close
     (tie.spec
-    invariant-loop
-    decreases-loop
-    places-requires
-    slice-write-text
-    loop-holds
-    sub-i
-    add-text
-    cast-text
-    slice-write-text-2
-    loop-less
-    loop-again
-    add-result
-    same_length
+    invariant-loop-i
+    decreases-loop-i
+    places-count-requires
+    bounds-text-count
+    loop-i-init
+    overflow_sub-i
+    overflow_add-text
+    overflow_cast-text
+    bounds-text-i
+    loop-i-smaller
+    loop-i-preserved
+    overflow_add-result
+    shape_of-text
     returns)

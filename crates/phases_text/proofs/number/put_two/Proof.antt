@@ -12,76 +12,65 @@ use Rattle.phases_text.proofs.number.put_two.Tie as tie
 
 -- ---- what is written, after each number
 
-abbrev entry : tie.After-put-number → tie.Start
+abbrev entry : tie.After-put_number-at → tie.Start
 entry c = c.before.before.before
 
-one : (c : tie.After-put-number)
+one : (c : tie.After-put_number-at)
     → let a = (entry c).args in
-    Front a.text.now (piece a.first 32) c.put-number.new.0 c.put-number.result
+    Front a.text.now (piece a.first 32) c.put_number-at.new.0 c.put_number-at.result
 one c =
     let a = (entry c).args in
-    let put = c.put-number in
+    let put = c.put_number-at in
     front_first a.text.now (piece a.first 32) put.new.0 put.result
     (omega (arith, piece_most a.first 32, (entry c).requires)) put.ensures
 
-abbrev first : tie.After-put-number2 → tie.After-put-number
+abbrev first : tie.After-put_number → tie.After-put_number-at
 first c = c.before.before.before.before
 
-two : (c : tie.After-put-number2)
+two : (c : tie.After-put_number)
     → let a = (entry (first c)).args in
     let put = (first c).put-number in
-    Front a.text.now (piece a.first 32 ++ piece a.second 10) (with_part put.last.0 put.result c.put-number2.new.0)
-    (put.result + c.put-number2.result)
+    Front a.text.now (piece a.first 32 ++ piece a.second 10) (with_part put.last.0 put.result c.put_number.new.0)
+    (put.result + c.put_number.result)
 two c =
     let a = (entry (first c)).args in
-    let put = c.put-number2 in
+    let put = c.put_number in
     front_next (one (first c)) (piece a.second 10) put.new.0 put.result
     (omega (arith, (first c).put-number.ensures.0, piece_most a.first 32, piece_most a.second 10, (entry (first c)).requires))
     put.ensures
 
 -- ---- the needs
 
-put-number-requires : tie.Need-put-number-requires
-put-number-requires c κs = search rules
+put_number-at-requires : tie.Need-put_number-at-requires
+put_number-at-requires c κs = search rules
 
-sub-put-number : tie.Need-overflow-sub-put-number
-sub-put-number c = front_within (one c.before.before)
+slice_bounds-put_number-count : tie.Need-slice_bounds-put_number-count
+slice_bounds-put_number-count c = front_within (one c.before.before)
 
-part-put-number-start : tie.Need-slice-bounds-put-number-start
-part-put-number-start c = front_within (one c.before.before)
+put_number-requires : tie.Need-put_number-requires
+put_number-requires c κs =
+    front_room (one c.before.before.before) 6 (omega (arith, c.put_number-at.ensures.0, piece_most (entry c.before.before.before).args.first 32, (entry c.before.before.before).requires))
 
-part-put-number-end : tie.Need-slice-bounds-put-number-end
-part-put-number-end c = search rules
+overflow_add-result : tie.Need-overflow_add-result
+overflow_add-result c =
+    omega (arith, (two c.before.before).ranges, (entry (first c.before.before)).well-formed)
 
-put-number-requires-2 : tie.Need-put-number-requires-2
-put-number-requires-2 c κs =
-    let at = c.before.before.before in
-    front_room (one at) 6 (omega (arith, at.put-number.ensures.0, piece_most (entry at).args.first 32, (entry at).requires))
-
-add-result : tie.Need-overflow-add-result
-add-result c =
-    let at = c.before.before in
-    omega (arith, (two at).ranges, (entry (first at)).well-formed)
-
-same_length : tie.Need-same-length
-same_length c = search rules
+shape_of-text : tie.Need-shape_of-text
+shape_of-text c = search rules
 
 returns : tie.Need-returns
 unfolding line
 returns c =
-    let at = c.before.before in
-    let a = (entry (first at)).args in
-    front_is (two at) (line-more a.first a.second [])
+    let a = (entry (first c.before.before)).args in
+    front_is (two c.before.before) (line-more a.first a.second [])
 
-pub put-two-spec : {M : Type 1} → statement M
-put-two-spec =
+pub put_two_spec : {M : Type 1} → statement M
+put_two_spec =
     tie.close
     (tie.spec
-    put-number-requires
-    sub-put-number
-    part-put-number-start
-    part-put-number-end
-    put-number-requires-2
-    add-result
-    same_length
+    put_number-at-requires
+    slice_bounds-put_number-count
+    put_number-requires
+    overflow_add-result
+    shape_of-text
     returns)

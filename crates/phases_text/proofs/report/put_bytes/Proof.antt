@@ -9,16 +9,16 @@ use Rattle.rules.specs.Calls.{written}
 use Rattle.phases_text.proofs.report.put_bytes.Statement.{statement}
 use Rattle.phases_text.proofs.report.put_bytes.Tie as tie
 
-copy-out-requires : tie.Need-copy-out-requires
-copy-out-requires c κs = search rules
+copy_out-requires : tie.Need-copy_out-requires
+copy_out-requires c κs = search rules
 
-same_length : tie.Need-same-length
-same_length c = search rules
+shape_of-text : tie.Need-shape_of-text
+shape_of-text c = search rules
 
 returns : tie.Need-returns
 returns c =
-    let a = c.before.before.before.before.before.before.args in
-    (refl, c.before.before.copy-out.ensures ∙ ap (λ (l : List ℕ). written l a.text.now) (take-length a.bytes.now))
+    let a = c.args in
+    (refl, c.copy_out.ensures ∙ ap (λ (l : List ℕ). written l a.text.now) (take-length a.bytes.now))
 
-pub put-bytes-spec : {M : Type 1} → statement M
-put-bytes-spec = tie.close (tie.spec copy-out-requires same_length returns)
+pub put_bytes_spec : {M : Type 1} → statement M
+put_bytes_spec = tie.close (tie.spec copy_out-requires shape_of-text returns)

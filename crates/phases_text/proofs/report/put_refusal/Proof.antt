@@ -17,18 +17,18 @@ word = 114 ∷ 101 ∷ 102 ∷ 117 ∷ 115 ∷ 101 ∷ 100 ∷ 32 ∷ []
 
 -- ---- what is written, after the word and after the line
 
-abbrev entry : tie.After-put-bytes → tie.Start
-entry c = c.before.before.before.before
+abbrev entry : tie.After-put_bytes-at → tie.Start
+entry c = c.before.before.before.before.before
 
-one : (c : tie.After-put-bytes) → Front (entry c).args.text.now word c.put-bytes.new.0 c.put-bytes.result
+one : (c : tie.After-put_bytes-at) → Front (entry c).args.text.now word c.put_bytes-at.new.0 c.put_bytes-at.result
 one c =
-    let put = c.put-bytes in
+    let put = c.put_bytes-at in
     front_first (entry c).args.text.now word put.new.0 put.result (omega (arith, (entry c).requires)) put.ensures
 
-abbrev first : tie.After-put-two → tie.After-put-bytes
+abbrev first : tie.After-put_two → tie.After-put_bytes-at
 first c = c.before.before.before.before
 
-two : (c : tie.After-put-two)
+two : (c : tie.After-put_two)
     → let a = (entry (first c)).args in
     let put = (first c).put-bytes in
     Front a.text.now (word ++ line (a.number ∷ a.position ∷ []))
@@ -42,46 +42,33 @@ two c =
 
 -- ---- the needs
 
-slice-aggregate-put-bytes : tie.Need-slice-aggregate-put-bytes
-slice-aggregate-put-bytes c = search rules
+put_bytes-at-requires : tie.Need-put_bytes-at-requires
+put_bytes-at-requires c κs = search rules
 
-put-bytes-requires : tie.Need-put-bytes-requires
-put-bytes-requires c κs = search rules
+slice_bounds-put_two-count : tie.Need-slice_bounds-put_two-count
+slice_bounds-put_two-count c = search rules
 
-sub-put-two : tie.Need-overflow-sub-put-two
-sub-put-two c = search rules
+put_two-requires : tie.Need-put_two-requires
+put_two-requires c κs = search rules
 
-part-put-two-start : tie.Need-slice-bounds-put-two-start
-part-put-two-start c = search rules
+overflow_add-result : tie.Need-overflow_add-result
+overflow_add-result c =
+    omega (arith, (two c.before.before).ranges, (entry (first c.before.before)).well-formed)
 
-part-put-two-end : tie.Need-slice-bounds-put-two-end
-part-put-two-end c = search rules
-
-put-two-requires : tie.Need-put-two-requires
-put-two-requires c κs = search rules
-
-add-result : tie.Need-overflow-add-result
-add-result c =
-    let at = c.before.before in
-    omega (arith, (two at).ranges, (entry (first at)).well-formed)
-
-same_length : tie.Need-same-length
-same_length c = search rules
+shape_of-text : tie.Need-shape_of-text
+shape_of-text c = search rules
 
 returns : tie.Need-returns
 unfolding refusal_text refused_line
 returns c = front_is (two c.before.before) refl
 
-pub put-refusal-spec : {M : Type 1} → statement M
-put-refusal-spec =
+pub put_refusal_spec : {M : Type 1} → statement M
+put_refusal_spec =
     tie.close
     (tie.spec
-    slice-aggregate-put-bytes
-    put-bytes-requires
-    sub-put-two
-    part-put-two-start
-    part-put-two-end
-    put-two-requires
-    add-result
-    same_length
+    put_bytes-at-requires
+    slice_bounds-put_two-count
+    put_two-requires
+    overflow_add-result
+    shape_of-text
     returns)
