@@ -39,7 +39,7 @@ returns c =
     let room : most_text ≤ length a.text.now = omega (arith, c.if-text-lt-TEXT_BYTES.false) in
     let cut : c.place-end.result ≡ min most_input (length a.input.now) = omega (arith, c.place-end.ensures) in
     let all = text_whole (length a.text.now) c.place-end.result a.input.now room cut in
-    let whole = text_is a.text.now put.new.1.0 put.result all put.ensures in
+    let whole = text_is a.text.now put.new.text put.result all put.ensures in
     let some = text_some (length a.text.now) a.input.now room in
     (whole.0, (whole.1, λ z. absurd (omega (arith, whole.0, some))))
 

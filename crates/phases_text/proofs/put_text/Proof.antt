@@ -30,10 +30,10 @@ abbrev read : tie.After-replay-replayed → tie.After-parts_of-parts
 read c = c.before.before.before.before
 
 called : (c : tie.After-replay-replayed)
-    → Called (entry (read c)).args.input.now c.replay-replayed.result c.replay-replayed.new.1.1.1.0
+    → Called (entry (read c)).args.input.now c.replay-replayed.result c.replay-replayed.new.list
 called c =
     let replay = c.replay-replayed in
-    parts_called (parts (read c)) _ replay.result replay.new.1.1.1.0 replay.ensures.0 replay.ensures.1 refl
+    parts_called (parts (read c)) _ replay.result replay.new.list replay.ensures.0 replay.ensures.1 refl
 
 -- Past an accepted call.
 abbrev replay-at : tie.After-steps → tie.After-replay-replayed
@@ -50,8 +50,20 @@ parts_of-parts-requires c κs = search rules
 slice_bounds-tree-count : tie.Need-slice_bounds-tree-count
 slice_bounds-tree-count c = search rules
 
+slice_bounds-tree-start : tie.Need-slice_bounds-tree-start
+slice_bounds-tree-start c = search rules
+
+slice_bounds-tree-end : tie.Need-slice_bounds-tree-end
+slice_bounds-tree-end c = search rules
+
 slice_bounds-trace-count : tie.Need-slice_bounds-trace-count
 slice_bounds-trace-count c = search rules
+
+slice_bounds-trace-start : tie.Need-slice_bounds-trace-start
+slice_bounds-trace-start c = search rules
+
+slice_bounds-trace-end : tie.Need-slice_bounds-trace-end
+slice_bounds-trace-end c = search rules
 
 overflow_cast-workers : tie.Need-overflow_cast-workers
 overflow_cast-workers c = search rules
@@ -76,7 +88,7 @@ returns-then-replayed-ne0 c =
     let put = c.put_refusal in
     let text = (entry (read c.before.before.before.before.before.before.before.before)).args.text.now in
     let all = called_refused (called c.before.before.before.before.before.before.before.before) c.if-replayed-ne0.true in
-    text_is text put.new.0 put.result all put.ensures
+    text_is text put.new.text put.result all put.ensures
 
 slice_bounds-put_listing-end : tie.Need-slice_bounds-put_listing-end
 slice_bounds-put_listing-end c = search rules
@@ -100,8 +112,8 @@ returns c =
     let put = c.put_listing in
     let text = (entry (read (replay-at c.before.before.before))).args.text.now in
     let listed = called-listed (called (replay-at c.before.before.before)) c.if-replayed-ne0.false in
-    let all = rw (← steps-are c.before.before.before, ← (parts (read (replay-at c.before.before.before))).trace_is) c listed in
-    text_is text put.new.0 put.result all put.ensures
+    let all = rw (← steps-are c.before.before.before, ← (parts (read (replay-at c.before.before.before))).trace_is) at listed in
+    text_is text put.new.text put.result all put.ensures
 
 pub put_text_spec : {M : Type 1} → statement M
 put_text_spec =
@@ -109,7 +121,11 @@ put_text_spec =
     (tie.spec
     parts_of-parts-requires
     slice_bounds-tree-count
+    slice_bounds-tree-start
+    slice_bounds-tree-end
     slice_bounds-trace-count
+    slice_bounds-trace-start
+    slice_bounds-trace-end
     overflow_cast-workers
     slice_bounds-replay-end
     replay-replayed-requires

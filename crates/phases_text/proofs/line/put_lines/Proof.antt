@@ -33,18 +33,18 @@ turn : (c : tie.After-put_line-at invariant-loop-k decreases-loop-k)
     let a = (entry at).args in
     let put = c.put_line-at in
     Listing a.text.now a.trace.now a.list.now (at.loop-k.k + 1)
-    (with_part at.loop-k.text at.loop-k.at put.new.0) (at.loop-k.at + put.result)
+    (with_part at.loop-k.text at.loop-k.at put.new.text) (at.loop-k.at + put.result)
 turn c =
     let w = worker c in
-    let phase = w.number_at_lem in
+    let phase = w.number_at-phase in
     let step = w.number_at-step in
     let at = head w in
     let a = (entry at).args in
     let loop = at.loop-k in
     listing-turn a.text.now a.trace.now a.list.now loop.k loop.text loop.at loop.invariant.1
-    (omega (arith, w.loop-k-test.taken, (entry at).requires))
+    (omega (arith, w.loop-k-test.true, (entry at).requires))
     phase.result w.worker_of-worker.result step.result phase.ensures w.worker_of-worker.ensures step.ensures
-    c.put_line-at.new.0 c.put_line-at.result c.put_line-at.ensures
+    c.put_line-at.new.text c.put_line-at.result c.put_line-at.ensures
 
 loop-k-init : tie.Need-loop-k-init invariant-loop-k decreases-loop-k
 loop-k-init c =
@@ -68,10 +68,16 @@ number_at-step-requires c κs = omega arith
 
 worker_of-worker-requires : tie.Need-worker_of-worker-requires invariant-loop-k decreases-loop-k
 worker_of-worker-requires c κs =
-    rw c.number_at_lem.ensures ((entry c.before.before.before).requires.2 c.loop-k.k c.loop-k-test.true)
+    rw c.number_at-phase.ensures ((entry c.before.before.before).requires.2 c.loop-k.k c.loop-k-test.true)
 
 slice_bounds-put_line-count : tie.Need-slice_bounds-put_line-count invariant-loop-k decreases-loop-k
 slice_bounds-put_line-count c = front_within (head c).loop-k.invariant.1
+
+slice_bounds-put_line-start : tie.Need-slice_bounds-put_line-start invariant-loop-k decreases-loop-k
+slice_bounds-put_line-start c = front_within (head c).loop-k.invariant.1
+
+slice_bounds-put_line-end : tie.Need-slice_bounds-put_line-end invariant-loop-k decreases-loop-k
+slice_bounds-put_line-end c = search rules
 
 put_line-at-requires : tie.Need-put_line-at-requires invariant-loop-k decreases-loop-k
 put_line-at-requires c κs =
@@ -83,10 +89,10 @@ put_line-at-requires c κs =
 
 overflow_add-at : tie.Need-overflow_add-at invariant-loop-k decreases-loop-k
 overflow_add-at c =
-    omega (arith, (turn c.before.before).ranges, (entry (head (worker c.before.before))).good)
+    omega (arith, (turn c.before.before).fits, (entry (head (worker c.before.before))).well_formed)
 
 loop-k-smaller : tie.Need-loop-k-smaller invariant-loop-k decreases-loop-k
-loop-k-smaller c = omega (arith, (worker c.before.before).loop-k-test.taken)
+loop-k-smaller c = omega (arith, (worker c.before.before).loop-k-test.true)
 
 loop-k-preserved : tie.Need-loop-k-preserved invariant-loop-k decreases-loop-k
 loop-k-preserved c =
@@ -115,6 +121,8 @@ put_lines_spec =
     number_at-step-requires
     worker_of-worker-requires
     slice_bounds-put_line-count
+    slice_bounds-put_line-start
+    slice_bounds-put_line-end
     put_line-at-requires
     overflow_add-at
     loop-k-smaller

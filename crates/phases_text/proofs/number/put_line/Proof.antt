@@ -17,11 +17,11 @@ entry c = c.before.before.before
 
 one : (c : tie.After-put_number-at)
     → let a = (entry c).args in
-    Front a.text.now (piece a.first 32) c.put_number-at.new.0 c.put_number-at.result
+    Front a.text.now (piece a.first 32) c.put_number-at.new.text c.put_number-at.result
 one c =
     let a = (entry c).args in
     let put = c.put_number-at in
-    front_first a.text.now (piece a.first 32) put.new.0 put.result
+    front_first a.text.now (piece a.first 32) put.new.text put.result
     (omega (arith, piece_most a.first 32, (entry c).requires)) put.ensures
 
 abbrev first : tie.After-put_two → tie.After-put_number-at
@@ -29,15 +29,15 @@ first c = c.before.before.before.before
 
 two : (c : tie.After-put_two)
     → let a = (entry (first c)).args in
-    let put = (first c).put-number in
+    let put = (first c).put_number-at in
     Front a.text.now (piece a.first 32 ++ line (a.second ∷ a.third ∷ []))
-    (with_part put.last.0 put.result c.put_two.new.0) (put.result + c.put_two.result)
+    (with_part put.new.text put.result c.put_two.new.text) (put.result + c.put_two.result)
 two c =
     let a = (entry (first c)).args in
     let put = c.put_two in
     let few = line_most a.second (a.third ∷ []) in
-    front_next (one (first c)) (line (a.second ∷ a.third ∷ [])) put.new.0 put.result
-    (omega (arith, (first c).put-number.ensures.0, piece_most a.first 32, few, (entry (first c)).requires)) put.ensures
+    front_next (one (first c)) (line (a.second ∷ a.third ∷ [])) put.new.text put.result
+    (omega (arith, (first c).put_number-at.ensures.0, piece_most a.first 32, few, (entry (first c)).requires)) put.ensures
 
 -- ---- the needs
 
@@ -47,13 +47,19 @@ put_number-at-requires c κs = search rules
 slice_bounds-put_two-count : tie.Need-slice_bounds-put_two-count
 slice_bounds-put_two-count c = front_within (one c.before.before)
 
+slice_bounds-put_two-start : tie.Need-slice_bounds-put_two-start
+slice_bounds-put_two-start c = front_within (one c.before.before)
+
+slice_bounds-put_two-end : tie.Need-slice_bounds-put_two-end
+slice_bounds-put_two-end c = search rules
+
 put_two-requires : tie.Need-put_two-requires
 put_two-requires c κs =
     front_room (one c.before.before.before) 12 (omega (arith, c.put_number-at.ensures.0, piece_most (entry c.before.before.before).args.first 32, (entry c.before.before.before).requires))
 
 overflow_add-result : tie.Need-overflow_add-result
 overflow_add-result c =
-    omega (arith, (two c.before.before).ranges, (entry (first c.before.before)).well-formed)
+    omega (arith, (two c.before.before).fits, (entry (first c.before.before)).well_formed)
 
 shape_of-text : tie.Need-shape_of-text
 shape_of-text c = search rules
@@ -69,6 +75,8 @@ put_line_spec =
     (tie.spec
     put_number-at-requires
     slice_bounds-put_two-count
+    slice_bounds-put_two-start
+    slice_bounds-put_two-end
     put_two-requires
     overflow_add-result
     shape_of-text

@@ -20,25 +20,25 @@ word = 114 ∷ 101 ∷ 102 ∷ 117 ∷ 115 ∷ 101 ∷ 100 ∷ 32 ∷ []
 abbrev entry : tie.After-put_bytes-at → tie.Start
 entry c = c.before.before.before.before.before
 
-one : (c : tie.After-put_bytes-at) → Front (entry c).args.text.now word c.put_bytes-at.new.0 c.put_bytes-at.result
+one : (c : tie.After-put_bytes-at) → Front (entry c).args.text.now word c.put_bytes-at.new.text c.put_bytes-at.result
 one c =
     let put = c.put_bytes-at in
-    front_first (entry c).args.text.now word put.new.0 put.result (omega (arith, (entry c).requires)) put.ensures
+    front_first (entry c).args.text.now word put.new.text put.result (omega (arith, (entry c).requires)) put.ensures
 
 abbrev first : tie.After-put_two → tie.After-put_bytes-at
 first c = c.before.before.before.before
 
 two : (c : tie.After-put_two)
     → let a = (entry (first c)).args in
-    let put = (first c).put-bytes in
+    let put = (first c).put_bytes-at in
     Front a.text.now (word ++ line (a.number ∷ a.position ∷ []))
-    (with_part put.last.0 put.result c.put_two.new.0) (put.result + c.put_two.result)
+    (with_part put.new.text put.result c.put_two.new.text) (put.result + c.put_two.result)
 two c =
     let a = (entry (first c)).args in
     let put = c.put_two in
     let few = line_most a.number (a.position ∷ []) in
-    front_next (one (first c)) (line (a.number ∷ a.position ∷ [])) put.new.0 put.result
-    (omega (arith, few, (first c).put-bytes.ensures.0, (entry (first c)).requires)) put.ensures
+    front_next (one (first c)) (line (a.number ∷ a.position ∷ [])) put.new.text put.result
+    (omega (arith, few, (first c).put_bytes-at.ensures.0, (entry (first c)).requires)) put.ensures
 
 -- ---- the needs
 
@@ -48,12 +48,18 @@ put_bytes-at-requires c κs = search rules
 slice_bounds-put_two-count : tie.Need-slice_bounds-put_two-count
 slice_bounds-put_two-count c = search rules
 
+slice_bounds-put_two-start : tie.Need-slice_bounds-put_two-start
+slice_bounds-put_two-start c = search rules
+
+slice_bounds-put_two-end : tie.Need-slice_bounds-put_two-end
+slice_bounds-put_two-end c = search rules
+
 put_two-requires : tie.Need-put_two-requires
 put_two-requires c κs = search rules
 
 overflow_add-result : tie.Need-overflow_add-result
 overflow_add-result c =
-    omega (arith, (two c.before.before).ranges, (entry (first c.before.before)).well-formed)
+    omega (arith, (two c.before.before).fits, (entry (first c.before.before)).well_formed)
 
 shape_of-text : tie.Need-shape_of-text
 shape_of-text c = search rules
@@ -68,6 +74,8 @@ put_refusal_spec =
     (tie.spec
     put_bytes-at-requires
     slice_bounds-put_two-count
+    slice_bounds-put_two-start
+    slice_bounds-put_two-end
     put_two-requires
     overflow_add-result
     shape_of-text
