@@ -33,7 +33,7 @@ fn joined(kind: u8, own: u32, child: u64, rest: u64) -> u64
 fn task(tree: &[u8], end: Step, lasting: &mut [u64], ends: &mut [u16], openers: &mut [u16]) -> Step
     requires room { Room tree.now lasting.old end.0 }
     requires end_value { kind_at (kinds tree.now) end.0 ≡ 3 }
-    requires tabled_2 { Tabled (kinds tree.now) ends.old openers.old ends.old openers.old (suc end.0) }
+    requires tabled { Tabled (kinds tree.now) ends.old openers.old ends.old openers.old (suc end.0) }
     ensures first { result.0 ≡ first_of (kinds tree.now) end.0 }
     ensures filled { let file = tree.now in
         Filled (kinds file) (weights file) lasting.old lasting.new result.0 end.0 }
@@ -52,7 +52,7 @@ fn task(tree: &[u8], end: Step, lasting: &mut [u64], ends: &mut [u16], openers: 
 fn rest(tree: &[u8], from: Step, lasting: &mut [u64], ends: &mut [u16], openers: &mut [u16]) -> Step
     requires room { Room tree.now lasting.old from.0 }
     requires lasting { Lasting (kinds tree.now) (weights tree.now) lasting.old from.0 (suc from.0) }
-    requires tabled_2 { Tabled (kinds tree.now) ends.old openers.old ends.old openers.old from.0 }
+    requires tabled { Tabled (kinds tree.now) ends.old openers.old ends.old openers.old from.0 }
     ensures first { result.0 ≡ first_of (kinds tree.now) from.0 }
     ensures filled { let file = tree.now in
         Filled (kinds file) (weights file) lasting.old lasting.new result.0 from.0 }
@@ -81,9 +81,9 @@ fn rest(tree: &[u8], from: Step, lasting: &mut [u64], ends: &mut [u16], openers:
 // Fills the tables of an accepted tree.
 pub fn fill(tree: &[u8], lasting: &mut [u64], ends: &mut [u16], openers: &mut [u16])
     requires tree_value { (tree_verdict tree.now).number ≡ 0 }
-    requires tree_in_bounds { length (kinds tree.now) ≤ length lasting.old }
-    requires tree_in_bounds_2 { length (kinds tree.now) ≤ length ends.old }
-    requires tree_in_bounds_3 { length (kinds tree.now) ≤ length openers.old }
+    requires lasting_room { length (kinds tree.now) ≤ length lasting.old }
+    requires ends_room { length (kinds tree.now) ≤ length ends.old }
+    requires openers_room { length (kinds tree.now) ≤ length openers.old }
     ensures lasting { let file = tree.now in
         Lasting (kinds file) (weights file) lasting.new 0 (length (kinds file)) }
     ensures ends { let ks = kinds tree.now in Ends ks ends.new (length ks) }

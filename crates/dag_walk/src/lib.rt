@@ -65,7 +65,7 @@ fn put_step(chain: &mut [u8], k: usize, step: Step)
 pub fn walk(tree: &[u8], ends: &[u16], openers: &[u16], lasting: &[u64], chain: &mut [u8]) -> usize
     requires tables { Tables tree.now ends.now openers.now }
     requires lasted { Lasted tree.now lasting.now }
-    requires tree_in_bounds { 2 * length (kinds tree.now) ≤ length chain.old }
+    requires chain_room { 2 * length (kinds tree.now) ≤ length chain.old }
     ensures { let file = tree.now in
         ChainWritten (kinds file) (weights file) chain.old result chain.new }
 {

@@ -51,9 +51,9 @@ pub fn walk(
     trace: &mut [u8],
 ) -> Ended
     requires tree_value { (start_verdict setup.workers setup.policy tree.now).number ≡ 0 }
-    requires fact { let ks = kinds tree.now in (length ends.now ≡ length ks) × Ends ks ends.now (length ends.now) }
-    requires fact_2 { let ks = kinds tree.now in (length openers.now ≡ length ks) × Openers ks openers.now (length openers.now) }
-    requires fact_3 { let n = length (kinds tree.now) in (n < length sums.now) × Sums (weights tree.now) sums.now n }
+    requires ends { let ks = kinds tree.now in (length ends.now ≡ length ks) × Ends ks ends.now (length ends.now) }
+    requires openers { let ks = kinds tree.now in (length openers.now ≡ length ks) × Openers ks openers.now (length openers.now) }
+    requires sums { let n = length (kinds tree.now) in (n < length sums.now) × Sums (weights tree.now) sums.now n }
     requires log_len { (length log.old ≡ 4 * most_steps) × (length trace.old ≡ 4 * most_trace_records) }
     ensures { Walks setup.workers setup.policy tree.now events.now result log.new trace.new }
 {

@@ -33,7 +33,7 @@ pub fn read_steal(
     phase: Phase,
     number: TraceNumber,
 ) -> Named
-    requires fact { let base = get_or bases.now phase.0 0 in
+    requires base { let base = get_or bases.now phase.0 0 in
         ((tree_verdict tree.now).number ≡ 0) × (phase.0 < most_phases) × (base < length (kinds tree.now)) }
     requires ends { Ends (kinds tree.now) ends.now (length ends.now) }
     requires openers_len { (length openers.now ≡ length (kinds tree.now)) × Openers (kinds tree.now) openers.now (length openers.now) }

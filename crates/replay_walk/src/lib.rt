@@ -51,13 +51,13 @@ pub fn walk(
     labels: &mut [u16],
     firsts: &mut [u16; MOST_PHASES],
 ) -> Ended
-    requires fact { let start = start_verdict setup.workers setup.policy tree.now in
+    requires start { let start = start_verdict setup.workers setup.policy tree.now in
         (start.number ≡ 0) × (whole_records 4 most_trace_records trace.now ≡ true) }
-    requires fact_2 { let ks = kinds tree.now in
+    requires ends { let ks = kinds tree.now in
         (length ends.now ≡ length ks) × Ends ks ends.now (length ends.now) }
-    requires fact_3 { let ks = kinds tree.now in
+    requires openers { let ks = kinds tree.now in
         (length openers.now ≡ length ks) × Openers ks openers.now (length openers.now) }
-    requires fact_4 { let n = length (kinds tree.now) in
+    requires sums { let n = length (kinds tree.now) in
         (n < length sums.now) × Sums (weights tree.now) sums.now n }
     requires labels_value { (labels.old ≡ replicate (length (kinds tree.now)) free) × (length firsts.old ≡ most_phases) }
     ensures { let ended = Retraced setup.workers setup.policy tree.now trace.now result in

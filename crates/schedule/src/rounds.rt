@@ -31,8 +31,8 @@ fn round(
     setup: Setup,
     before: Turned,
 ) -> Turned
-    requires fact { let ks = kinds tree.now in (length ends.now ≡ length ks) × Ends ks ends.now (length ends.now) }
-    requires fact_2 { let ks = kinds tree.now in (length openers.now ≡ length ks) × Openers ks openers.now (length openers.now) }
+    requires ends { let ks = kinds tree.now in (length ends.now ≡ length ks) × Ends ks ends.now (length ends.now) }
+    requires openers { let ks = kinds tree.now in (length openers.now ≡ length ks) × Openers ks openers.now (length openers.now) }
     requires standing { Standing setup tree.now
         (arrays_of place.old held.old phase.old low.old base.old sizes.old awaited.old events.old setup before) }
     ensures { let start =
@@ -65,10 +65,10 @@ pub fn make_events(
     seed: u32,
     events: &mut [u8],
 ) -> usize
-    requires fact { let ks = kinds tree.now in (length ends.now ≡ length ks) × Ends ks ends.now (length ends.now) }
-    requires fact_2 { let ks = kinds tree.now in (length openers.now ≡ length ks) × Openers ks openers.now (length openers.now) }
+    requires ends { let ks = kinds tree.now in (length ends.now ≡ length ks) × Ends ks ends.now (length ends.now) }
+    requires openers { let ks = kinds tree.now in (length openers.now ≡ length ks) × Openers ks openers.now (length openers.now) }
     requires tree_value { (start_verdict setup.workers setup.policy tree.now).number ≡ 0 }
-    requires tree_in_bounds { 2 * most_made (length (kinds tree.now)) ≤ length events.old }
+    requires events_room { 2 * most_made (length (kinds tree.now)) ≤ length events.old }
     ensures { let list = made setup.workers setup.policy (kinds tree.now) seed in
         ListWritten list events.old result events.new }
 {

@@ -56,8 +56,8 @@ fn run_turn(
     worker: u8,
     before: Turned,
 ) -> Turned
-    requires fact { let ks = kinds tree.now in (length ends.now ≡ length ks) × Ends ks ends.now (length ends.now) }
-    requires fact_2 { let ks = kinds tree.now in (length openers.now ≡ length ks) × Openers ks openers.now (length openers.now) }
+    requires ends { let ks = kinds tree.now in (length ends.now ≡ length ks) × Ends ks ends.now (length ends.now) }
+    requires openers { let ks = kinds tree.now in (length openers.now ≡ length ks) × Openers ks openers.now (length openers.now) }
     requires worker_lt_workers { (worker < setup.workers) × (slice_index held.old worker ≢ no_step) }
     requires standing { Standing setup tree.now
         (arrays_of place.old held.old phase.now low.now base.now sizes.old awaited.old events.old setup before) }
@@ -121,7 +121,7 @@ fn steal_turn(
     worker: u8,
     before: Turned,
 ) -> Turned
-    requires fact { let ks = kinds tree.now in Ends ks ends.now (length ends.now) }
+    requires ends { let ks = kinds tree.now in Ends ks ends.now (length ends.now) }
     requires worker_lt_workers { (worker < setup.workers) × (slice_index held.old worker ≡ no_step) }
     requires standing { Standing setup tree.now
         (arrays_of place.old held.old phase.old low.old base.old sizes.old awaited.now events.old setup before) }
@@ -173,8 +173,8 @@ pub fn turn(
     worker: u8,
     before: Turned,
 ) -> Turned
-    requires fact { let ks = kinds tree.now in (length ends.now ≡ length ks) × Ends ks ends.now (length ends.now) }
-    requires fact_2 { let ks = kinds tree.now in (length openers.now ≡ length ks) × Openers ks openers.now (length openers.now) }
+    requires ends { let ks = kinds tree.now in (length ends.now ≡ length ks) × Ends ks ends.now (length ends.now) }
+    requires openers { let ks = kinds tree.now in (length openers.now ≡ length ks) × Openers ks openers.now (length openers.now) }
     requires worker_lt_workers { worker < setup.workers }
     requires standing { Standing setup tree.now
         (arrays_of place.old held.old phase.old low.old base.old sizes.old awaited.old events.old setup before) }

@@ -23,8 +23,8 @@ pub fn wide(x: u16) -> usize
 // does, and its continuation stands where its child's task ends.
 pub fn fill(tree: &[u8], ends: &mut [u16], openers: &mut [u16])
     requires tree_value { (tree_verdict tree.now).number ≡ 0 }
-    requires tree_in_bounds { length (kinds tree.now) ≤ length ends.old }
-    requires tree_in_bounds_2 { length (kinds tree.now) ≤ length openers.old }
+    requires ends_room { length (kinds tree.now) ≤ length ends.old }
+    requires openers_room { length (kinds tree.now) ≤ length openers.old }
     ensures ends { let ks = kinds tree.now in Ends ks ends.new (length ks) }
     ensures openers { let ks = kinds tree.now in Openers ks openers.new (length ks) }
 {

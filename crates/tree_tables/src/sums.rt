@@ -12,7 +12,7 @@ pub const SUMS: usize = MOST_STEPS + 1;
 // Adds the weights up, from the first step to the last. Answers the sum of the classes, which is 0 where all steps are of class 0.
 fn add_weights(tree: &[u8], sums: &mut [u64]) -> u64
     requires tree_len_bound { length (kinds tree.now) ≤ most_steps }
-    requires tree_in_bounds { length (kinds tree.now) < length sums.old }
+    requires sums_room { length (kinds tree.now) < length sums.old }
     ensures sums { let file = tree.now in
         Sums (weights file) sums.new (length (kinds file)) }
     ensures answer { let file = tree.now in
@@ -53,7 +53,7 @@ fn charge(tree: &[u8], classes: &mut [u64; CLASSES])
 // show in the time of a call.
 pub fn add_up(tree: &[u8], sums: &mut [u64], classes: &mut [u64; CLASSES])
     requires tree_len_bound { length (kinds tree.now) ≤ most_steps }
-    requires tree_in_bounds { length (kinds tree.now) < length sums.old }
+    requires sums_room { length (kinds tree.now) < length sums.old }
     requires classed { Classed (classes_of tree.now) (length (kinds tree.now)) }
     requires classes_value { classes.old ≡ replicate class_count 0 }
     ensures sums { let file = tree.now in

@@ -37,7 +37,7 @@ indices t c =
 -- ---- `rest`
 
 pub rest-loop-at-init : goal.rest-loop-at-init
-rest-loop-at-init t c = record { passed = passed_start c.requires.room c.requires.lasting; tabled = c.requires.tabled_2 }
+rest-loop-at-init t c = record { passed = passed_start c.requires.room c.requires.lasting; tabled = c.requires.tabled }
 
 pub rest-returns-then-kind-ne-END-clause-first : goal.rest-returns-then-kind-ne-END-clause-first
 rest-returns-then-kind-ne-END-clause-first t c =
@@ -133,11 +133,11 @@ task-rest-requires t c =
     let g = c.requires.room in
     let end = end_kind _ _ c.requires.end_value in
     let l = end_lasting g end c.weight.ensures (omega arith) in
-    let tables = tabled_again (tabled_end _ g.accepts end c.requires.tabled_2) in
+    let tables = tabled_again (tabled_end _ g.accepts end c.requires.tabled) in
     (omega (arith, c.decreases), (same_room (simp length-set) g, (l, tables)))
 
 pub task-returns : goal.task-returns
 task-returns t c =
-    let end = tabled_end _ c.requires.room.accepts (end_kind _ _ c.requires.end_value) c.requires.tabled_2 in
+    let end = tabled_end _ c.requires.room.accepts (end_kind _ _ c.requires.end_value) c.requires.tabled in
     let e = c.rest.ensures in
     record { first = e.first; filled = filled-stored _ _ e.filled; tabled = tabled_through end e.tabled }
