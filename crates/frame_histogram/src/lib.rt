@@ -1,5 +1,7 @@
 // The histogram of phase loads as C sees it. It stands apart from replay: the walk over a trace is compiled into the call where it has one
 // caller, and a linker takes only the objects that are used.
+#![tactic(auto)]
+
 ghost use Rattle.std.specs.Prelude.{◌≡◌};
 ghost use Rattle.rules_histogram.specs.Histograms.{empty, wrapping, add_call};
 ghost use Rattle.histogram.specs.Contract.{given, stored, answers};

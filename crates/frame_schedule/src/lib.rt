@@ -1,5 +1,7 @@
 // The schedule maker as C sees it. It stands apart from recording and from single events: a run and a steal are compiled into the loop that
 // calls them where they have one caller.
+#![tactic(auto)]
+
 ghost use Rattle.std.specs.Prelude.{◌≡◌};
 ghost use Rattle.rules_schedule.specs.Schedules.{schedule_call};
 ghost use Rattle.schedule.specs.Contract.{answers as schedule_answers};

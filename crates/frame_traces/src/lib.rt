@@ -1,5 +1,7 @@
 // Recording and replay as C sees them: a whole list of events becomes a log and a trace, a trace becomes a run list. Answers are
 // flat structs of numbers, and a slice is a pointer and a length. Every function takes any bytes and any numbers.
+#![tactic(auto)]
+
 ghost use Rattle.std.specs.Prelude.{◌≡◌};
 ghost use Rattle.rules.specs.Calls.{record_call, replay_call};
 ghost use Rattle.record.specs.Contract.{answers as record_answers};

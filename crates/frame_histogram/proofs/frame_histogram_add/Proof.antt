@@ -7,20 +7,20 @@ use Rattle.frame_histogram.specs.Contract.{flat_added}
 use Rattle.frame_histogram.proofs.frame_histogram_add.Statement.{statement}
 use Rattle.frame_histogram.proofs.frame_histogram_add.Tie as tie
 
-add-requires : tie.Need-add-requires
-add-requires c κs = search rules
+add-added-requires : tie.Need-add-added-requires
+add-added-requires c κs = search rules
 
-flat-replay-requires : tie.Need-flat-replay-requires
-flat-replay-requires c κs = search rules
+flat_replay-requires : tie.Need-flat_replay-requires
+flat_replay-requires c κs = search rules
 
-same_length : tie.Need-same-length
-same_length c = search rules
+shape_of-list : tie.Need-shape_of-list
+shape_of-list c = search rules
 
 returns : tie.Need-returns
 returns c =
-    let added = c.before.before.before.before.before.add in
-    (rw c.flat-replay.ensures (ap {B = FrameAdded} flat_added added.ensures.0), added.ensures.1)
+    let added = c.add-added in
+    (rw c.flat_replay.ensures (ap {B = FrameAdded} flat_added added.ensures.0), added.ensures.1)
 
-pub frame-histogram-add-spec : {M : Type 1} → statement M
-frame-histogram-add-spec =
-    tie.close (tie.spec add-requires flat-replay-requires same_length returns)
+pub frame_histogram_add_spec : {M : Type 1} → statement M
+frame_histogram_add_spec =
+    tie.close (tie.spec add-added-requires flat_replay-requires shape_of-list returns)

@@ -10,17 +10,17 @@ use Rattle.frame_schedule.proofs.frame_schedule.Tie as tie
 schedule-requires : tie.Need-schedule-requires
 schedule-requires c κs = search rules
 
-flat-schedule-requires : tie.Need-flat-schedule-requires
-flat-schedule-requires c κs = search rules
+flat_schedule-requires : tie.Need-flat_schedule-requires
+flat_schedule-requires c κs = search rules
 
-same_length : tie.Need-same-length
-same_length c = search rules
+shape_of-events : tie.Need-shape_of-events
+shape_of-events c = search rules
 
 returns : tie.Need-returns
 returns c = (
-  c.flat-schedule.ensures ∙ ap {B = FrameSchedule} flat_schedule c.before.before.before.schedule.ensures.0,
-  c.before.before.before.schedule.ensures.1,
+  c.flat_schedule.ensures ∙ ap {B = FrameSchedule} flat_schedule c.schedule.ensures.0,
+  c.schedule.ensures.1,
 )
 
-pub frame-schedule-spec : {M : Type 1} → statement M
-frame-schedule-spec = tie.close (tie.spec schedule-requires flat-schedule-requires same_length returns)
+pub frame_schedule_spec : {M : Type 1} → statement M
+frame_schedule_spec = tie.close (tie.spec schedule-requires flat_schedule-requires shape_of-events returns)

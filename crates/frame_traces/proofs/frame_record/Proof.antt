@@ -10,21 +10,21 @@ use Rattle.frame_traces.proofs.frame_record.Tie as tie
 record-requires : tie.Need-record-requires
 record-requires c κs = search rules
 
-flat-record-requires : tie.Need-flat-record-requires
-flat-record-requires c κs = search rules
+flat_record-requires : tie.Need-flat_record-requires
+flat_record-requires c κs = search rules
 
-same_length : tie.Need-same-length
-same_length c = search rules
+shape_of-log : tie.Need-shape_of-log
+shape_of-log c = search rules
 
-same-length-2 : tie.Need-same-length-2
-same-length-2 c = search rules
+shape_of-trace : tie.Need-shape_of-trace
+shape_of-trace c = search rules
 
 returns : tie.Need-returns
 returns c = (
-  c.flat-record.ensures ∙ ap {B = FrameRecord} flat_record c.before.before.before.before.before.«record».ensures.0,
+  c.flat_record.ensures ∙ ap {B = FrameRecord} flat_record c.before.before.before.before.before.«record».ensures.0,
   c.before.before.before.before.before.«record».ensures.1,
 )
 
-pub frame-record-spec : {M : Type 1} → statement M
-frame-record-spec =
-    tie.close (tie.spec record-requires flat-record-requires same_length same-length-2 returns)
+pub frame_record_spec : {M : Type 1} → statement M
+frame_record_spec =
+    tie.close (tie.spec record-requires flat_record-requires shape_of-log shape_of-trace returns)

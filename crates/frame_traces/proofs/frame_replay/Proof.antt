@@ -10,17 +10,17 @@ use Rattle.frame_traces.proofs.frame_replay.Tie as tie
 replay-requires : tie.Need-replay-requires
 replay-requires c κs = search rules
 
-flat-replay-requires : tie.Need-flat-replay-requires
-flat-replay-requires c κs = search rules
+flat_replay-requires : tie.Need-flat_replay-requires
+flat_replay-requires c κs = search rules
 
-same_length : tie.Need-same-length
-same_length c = search rules
+shape_of-list : tie.Need-shape_of-list
+shape_of-list c = search rules
 
 returns : tie.Need-returns
 returns c = (
-  c.flat-replay.ensures ∙ ap {B = FrameReplay} flat_replay c.before.before.before.replay.ensures.0,
-  c.before.before.before.replay.ensures.1,
+  c.flat_replay.ensures ∙ ap {B = FrameReplay} flat_replay c.replay.ensures.0,
+  c.replay.ensures.1,
 )
 
-pub frame-replay-spec : {M : Type 1} → statement M
-frame-replay-spec = tie.close (tie.spec replay-requires flat-replay-requires same_length returns)
+pub frame_replay_spec : {M : Type 1} → statement M
+frame_replay_spec = tie.close (tie.spec replay-requires flat_replay-requires shape_of-list returns)
