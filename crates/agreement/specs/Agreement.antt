@@ -3,7 +3,7 @@
 -- recording and replay. `entries` are the library's, by the functions that the contracts of the four entries give their results by:
 -- `start_answer` (start), `event_answer` (a single event), `record_call` (record) and `replay_call` (replay). Each argument of the start
 -- is the same in all of them. Nothing is assumed but an accepted start and, where document 01 says so, outputs that are not short.
-use Rattle.std.specs.Prelude.{ℕ, suc, ◌+◌, ◌-◌, ◌*◌, ◌/◌, ◌≤◌, ◌<◌, ◌≡◌, true, false, cond, length, take, drop, get_or, eqb}
+use Rattle.std.specs.Prelude.{ℕ, suc, ◌-◌, ◌*◌, ◌/◌, ◌≤◌, ◌<◌, ◌≡◌, true, false, cond, length, take, drop, get_or, eqb}
 use mathlib.Core.List.{List, [], ◌∷◌, ◌++◌, map, flatten}
 use Rattle.std.proofs.Math.Option.{Option, none, some}
 use Rattle.rules.specs.Bytes.{little_endian, cut, sum}

@@ -12,7 +12,7 @@ use Rattle.rules.specs.Bytes.{records, count, sum, Verdict}
 use Rattle.rules.specs.Tree.{tree_records, kind, is_end, class_count, class, kinds, classes, weights, most_open, has_kind, well_formed}
 use Rattle.rules.specs.Tree.{judge_tree_record, next_open, tree_walk, tree_verdict}
 use Rattle.rules.specs.Scheduling.{most_workers, Phase, Run, start}
-use Rattle.rules.specs.Traces.{trace_bytes, replay_walk, loads, class_loads}
+use Rattle.rules.specs.Traces.{trace_bytes, replay_walk, class_loads}
 use Rattle.rules.specs.Calls.{start_verdict, after_events, Recorded, record_walk, record_verdict, record_of, record_refused, record_call}
 use Rattle.rules.specs.Calls.{Replayed, replay_verdict, replay_of, replay_refused, replay_call}
 use Rattle.rules_schedule.specs.Schedules.{schedule_verdict, schedule_call}

@@ -14,7 +14,7 @@ use Rattle.run_spec.specs.Laws.Marks.{found_at, found_nothing}
 use Rattle.run_spec.specs.Laws.Waiting.{waits-at_low, waits_for-some, waits_for-none}
 use Rattle.run_spec.specs.Laws.Running.{judged-worker, judged-long, judged-idle, judged-waits, judged-runs}
 use borrow.Author.Rules.{rules}
-use borrow.Author.Tests.{leb-true, leb-false, not-true}
+use borrow.Author.Tests.{leb-true, leb-false}
 use Rattle.run_event.proofs.run.judge_run.Statement.{statement}
 use Rattle.run_event.proofs.run.judge_run.Tie as tie
 

@@ -4,7 +4,6 @@ use Prim.Native.Nat.{ℕ, ◌≤◌}
 use mathlib.Core.Path.{◌≡◌, refl, sym, ap, ◌∙◌}
 use mathlib.Core.Option.{Option}
 use native.Mathlib.Omega.{arith}
-use borrow.Author.Tests.{not-true, not-false}
 use Rattle.run_spec.specs.declared.Found.{Found}
 use Rattle.run_spec.specs.Deques.{unrun_mark, newest_mark, found_of}
 use Rattle.run_spec.specs.Laws.Marks.{newest_end}
