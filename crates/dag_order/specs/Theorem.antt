@@ -1,7 +1,7 @@
 -- The order of steps, #105 of document 02: for every accepted tree.
 use Rattle.std.specs.Prelude.{ℕ, ◌≡◌, List}
 use Rattle.rules.specs.Tree.{kinds, tree_verdict}
-use Rattle.tree_scan.specs.Laws.Frames.{Frame, accepted-frame}
+use Rattle.tree_scan.specs.Laws.Frames.{accepted-frame}
 use Rattle.dag_order.specs.Order.{Order}
 use Rattle.dag_order.specs.Laws.Closure.{order}
 

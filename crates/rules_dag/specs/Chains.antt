@@ -2,7 +2,6 @@
 use Rattle.std.specs.Prelude.{ℕ, ◌≡◌, refl, length, replicate}
 use mathlib.Core.List.{List, [], ◌∷◌, map, flatten, zip_with}
 use Rattle.rules.specs.Bytes.{count, find, Verdict, accepted}
-use Rattle.rules.specs.Tree.{kinds, weights}
 use Rattle.rules.specs.Cases.{answer_with, bytes, of_kinds, S, one_end}
 use Rattle.rules.specs.NearMisses.{bad}
 use Rattle.rules_dag.specs.Precedence.{spawns, earlier, in_finish, follows_child, directly, select, linked_to, preceding}

@@ -1,6 +1,8 @@
 // What one event of a run does to the fields of its state (document 01, "Scheduling"): its answer and what it leaves, as
 // definitions and laws in `specs`, and the types that they speak of. It has no function: those of `run_deques`, `run_event` and
 // `run_state` are proved to compute these definitions, and `run_refinement` proves that the definitions are the rules.
+#![tactic(auto)]
+
 use trace::number::TraceNumber;
 use tree::{Ordinal, Phase, Step};
 

@@ -6,7 +6,6 @@ use native.Mathlib.Omega.{arith}
 use lib.ListN.{length, get_or}
 use borrow.Author.Rules.{rules}
 use Rattle.rules.specs.Tree.{kinds, kind_at}
-use Rattle.tree_scan.specs.Laws.Frames.{Frame}
 use Rattle.tree_tables.specs.Laws.Filling.{end_kind}
 use Rattle.dag_chain.specs.Terms.{Climbing}
 use Rattle.dag_walk.specs.Terms.{Tables}

@@ -7,7 +7,6 @@ use lib.ListN.{length, get_or}
 use borrow.Author.Rules.{rules}
 use Rattle.rules.specs.Tree.{kinds, weights, kind_at, cont}
 use Rattle.rules_dag.specs.Spans.{lasts}
-use Rattle.tree_scan.specs.Laws.Frames.{Frame}
 use Rattle.dag_walk.specs.Terms.{Tables, Lasted}
 use Rattle.dag_walk.specs.Laws.Steps.{frame, next_end, next_finish, next-child, next-cont, child_room, cont-is, cont_room}
 use Rattle.dag_walk.specs.Laws.Steps.{child-lasts, cont-lasts}
