@@ -1,7 +1,7 @@
 -- No chain weighs more than the span: chains that begin inside a step weigh at most what it lasts and what chains weigh that begin outside,
 -- with a step that something inside precedes. And the span is at most the work, the work at most n times the span.
 use Prim.Native.Nat.{ℕ, zero, suc, ◌+◌, ◌*◌, ◌≤◌, ◌<◌, max}
-use Rattle.std.specs.Prelude.{◌≡◌, Bool, ◌⊎◌}
+use Rattle.std.specs.Prelude.{◌≡◌, Bool}
 use Rattle.std.proofs.Math.Path.{refl}
 use Rattle.std.proofs.Common.{sym, ◌∙◌, true≢false}
 use Rattle.std.proofs.Math.Bool.{true, false}
@@ -14,7 +14,7 @@ use Rattle.std.proofs.Math.ListN.{length, get_or}
 use Rattle.rules.specs.Bytes.{count, sum}
 use Rattle.rules.specs.Tree.{kind_at, is_finish, cont}
 use Rattle.rules_dag.specs.Spans.{work, span, lasts}
-use Rattle.tree_scan.specs.Laws.Shape.{after, Inside, Shape, child-inside, tree-ind, inside_parts, inside_end, inside-first, nested}
+use Rattle.tree_scan.specs.Laws.Shape.{Inside, Shape, child-inside, tree-ind, inside_parts, inside_end, inside-first, nested}
 use Rattle.tree_scan.specs.Laws.Frames.{end_at, size_at, cont-after}
 use Rattle.tree_scan.specs.Laws.Openings.{opened, finish_opens, into-child, into-cont}
 use Rattle.tree_tables.specs.Terms.{weight_before}

@@ -7,7 +7,7 @@ use Rattle.std.proofs.Math.ListN.{length}
 use Rattle.rules.specs.Bytes.{little_endian, two_bytes, records}
 use Rattle.rules.specs.Tree.{kinds, weights}
 use Rattle.rules.specs.Calls.{written}
-use Rattle.rules_dag.specs.Spans.{work, span, lasts, chain, chain_bytes, span_verdict, span_of, span_refused, span_call}
+use Rattle.rules_dag.specs.Spans.{span, lasts, chain, chain_bytes, span_verdict, span_of, span_refused, span_call}
 use Rattle.buffers.specs.Laws.Records.{wide_map, flat-length, flatten-records}
 use Rattle.tree.specs.Laws.Records.{number_back, length-kinds, length-weights}
 use Rattle.tree.specs.Laws.Verdicts.{first-accepts}

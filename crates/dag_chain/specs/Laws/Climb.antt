@@ -1,6 +1,6 @@
 -- Where the walk goes on from an end: over the ends of the tasks that it is in, up to the first that is a finish child's. What follows that
 -- is the nearest of the pending steps.
-use Rattle.std.specs.Prelude.{ℕ, suc, ◌+◌, ◌≤◌, ◌<◌, ◌≡◌, refl, Bool, true, ◌⊎◌, length, get_or}
+use Rattle.std.specs.Prelude.{ℕ, suc, ◌+◌, ◌≤◌, ◌<◌, ◌≡◌, refl, Bool, true, length, get_or}
 use Rattle.std.proofs.Common.{sym, ap, ◌∙◌, true≢false, inr, arith}
 use Rattle.std.proofs.Math.Bool.{false}
 use mathlib.Core.List.{List, [], ◌∷◌}

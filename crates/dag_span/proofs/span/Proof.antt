@@ -4,7 +4,7 @@ use native.Mathlib.Omega.{arith}
 use lib.ListN.{length}
 use borrow.Author.Rules.{rules}
 use Rattle.rules.specs.Tree.{kinds, tree_verdict}
-use Rattle.tree_scan.specs.Laws.Frames.{Frame, accepted-frame}
+use Rattle.tree_scan.specs.Laws.Frames.{accepted-frame}
 use Rattle.dag_span.specs.Laws.Results.{tree-refuses, tree-accepts, steps-are, short-refuses, measured-meets}
 use Rattle.dag_span.proofs.span.Statement.{statement}
 use Rattle.dag_span.proofs.span.Tie as tie

@@ -7,7 +7,7 @@ use lib.ListN.{length}
 use borrow.Author.Rules.{rules}
 use Rattle.rules.specs.Tree.{kinds, weights}
 use Rattle.tree.specs.Laws.Records.{length-kinds, length-weights}
-use Rattle.tree_scan.specs.Laws.Frames.{Frame, accepted-frame}
+use Rattle.tree_scan.specs.Laws.Frames.{accepted-frame}
 use Rattle.tree_tables.specs.Terms.{weight_before}
 use Rattle.tree_tables.specs.Laws.Filling.{weight-step}
 use Rattle.dag_chain.specs.Laws.Bounds.{weight-none, work-weight}

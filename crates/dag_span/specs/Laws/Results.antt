@@ -10,7 +10,7 @@ use Rattle.rules_dag.specs.Spans.{work, lasts, span_verdict, span_of, span_refus
 use Rattle.tree.specs.declared.Accepted.{Accepted}
 use Rattle.tree.specs.Contract.{acceptance}
 use Rattle.tree.specs.Laws.Verdicts.{first-refuses}
-use Rattle.tree_scan.specs.Laws.Frames.{Frame, accepted-frame}
+use Rattle.tree_scan.specs.Laws.Frames.{accepted-frame}
 use Rattle.dag_chain.specs.Laws.Times.{span-lasts}
 use Rattle.dag_chain.specs.Laws.Claim.{call_accepted, call_refused}
 use Rattle.dag_span.specs.declared.Spanned.{Spanned}
