@@ -1,5 +1,7 @@
 // A run event by event as C sees it: answers are flat structs of numbers, and a slice is a pointer and a length. Every function
 // takes any bytes and any numbers.
+#![tactic(auto)]
+
 ghost use Rattle.std.specs.Prelude.{◌≡◌};
 ghost use Rattle.run_state.specs.Contract.{start_answer, event_answer, idle_answer};
 ghost use Rattle.frame_answers.specs.Contract.{flat_start, flat_outcome, flat_event, flat_idle};

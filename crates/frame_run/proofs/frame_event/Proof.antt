@@ -10,11 +10,11 @@ use Rattle.frame_run.proofs.frame_event.Tie as tie
 event-requires : tie.Need-event-requires
 event-requires c κs = search rules
 
-flat-event-requires : tie.Need-flat-event-requires
-flat-event-requires c κs = search rules
+flat_event-requires : tie.Need-flat_event-requires
+flat_event-requires c κs = search rules
 
 returns : tie.Need-returns
-returns c = c.flat-event.ensures ∙ ap {B = FrameEvent} flat_event c.before.event.ensures
+returns c = c.flat_event.ensures ∙ ap {B = FrameEvent} flat_event c.event.ensures
 
-pub frame-event-spec : {M : Type 1} → statement M
-frame-event-spec = tie.close (tie.spec event-requires flat-event-requires returns)
+pub frame_event_spec : {M : Type 1} → statement M
+frame_event_spec = tie.close (tie.spec event-requires flat_event-requires returns)

@@ -10,11 +10,11 @@ use Rattle.frame_run.proofs.frame_idle.Tie as tie
 idle-requires : tie.Need-idle-requires
 idle-requires c κs = search rules
 
-flat-idle-requires : tie.Need-flat-idle-requires
-flat-idle-requires c κs = search rules
+flat_idle-requires : tie.Need-flat_idle-requires
+flat_idle-requires c κs = search rules
 
 returns : tie.Need-returns
-returns c = c.flat-idle.ensures ∙ ap {B = FrameIdle} flat_idle c.before.idle.ensures
+returns c = c.flat_idle.ensures ∙ ap {B = FrameIdle} flat_idle c.idle.ensures
 
-pub frame-idle-spec : {M : Type 1} → statement M
-frame-idle-spec = tie.close (tie.spec idle-requires flat-idle-requires returns)
+pub frame_idle_spec : {M : Type 1} → statement M
+frame_idle_spec = tie.close (tie.spec idle-requires flat_idle-requires returns)

@@ -10,11 +10,11 @@ use Rattle.frame_run.proofs.frame_start.Tie as tie
 start-requires : tie.Need-start-requires
 start-requires c κs = search rules
 
-flat-start-requires : tie.Need-flat-start-requires
-flat-start-requires c κs = search rules
+flat_start-requires : tie.Need-flat_start-requires
+flat_start-requires c κs = search rules
 
 returns : tie.Need-returns
-returns c = c.flat_start.ensures ∙ ap {B = FrameStart} flat_start c.before.start.ensures
+returns c = c.flat_start.ensures ∙ ap {B = FrameStart} flat_start c.start.ensures
 
-pub frame-start-spec : {M : Type 1} → statement M
-frame-start-spec = tie.close (tie.spec start-requires flat-start-requires returns)
+pub frame_start_spec : {M : Type 1} → statement M
+frame_start_spec = tie.close (tie.spec start-requires flat_start-requires returns)
