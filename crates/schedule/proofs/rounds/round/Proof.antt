@@ -5,6 +5,7 @@ use mathlib.Core.Path.{◌≡◌, refl}
 use native.Mathlib.Omega.{arith}
 use lib.ListN.{length}
 use borrow.Author.Rules.{rules}
+use Rattle.rules.specs.Scheduling.{most_workers}
 use Rattle.schedule_turn.specs.Terms.{arrays_of}
 use Rattle.schedule.specs.Terms.{FirstTurns}
 use Rattle.schedule.specs.Laws.Rounding.{round-begins, round_standing, round_goes_on}
@@ -23,6 +24,13 @@ decreases-loop-next tree ends openers place₀ held₀ phase₀ low₀ base₀ s
     place held phase low base sizes awaited events turned next =
     setup.workers - next
 
+-- ---- facts
+
+few : (c : tie.At-loop-next invariant-loop-next decreases-loop-next) → c.args.setup.workers ≤ most_workers
+few c = c.requires.1.1.stands.shows.most
+
+-- ---- the needs
+
 loop-next-init : tie.Need-loop-next-init invariant-loop-next decreases-loop-next
 loop-next-init c = (omega arith, refl, round-begins)
 
@@ -30,7 +38,7 @@ overflow_cast-next : tie.Need-overflow_cast-next invariant-loop-next decreases-l
 overflow_cast-next c = search rules
 
 overflow_add-next : tie.Need-overflow_add-next invariant-loop-next decreases-loop-next
-overflow_add-next c = record { fits = omega (arith, c.loop-next-test.true, c.requires.1.1.stands.shows.most) }
+overflow_add-next c = record { fits = omega (arith, c.loop-next-test.true, few c.before.before) }
 
 turn-turned-requires : tie.Need-turn-turned-requires invariant-loop-next decreases-loop-next
 turn-turned-requires c κs =
