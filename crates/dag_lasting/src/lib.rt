@@ -32,7 +32,7 @@ fn joined(kind: u8, own: u32, child: u64, rest: u64) -> u64
 #[cycle(rest_task)]
 fn task(tree: &[u8], end: Step, lasting: &mut [u64], ends: &mut [u16], openers: &mut [u16]) -> Step
     requires room { Room tree.now lasting.old end.0 }
-    requires end_value { kind_at (kinds tree.now) end.0 ≡ 3 }
+    requires is_end { kind_at (kinds tree.now) end.0 ≡ 3 }
     requires tabled { Tabled (kinds tree.now) ends.old openers.old ends.old openers.old (suc end.0) }
     ensures first { result.0 ≡ first_of (kinds tree.now) end.0 }
     ensures filled { let file = tree.now in
@@ -80,7 +80,7 @@ fn rest(tree: &[u8], from: Step, lasting: &mut [u64], ends: &mut [u16], openers:
 
 // Fills the tables of an accepted tree.
 pub fn fill(tree: &[u8], lasting: &mut [u64], ends: &mut [u16], openers: &mut [u16])
-    requires tree_value { (tree_verdict tree.now).number ≡ 0 }
+    requires accepted { (tree_verdict tree.now).number ≡ 0 }
     requires lasting_room { length (kinds tree.now) ≤ length lasting.old }
     requires ends_room { length (kinds tree.now) ≤ length ends.old }
     requires openers_room { length (kinds tree.now) ≤ length openers.old }

@@ -50,7 +50,7 @@ fn work(tree: &[u8]) -> u64
 
 // Fills the tables of an accepted tree, and writes the chain.
 fn measure(tree: &[u8], chain: &mut [u8]) -> Spanned
-    requires tree_value { (tree_verdict tree.now).number ≡ 0 }
+    requires accepted { (tree_verdict tree.now).number ≡ 0 }
     requires chain_room { 2 * length (kinds tree.now) ≤ length chain.old }
     ensures { Measured tree.now chain.old result chain.new }
 {

@@ -15,8 +15,8 @@ use tree_tables::wide;
 // The step that follows the nearest finish child that an end is in.
 fn after_finish(tree: &[u8], ends: &[u16], openers: &[u16], end: Step) -> Step
     requires tables { Tables tree.now ends.now openers.now }
-    requires end_in_bounds { end.0 < length (kinds tree.now) }
-    requires end_value { kind_at (kinds tree.now) end.0 ≡ 3 }
+    requires end_within { end.0 < length (kinds tree.now) }
+    requires is_end { kind_at (kinds tree.now) end.0 ≡ 3 }
     requires held { Held (kinds tree.now) end.0 }
     ensures { AfterFinish (kinds tree.now) end.0 result.0 }
 {
@@ -33,7 +33,7 @@ fn after_finish(tree: &[u8], ends: &[u16], openers: &[u16], end: Step) -> Step
 fn next_step(tree: &[u8], ends: &[u16], openers: &[u16], lasting: &[u64], step: Step) -> Step
     requires tables { Tables tree.now ends.now openers.now }
     requires lasted { Lasted tree.now lasting.now }
-    requires step_in_bounds { step.0 < length (kinds tree.now) }
+    requires step_within { step.0 < length (kinds tree.now) }
     requires held { kind_at (kinds tree.now) step.0 ≡ 3 → Held (kinds tree.now) step.0 }
     ensures { NextStep (kinds tree.now) (weights tree.now) step.0 result.0 }
 {

@@ -14,8 +14,8 @@ use tree_tables::wide;
 
 // Some weight leaves the victim's load for the thief's.
 fn move_load(loads: &mut [u64; WORKERS], thief: usize, victim: usize, weight: u64)
-    requires thief_lt_most_workers { (thief < most_workers) × (victim < most_workers) × (thief ≡ victim → ⊥) }
-    requires weight_bound { (weight ≤ get_or loads.old victim 0) × (get_or loads.old thief 0 + weight < 18446744073709551616) }
+    requires workers { (thief < most_workers) × (victim < most_workers) × (thief ≡ victim → ⊥) }
+    requires fits { (weight ≤ get_or loads.old victim 0) × (get_or loads.old thief 0 + weight < 18446744073709551616) }
     ensures { loads.new ≡ load_moved loads.old thief victim weight }
 {
     loads[victim] -= weight;
@@ -31,7 +31,7 @@ pub fn move_part(
     victim: usize,
     step: Step,
 )
-    requires thief_lt_most_workers { (thief < most_workers) × (victim < most_workers) × (thief ≡ victim → ⊥) }
+    requires workers { (thief < most_workers) × (victim < most_workers) × (thief ≡ victim → ⊥) }
     requires movable { Movable ends.now sums.now loads.old thief victim step.0 }
     ensures { let weight = weight_between ends.now sums.now step.0 in
         loads.new ≡ load_moved loads.old thief victim weight }

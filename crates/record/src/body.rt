@@ -28,9 +28,9 @@ fn walk_events(
     trace: &mut [u8],
     classes: &mut [u64; CLASSES],
 ) -> Ended
-    requires tree_value { (start_verdict setup.workers setup.policy tree.now).number ≡ 0 }
-    requires log_len { (length log.old ≡ 4 * most_steps) × (length trace.old ≡ 4 * most_trace_records) }
-    requires classes_value { classes.old ≡ replicate class_count 0 }
+    requires accepted { (start_verdict setup.workers setup.policy tree.now).number ≡ 0 }
+    requires rooms { (length log.old ≡ 4 * most_steps) × (length trace.old ≡ 4 * most_trace_records) }
+    requires zeroed { classes.old ≡ replicate class_count 0 }
     ensures walks { Walks setup.workers setup.policy tree.now events.now result log.new trace.new }
     ensures classes { let file = tree.now in
         classes.new ≡ classes_before (classes_of file) (weights file) (length (kinds file)) }
@@ -63,7 +63,7 @@ pub fn run(
     classes: &mut [u64; CLASSES],
 ) -> Ended
     requires admitted { Admitted setup.workers setup.policy tree.now log.old trace.old }
-    requires classes_value { classes.old ≡ replicate class_count 0 }
+    requires zeroed { classes.old ≡ replicate class_count 0 }
     ensures { Result setup.workers setup.policy tree.now events.now log.old trace.old
         result log.new trace.new classes.new }
 {

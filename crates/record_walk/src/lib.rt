@@ -50,11 +50,11 @@ pub fn walk(
     log: &mut [u8],
     trace: &mut [u8],
 ) -> Ended
-    requires tree_value { (start_verdict setup.workers setup.policy tree.now).number ≡ 0 }
+    requires accepted { (start_verdict setup.workers setup.policy tree.now).number ≡ 0 }
     requires ends { let ks = kinds tree.now in (length ends.now ≡ length ks) × Ends ks ends.now (length ends.now) }
     requires openers { let ks = kinds tree.now in (length openers.now ≡ length ks) × Openers ks openers.now (length openers.now) }
     requires sums { let n = length (kinds tree.now) in (n < length sums.now) × Sums (weights tree.now) sums.now n }
-    requires log_len { (length log.old ≡ 4 * most_steps) × (length trace.old ≡ 4 * most_trace_records) }
+    requires rooms { (length log.old ≡ 4 * most_steps) × (length trace.old ≡ 4 * most_trace_records) }
     ensures { Walks setup.workers setup.policy tree.now events.now result log.new trace.new }
 {
     let n = tree::steps(tree);

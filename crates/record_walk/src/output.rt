@@ -22,8 +22,8 @@ pub fn trace_steal(
     step: Step,
     number: TraceNumber,
 )
-    requires k_in_bounds { 4 * k + 4 ≤ length trace.old }
-    requires first_lt_most_workers { (event.first < most_workers) × (event.second < most_workers) × (event.first ≡ event.second → ⊥) }
+    requires room { 4 * k + 4 ≤ length trace.old }
+    requires workers { (event.first < most_workers) × (event.second < most_workers) × (event.first ≡ event.second → ⊥) }
     requires movable { Movable ends.now sums.now loads.old event.first event.second step.0 }
     ensures trace { trace.new ≡ record_put trace.old k event.first event.second (number_value number) }
     ensures loads { let weight = weight_between ends.now sums.now step.0 in

@@ -25,7 +25,7 @@ pub fn run(
     full: bool,
 ) -> Ended
     requires admitted { Admitted setup.workers setup.policy tree.now trace.now n list.old }
-    requires classes_value { classes.old ≡ replicate class_count 0 }
+    requires zeroed { classes.old ≡ replicate class_count 0 }
     ensures { let ended = Result full setup.workers setup.policy tree.now trace.now list.old result in
         ended list.new classes.new }
 {

@@ -14,8 +14,8 @@ use tree_tables::wide;
 
 // Labels the free steps above a step with a phase, from opener to opener, up to the first labelled one. Gives that one's label.
 fn claim(openers: &[u16], labels: &mut [u16], step: Step, phase: Phase) -> Phase
-    requires step_nonzero { (0 < step.0) × (step.0 < length openers.now) × (length openers.now ≤ length labels.old) × Upward openers.now }
-    requires phase_lt_most_phases { (phase.0 < most_phases) × (label_of labels.old 0 ≡ free → ⊥) }
+    requires step { (0 < step.0) × (step.0 < length openers.now) × (length openers.now ≤ length labels.old) × Upward openers.now }
+    requires phase { (phase.0 < most_phases) × (label_of labels.old 0 ≡ free → ⊥) }
     ensures { Claimed openers.now labels.old step.0 phase.0 labels.new result.0 }
 {
     let label = phase.0 as u16;
@@ -31,8 +31,8 @@ fn claim(openers: &[u16], labels: &mut [u16], step: Step, phase: Phase) -> Phase
 // Takes a step from a phase: whether all from it to the end of its task is still the phase's. The steps above it are labelled
 // then.
 pub fn take(openers: &[u16], labels: &mut [u16], step: Step, phase: Phase) -> bool
-    requires step_in_bounds { (step.0 < length openers.now) × (length openers.now ≤ length labels.old) × Upward openers.now }
-    requires phase_lt_most_phases { (phase.0 < most_phases) × (label_of labels.old 0 ≡ free → ⊥) }
+    requires step { (step.0 < length openers.now) × (length openers.now ≤ length labels.old) × Upward openers.now }
+    requires phase { (phase.0 < most_phases) × (label_of labels.old 0 ≡ free → ⊥) }
     ensures { Taking openers.now labels.old step.0 phase.0 result labels.new }
 {
     let at = step.0;

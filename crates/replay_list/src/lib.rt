@@ -27,8 +27,8 @@ pub fn write_list(
     phases: usize,
     list: &mut [u8],
 )
-    requires tree_value { ((tree_verdict tree.now).number ≡ 0) × Ends (kinds tree.now) ends.now (length ends.now) }
-    requires labels_len { (length labels.now ≡ length (kinds tree.now)) × (length firsts.now ≡ most_phases) }
+    requires accepted { ((tree_verdict tree.now).number ≡ 0) × Ends (kinds tree.now) ends.now (length ends.now) }
+    requires rooms { (length labels.now ≡ length (kinds tree.now)) × (length firsts.now ≡ most_phases) }
     requires listable { Listable policy (kinds tree.now) labels.now firsts.now phases (length list.old) }
     ensures { let records = listed policy (kinds tree.now) labels.now firsts.now phases in
         list.new ≡ written (entry_bytes records) list.old }

@@ -24,8 +24,8 @@ pub fn write_phase(
     stack: &mut [u16],
     list: &mut [u8],
 ) -> usize
-    requires tree_value { ((tree_verdict tree.now).number ≡ 0) × Ends (kinds tree.now) ends.now (length ends.now) }
-    requires labels_len { (length labels.now ≡ length (kinds tree.now)) × (length stack.old ≡ most_trace_records) }
+    requires accepted { ((tree_verdict tree.now).number ≡ 0) × Ends (kinds tree.now) ends.now (length ends.now) }
+    requires rooms { (length labels.now ≡ length (kinds tree.now)) × (length stack.old ≡ most_trace_records) }
     requires writable { Writable policy (kinds tree.now) labels.now phase.0 first.0 (length list.old) }
     ensures counts { let order = phase_order policy (kinds tree.now) labels.now phase.0 first.0 in
         result ≡ length order }

@@ -36,9 +36,9 @@ pub fn read_steal(
     requires base { let base = get_or bases.now phase.0 0 in
         ((tree_verdict tree.now).number ≡ 0) × (phase.0 < most_phases) × (base < length (kinds tree.now)) }
     requires ends { Ends (kinds tree.now) ends.now (length ends.now) }
-    requires openers_len { (length openers.now ≡ length (kinds tree.now)) × Openers (kinds tree.now) openers.now (length openers.now) }
-    requires labels_len { (length labels.old ≡ length (kinds tree.now)) × (label_of labels.old 0 ≡ free → ⊥) }
-    requires bases_len { (length bases.now ≡ most_phases) × (length ordinals.now ≡ most_phases) }
+    requires openers { (length openers.now ≡ length (kinds tree.now)) × Openers (kinds tree.now) openers.now (length openers.now) }
+    requires labels { (length labels.old ≡ length (kinds tree.now)) × (label_of labels.old 0 ≡ free → ⊥) }
+    requires tables { (length bases.now ≡ most_phases) × (length ordinals.now ≡ most_phases) }
     ensures { let base = get_or bases.now phase.0 0 in
         let ordinal = get_or ordinals.now phase.0 0 in
         let step = step_named (kinds tree.now) base ordinal number in

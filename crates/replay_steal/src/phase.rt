@@ -16,8 +16,8 @@ pub fn begin_first(
     loads: &mut [u64; WORKERS],
     weight: u64,
 )
-    requires labels_nonzero { (0 < length labels.old) × (length firsts.old ≡ most_phases) }
-    requires latest_len { (length latest.old ≡ most_workers) × (length loads.old ≡ most_workers) }
+    requires rooms { (0 < length labels.old) × (length firsts.old ≡ most_phases) }
+    requires workers { (length latest.old ≡ most_workers) × (length loads.old ≡ most_workers) }
     ensures labels { labels.new ≡ set labels.old 0 0 }
     ensures firsts { firsts.new ≡ set firsts.old 0 0 }
     ensures latest { latest.new ≡ set latest.old 0 0 }
@@ -40,10 +40,10 @@ pub fn begin(
     latest: &mut [u16; WORKERS],
     begun: Begun,
 )
-    requires phase_lt_most_phases { (begun.phase.0 < most_phases) × (begun.from.0 < most_phases) × (begun.thief < most_workers) }
-    requires step_bound { (begun.step.0 < 65536) × (begun.step.0 < length openers.now) × (get_or openers.now begun.step.0 0 < 65535) }
-    requires step_in_bounds { (begun.step.0 < length labels.old) × (length firsts.old ≡ most_phases) × (length bases.old ≡ most_phases) }
-    requires ordinals_len { (length ordinals.old ≡ most_phases) × (length latest.old ≡ most_workers) × (begun.ordinal.0 < 65536) }
+    requires phases { (begun.phase.0 < most_phases) × (begun.from.0 < most_phases) × (begun.thief < most_workers) }
+    requires step { (begun.step.0 < 65536) × (begun.step.0 < length openers.now) × (get_or openers.now begun.step.0 0 < 65535) }
+    requires rooms { (begun.step.0 < length labels.old) × (length firsts.old ≡ most_phases) × (length bases.old ≡ most_phases) }
+    requires ordinals { (length ordinals.old ≡ most_phases) × (length latest.old ≡ most_workers) × (begun.ordinal.0 < 65536) }
     ensures labels { labels.new ≡ set labels.old begun.step.0 begun.phase.0 }
     ensures firsts { firsts.new ≡ set firsts.old begun.phase.0 begun.step.0 }
     ensures bases { let after = bases_begun openers.now bases.old begun.from.0 begun.phase.0 begun.step.0 in

@@ -59,7 +59,7 @@ pub fn walk(
         (length openers.now ≡ length ks) × Openers ks openers.now (length openers.now) }
     requires sums { let n = length (kinds tree.now) in
         (n < length sums.now) × Sums (weights tree.now) sums.now n }
-    requires labels_value { (labels.old ≡ replicate (length (kinds tree.now)) free) × (length firsts.old ≡ most_phases) }
+    requires fresh { (labels.old ≡ replicate (length (kinds tree.now)) free) × (length firsts.old ≡ most_phases) }
     ensures { let ended = Retraced setup.workers setup.policy tree.now trace.now result in
         ended labels.new firsts.new }
 {

@@ -109,7 +109,7 @@ replayed-whole :
 unfolding answer bytes sixteen_loads by_class C flatten
 replayed-whole = refl
 
--- After no event worker 0's phase covers all. S is all class 0: `recorded-with-enough` of `Counts`.
+-- After no event worker 0's phase covers all. S is all class 0: `recorded_with_enough` of `Counts`.
 recorded-loads : (recorded C []).loads ∷ (recorded C []).class_loads ∷ [] ≡ sixteen_loads (127 ∷ []) ∷ by_class ∷ []
 unfolding answer bytes recorded sixteen_loads by_class C flatten
 recorded-loads = refl

@@ -44,7 +44,7 @@ fn children_between(tree: &[u8], from: Step, to: Step) -> usize
 // which counts none. No ordinal is above 4,095.
 pub fn ordinal_from(tree: &[u8], policy: u8, base: Ordinal, from: Step, pusher: Step) -> Ordinal
     requires { (pusher.0 ≤ length (kinds tree.now)) × (length (kinds tree.now) ≤ most_steps) }
-    ensures result_value { result.0 ≡ ordinal_from policy (kinds tree.now) base.0 from.0 pusher.0 }
+    ensures ordinal { result.0 ≡ ordinal_from policy (kinds tree.now) base.0 from.0 pusher.0 }
     ensures small { result.0 < 65536 }
 {
     if policy == WORK_FIRST {

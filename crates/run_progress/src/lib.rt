@@ -1,4 +1,3 @@
-#![tactic(auto)]
-
 // A run never gets stuck: in every state that events lead to, unless every step has run, some worker may run. Theorems in `specs`
 // alone, no code.
+#![tactic(auto)]

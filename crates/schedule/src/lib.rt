@@ -24,7 +24,7 @@ pub struct Scheduled {
 
 // Fills the tables of an accepted tree, and makes the list. Answers how many events it has.
 fn make(tree: &[u8], setup: Setup, seed: u32, events: &mut [u8]) -> usize
-    requires tree_value { (start_verdict setup.workers setup.policy tree.now).number ≡ 0 }
+    requires accepted { (start_verdict setup.workers setup.policy tree.now).number ≡ 0 }
     requires events_room { 2 * most_made (length (kinds tree.now)) ≤ length events.old }
     ensures { let list = made setup.workers setup.policy (kinds tree.now) seed in
         ListWritten list events.old result events.new }

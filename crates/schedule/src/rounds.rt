@@ -67,7 +67,7 @@ pub fn make_events(
 ) -> usize
     requires ends { let ks = kinds tree.now in (length ends.now ≡ length ks) × Ends ks ends.now (length ends.now) }
     requires openers { let ks = kinds tree.now in (length openers.now ≡ length ks) × Openers ks openers.now (length openers.now) }
-    requires tree_value { (start_verdict setup.workers setup.policy tree.now).number ≡ 0 }
+    requires accepted { (start_verdict setup.workers setup.policy tree.now).number ≡ 0 }
     requires events_room { 2 * most_made (length (kinds tree.now)) ≤ length events.old }
     ensures { let list = made setup.workers setup.policy (kinds tree.now) seed in
         ListWritten list events.old result events.new }

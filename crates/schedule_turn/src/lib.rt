@@ -58,7 +58,7 @@ fn run_turn(
 ) -> Turned
     requires ends { let ks = kinds tree.now in (length ends.now ≡ length ks) × Ends ks ends.now (length ends.now) }
     requires openers { let ks = kinds tree.now in (length openers.now ≡ length ks) × Openers ks openers.now (length openers.now) }
-    requires worker_lt_workers { (worker < setup.workers) × (slice_index held.old worker ≢ no_step) }
+    requires worker { (worker < setup.workers) × (slice_index held.old worker ≢ no_step) }
     requires standing { Standing setup tree.now
         (arrays_of place.old held.old phase.now low.now base.now sizes.old awaited.old events.old setup before) }
     ensures { let start =
@@ -122,7 +122,7 @@ fn steal_turn(
     before: Turned,
 ) -> Turned
     requires ends { let ks = kinds tree.now in Ends ks ends.now (length ends.now) }
-    requires worker_lt_workers { (worker < setup.workers) × (slice_index held.old worker ≡ no_step) }
+    requires worker { (worker < setup.workers) × (slice_index held.old worker ≡ no_step) }
     requires standing { Standing setup tree.now
         (arrays_of place.old held.old phase.old low.old base.old sizes.old awaited.now events.old setup before) }
     ensures { let start =
@@ -175,7 +175,7 @@ pub fn turn(
 ) -> Turned
     requires ends { let ks = kinds tree.now in (length ends.now ≡ length ks) × Ends ks ends.now (length ends.now) }
     requires openers { let ks = kinds tree.now in (length openers.now ≡ length ks) × Openers ks openers.now (length openers.now) }
-    requires worker_lt_workers { worker < setup.workers }
+    requires worker { worker < setup.workers }
     requires standing { Standing setup tree.now
         (arrays_of place.old held.old phase.old low.old base.old sizes.old awaited.old events.old setup before) }
     ensures { let start =

@@ -22,7 +22,7 @@ pub fn wide(x: u16) -> usize
 // Fills the tables of an accepted tree, from the last step to the first: an opening step's task ends where its continuation's
 // does, and its continuation stands where its child's task ends.
 pub fn fill(tree: &[u8], ends: &mut [u16], openers: &mut [u16])
-    requires tree_value { (tree_verdict tree.now).number ≡ 0 }
+    requires accepted { (tree_verdict tree.now).number ≡ 0 }
     requires ends_room { length (kinds tree.now) ≤ length ends.old }
     requires openers_room { length (kinds tree.now) ≤ length openers.old }
     ensures ends { let ks = kinds tree.now in Ends ks ends.new (length ks) }

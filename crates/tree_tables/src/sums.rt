@@ -11,7 +11,7 @@ pub const SUMS: usize = MOST_STEPS + 1;
 
 // Adds the weights up, from the first step to the last. Answers the sum of the classes, which is 0 where all steps are of class 0.
 fn add_weights(tree: &[u8], sums: &mut [u64]) -> u64
-    requires tree_len_bound { length (kinds tree.now) ≤ most_steps }
+    requires few_steps { length (kinds tree.now) ≤ most_steps }
     requires sums_room { length (kinds tree.now) < length sums.old }
     ensures sums { let file = tree.now in
         Sums (weights file) sums.new (length (kinds file)) }
@@ -34,9 +34,9 @@ fn add_weights(tree: &[u8], sums: &mut [u64]) -> u64
 
 // Charges each class with the weights of its steps.
 fn charge(tree: &[u8], classes: &mut [u64; CLASSES])
-    requires tree_len_bound { length (kinds tree.now) ≤ most_steps }
+    requires few_steps { length (kinds tree.now) ≤ most_steps }
     requires classed { Classed (classes_of tree.now) (length (kinds tree.now)) }
-    requires classes_value { classes.old ≡ replicate class_count 0 }
+    requires zeroed { classes.old ≡ replicate class_count 0 }
     ensures { let file = tree.now in
         classes.new ≡ classes_before (classes_of file) (weights file) (length (kinds file)) }
 {
@@ -52,10 +52,10 @@ fn charge(tree: &[u8], classes: &mut [u64; CLASSES])
 // Adds the weights up, and charges the classes with them: at once where all steps are of class 0, since to charge step by step would
 // show in the time of a call.
 pub fn add_up(tree: &[u8], sums: &mut [u64], classes: &mut [u64; CLASSES])
-    requires tree_len_bound { length (kinds tree.now) ≤ most_steps }
+    requires few_steps { length (kinds tree.now) ≤ most_steps }
     requires sums_room { length (kinds tree.now) < length sums.old }
     requires classed { Classed (classes_of tree.now) (length (kinds tree.now)) }
-    requires classes_value { classes.old ≡ replicate class_count 0 }
+    requires zeroed { classes.old ≡ replicate class_count 0 }
     ensures sums { let file = tree.now in
         Sums (weights file) sums.new (length (kinds file)) }
     ensures classes { let file = tree.now in

@@ -18,7 +18,7 @@ use Rattle.arguments.specs.Laws.Starts.{count_outside, count_within}
 use Rattle.policy.specs.declared.Setup.{Setup}
 use Rattle.policy.specs.Contract.{worker_limit}
 use Rattle.policy.specs.Laws.Workers.{limit_most}
-use Rattle.run_invariant.specs.Laws.Moves.{get_d_alike}
+use Rattle.run_invariant.specs.Laws.Moves.{get_or_alike}
 use Rattle.run_invariant.specs.Laws.Crew.{recorded-many}
 use Rattle.run_spec.specs.declared.Outcome.{Outcome}
 use Rattle.run_spec.specs.declared.Outcome.TheVariants.{Ran, Stole, Refused}
@@ -148,7 +148,7 @@ module _ (tree : List ℕ) (number : ℕ) (phs : List Phase) where
   told_beyond u free =
       elim (ℕ_discrete number 0) [
         | yes z ↦ rw (eq-eqb number 0 z) (unused_loads (kinds tree) (weights tree) u phs (free z))
-        | no n ↦ rw (ne_eqb number 0 n) (get_d_alike most_workers u 0)
+        | no n ↦ rw (ne_eqb number 0 n) (get_or_alike most_workers u 0)
       ]
 
 module _ (w p : ℕ) (tree : List ℕ) where

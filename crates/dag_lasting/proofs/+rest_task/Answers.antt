@@ -131,13 +131,13 @@ task-overflow_cast-ends t c = omega (arith, reach c.requires.room)
 pub task-rest-requires : goal.task-rest-requires
 task-rest-requires t c =
     let g = c.requires.room in
-    let end = end_kind _ _ c.requires.end_value in
+    let end = end_kind _ _ c.requires.is_end in
     let l = end_lasting g end c.weight.ensures (omega arith) in
     let tables = tabled_again (tabled_end _ g.accepts end c.requires.tabled) in
     (omega (arith, c.decreases), (same_room (simp length-set) g, (l, tables)))
 
 pub task-returns : goal.task-returns
 task-returns t c =
-    let end = tabled_end _ c.requires.room.accepts (end_kind _ _ c.requires.end_value) c.requires.tabled in
+    let end = tabled_end _ c.requires.room.accepts (end_kind _ _ c.requires.is_end) c.requires.tabled in
     let e = c.rest.ensures in
     record { first = e.first; filled = filled-stored _ _ e.filled; tabled = tabled_through end e.tabled }

@@ -12,7 +12,7 @@ use Rattle.rules.specs.Calls.{replay_of, replay_refused}
 use Rattle.rules_histogram.specs.Limits.{bucket_count}
 use Rattle.rules_histogram.specs.Histograms.{most_traces, Histogram, empty, Added, wrapping, add_refused, add_of}
 use Rattle.run_invariant.specs.Laws.Weights.{sum_append}
-use Rattle.run_invariant.specs.Laws.Moves.{sum_replicate, get_d_alike}
+use Rattle.run_invariant.specs.Laws.Moves.{sum_replicate, get_or_alike}
 use Rattle.histogram_invariant.specs.Totals.{Call, phases, loads_of, accepts, called, after_calls, answers, loads_added, Totals}
 use Rattle.histogram_invariant.specs.Laws.Loads.{total, goes_to, loads-length, loads-total, loads_each, loads_wrap}
 use Rattle.histogram_invariant.specs.Laws.Calls.{judged, loads_few, no_room, refused_alike, refused_full, trace_added}
@@ -118,7 +118,7 @@ empty-total = sum_replicate (λ (count : ℕ). count) bucket_count 0 refl
 
 empty-bucket : (b : ℕ) → get_or empty.counts b 0 ≡ 0
 unfolding empty
-empty-bucket b = get_d_alike {A = ℕ} bucket_count b 0
+empty-bucket b = get_or_alike {A = ℕ} bucket_count b 0
 
 empty_reached : Reached empty
 unfolding empty

@@ -29,7 +29,7 @@ use Rattle.run_invariant.specs.Invariant.{self, log_of, Pushed, PhaseFacts, Inva
 use Rattle.run_invariant.specs.Laws.Counts.{count_all, any_sum}
 use Rattle.run_invariant.specs.Laws.Weights.{span, end_within, span_weighs, span-some, span_most, span_in, span-inside, span-self}
 use Rattle.run_invariant.specs.Laws.Phase.{first-pushes, held_within, oldest_pushed, oldest_within, oldest-last}
-use Rattle.run_invariant.specs.Laws.Moves.{get_d_alike, map-one, some_holds, holds-some, onward, ran, run_is, ran_here, ran_other}
+use Rattle.run_invariant.specs.Laws.Moves.{get_or_alike, map-one, some_holds, holds-some, onward, ran, run_is, ran_here, ran_other}
 use Rattle.run_invariant.specs.Laws.Moves.{enriched, lightened, steal-thief, steal_other, steal-victim, victim-rich, first_within}
 use Rattle.run_invariant.specs.Laws.Moves.{second_within, run_held, event_runs, event_steals, sum_one, rich-holds, held_facts}
 use Rattle.run_invariant.specs.Laws.Always.{start_invariant, event_keeps}
@@ -256,7 +256,7 @@ module _ (p : ℕ) (either : (p ≡ work_first) ⊎ (p ≡ help_first)) (ks : Li
   start_latest : (n : ℕ) → Latest (start (suc n))
   unfolding start worker_at latest_phase first_phases holds_step idle_worker
   start_latest n zero h = refl
-  start_latest n (suc v) h = absurd (true≢false (sym (rw (get_d_alike n v idle_worker) at h)))
+  start_latest n (suc v) h = absurd (true≢false (sym (rw (get_or_alike n v idle_worker) at h)))
 
   start-traced : (w : ℕ) → 1 ≤ w → Traced w (start w)
   unfolding start replay_walk walk

@@ -12,14 +12,14 @@ use Rattle.replay_spec.specs.Labels.{Upward, Claimed, Taking}
 
 -- ---- labels as the code reads them
 
-get_d_any : (xs : List ℕ) (j d e : ℕ) → j < length xs → get_or xs j d ≡ get_or xs j e
-get_d_any [] j d e h = absurd (omega arith)
-get_d_any (x ∷ xs) zero d e h = refl
-get_d_any (x ∷ xs) (suc j) d e h = get_d_any xs j d e (omega arith)
+get_or_any : (xs : List ℕ) (j d e : ℕ) → j < length xs → get_or xs j d ≡ get_or xs j e
+get_or_any [] j d e h = absurd (omega arith)
+get_or_any (x ∷ xs) zero d e h = refl
+get_or_any (x ∷ xs) (suc j) d e h = get_or_any xs j d e (omega arith)
 
 pub label_read : (labels : List ℕ) (j : ℕ) → j < length labels → get_or labels j 0 ≡ label_of labels j
 unfolding label_of
-label_read labels j h = get_d_any labels j 0 free h
+label_read labels j h = get_or_any labels j 0 free h
 
 -- ---- the climb
 

@@ -17,7 +17,7 @@ use Rattle.tree_scan.specs.Laws.Frames.{end_at, size_at}
 use Rattle.run_invariant.specs.Invariant.{log_of, stack, pending, self, opening, Pushed, PhaseFacts, WorkerFacts, Invariant}
 use Rattle.run_invariant.specs.Laws.Phase.{phase_begins, phase_runs, phase_robbed, oldest_pushed, oldest_within}
 use Rattle.run_invariant.specs.Laws.Waiting.{waited-more}
-use Rattle.run_invariant.specs.Laws.Moves.{sum_one, sum_replicate, get_d_alike, map-one, length-drop_last, log_own, log_other}
+use Rattle.run_invariant.specs.Laws.Moves.{sum_one, sum_replicate, get_or_alike, map-one, length-drop_last, log_own, log_other}
 use Rattle.run_invariant.specs.Laws.Moves.{pending_latest, pending_past, pending_idle, pending_same, some_holds, some-stack}
 use Rattle.run_invariant.specs.Laws.Moves.{holds-some, none-stack, worker_facts, after_idle, after_deque, onward, ran}
 use Rattle.run_invariant.specs.Laws.Moves.{run_is, ran_here, ran_other, ran_sum, robbed, begin-length, begin_new}
@@ -47,7 +47,7 @@ module _ (p : ℕ) (ks : List ℕ) (some-step : 1 ≤ length ks) (sh : Shape (le
   unfolding start worker_at holds_step phase_at first_phases idle_worker
   start_workers n zero = record { idle = λ e. absurd (true≢false e); phase = λ e. omega arith; own = λ e. refl }
   start_workers n (suc w) =
-      worker_facts idle_worker (start (suc n)) (suc w) (get_d_alike n w idle_worker) (λ e. refl) (λ e. absurd (true≢false (sym e)))
+      worker_facts idle_worker (start (suc n)) (suc w) (get_or_alike n w idle_worker) (λ e. refl) (λ e. absurd (true≢false (sym e)))
 
   start-phases : (n k : ℕ) → k < length (start (suc n)).phases
       → PhaseFacts p ks (phase_at (start (suc n)).phases k) (log_of k (start (suc n)).log) (pending (start (suc n)) k)

@@ -58,7 +58,7 @@ module _ (p : ℕ) (ks : List ℕ) where
         | no bad ↦ rw (event_same s e bad) (omega arith)
       ]
 
-  -- A worker that may run still may after_turns another worker's run, and after_turns its steal: a victim keeps the step that it holds.
+  -- A worker that may run still may after another worker's run, and after its steal: a victim keeps the step that it holds.
   run_leaves : (s : Run) (x u : ℕ) → judge_run ks s x ≡ 0 → (u ≡ x → ⊥) → judge_run ks s u ≡ 0 → judge_run ks (run_step p ks s x) u ≡ 0
   unfolding ran
   run_leaves s x u fine other free =

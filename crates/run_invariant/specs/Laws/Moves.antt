@@ -39,10 +39,10 @@ module _ {A : Type 0} where
   sum_replicate f (suc n) x e = omega (arith, sum_replicate f n x e)
 
   -- Past the end too, where the default is the same.
-  pub get_d_alike : (n i : ℕ) (x : A) → get_or (replicate n x) i x ≡ x
-  get_d_alike zero i x = refl
-  get_d_alike (suc n) zero x = refl
-  get_d_alike (suc n) (suc i) x = get_d_alike n i x
+  pub get_or_alike : (n i : ℕ) (x : A) → get_or (replicate n x) i x ≡ x
+  get_or_alike zero i x = refl
+  get_or_alike (suc n) zero x = refl
+  get_or_alike (suc n) (suc i) x = get_or_alike n i x
 
   pub map-one : {B : Type 0} (f : A → B) (xs : List A) (x : A) → map f (xs ++ (x ∷ [])) ≡ map f xs ++ (f x ∷ [])
   map-one f xs x = map-append f xs (x ∷ [])

@@ -23,7 +23,7 @@ use Rattle.run_invariant.specs.Laws.Weights.{span, self_same, span_weighs, span_
 use Rattle.run_invariant.specs.Laws.Weights.{cont-inside, pushes_either, nested_end, child_shared}
 use Rattle.run_invariant.specs.Laws.Waiting.{waits_no_longer, child_never_waits, async_never_waits, stays_free}
 use Rattle.run_invariant.specs.Laws.Phase.{phase_runs, after-ended, after_kept}
-use Rattle.run_invariant.specs.Laws.Moves.{sum_one, get_d_alike, log_own, some_holds, held_facts, onward, ran, ran_here, ran_other}
+use Rattle.run_invariant.specs.Laws.Moves.{sum_one, get_or_alike, log_own, some_holds, held_facts, onward, ran, ran_here, ran_other}
 use Rattle.run_invariant.specs.Laws.Moves.{begin_new, begin-robbed, begin_other, enriched, lightened, steal-thief, steal_other}
 use Rattle.run_invariant.specs.Laws.Moves.{steal-victim}
 use Rattle.run_invariant.specs.Laws.Consequences.{run_counts}
@@ -155,7 +155,7 @@ start_ready n p ks zero i few e =
     let s : 0 ≡ i = cc in
     rw (← s) (record { stolen_below = λ x m. has_none x m; free = λ apart. absurd (apart refl) })
 start_ready n p ks (suc w) i few e =
-    absurd (none-ne-some i (ap (λ (x : Worker). x.hand.held) (sym (get_d_alike n w idle_worker)) ∙ e))
+    absurd (none-ne-some i (ap (λ (x : Worker). x.hand.held) (sym (get_or_alike n w idle_worker)) ∙ e))
 
 -- ---- a run
 

@@ -12,7 +12,7 @@ use Rattle.rules.specs.Scheduling.{most_workers, Worker, Run, idle_worker, worke
 use Rattle.tree_scan.specs.Laws.Shape.{Shape}
 use Rattle.tree_scan.specs.Laws.Frames.{end_at, size_at}
 use Rattle.tree_scan.specs.Laws.Places.{root-first}
-use Rattle.run_invariant.specs.Laws.Moves.{get_d_alike}
+use Rattle.run_invariant.specs.Laws.Moves.{get_or_alike}
 use Rattle.run_spec.specs.Deques.{marked}
 use Rattle.run_spec.specs.Moves.{Fields}
 use Rattle.run_refinement.specs.Tie.{HandShown, AllReady, Shows}
@@ -86,7 +86,7 @@ module _ (n p : ℕ) (ks place : List ℕ) (places : length place ≡ 4095) (som
       }
   start_hands (suc u) few =
       let less : u < 15 = omega arith in
-      rw (get_or-replicate {A = ℕ} 15 u 65535 0, get_or-replicate {A = ℕ} 15 u 0 0, get_d_alike n u idle_worker)
+      rw (get_or-replicate {A = ℕ} 15 u 65535 0, get_or-replicate {A = ℕ} 15 u 0 0, get_or_alike n u idle_worker)
       (record {
         pushers = [];
         deque = refl;

@@ -1,5 +1,5 @@
 -- Rounds: some worker may run when a round begins, and still may when its turn comes; so each round runs a step, and as many rounds as
--- there are steps left finish. No turn after_turns that writes an event.
+-- there are steps left finish. No turn after that writes an event.
 use Prim.Native.Nat.{ℕ, zero, suc, ◌+◌, ◌-◌, ◌≤◌, ◌<◌}
 use Rattle.std.specs.Prelude.{◌≡◌, Bool, ◌&&◌, eqb, ltb}
 use Rattle.std.proofs.Math.Path.{refl, ap}

@@ -7,7 +7,7 @@ use native.Mathlib.Omega.{arith}
 use Rattle.std.proofs.lemmas.List.{length-replicate}
 use Rattle.rules.specs.Scheduling.{most_workers, Worker, Run, idle_worker, start, worker_at, holds_step, steal}
 use Rattle.run_invariant.specs.Invariant.{Invariant}
-use Rattle.run_invariant.specs.Laws.Moves.{get_d_alike, length-drop_last, after-length, ran, onward, ran_here, ran_other, enriched, lightened}
+use Rattle.run_invariant.specs.Laws.Moves.{get_or_alike, length-drop_last, after-length, ran, onward, ran_here, ran_other, enriched, lightened}
 use Rattle.run_invariant.specs.Laws.Moves.{steal-thief, steal_other, steal-victim}
 use Rattle.schedule_turn.specs.Terms.{size_after, Sized}
 
@@ -19,11 +19,11 @@ deep x = length x.hand.deque
 pub sized_start : (w : ℕ) → 1 ≤ w → Sized (start w) (replicate most_workers 0)
 sized_start zero some = absurd (omega arith)
 sized_start (suc n) some =
-    record { sixteen = length-replicate {A = ℕ} 16 0; each = λ u. get_d_alike 16 u 0 ∙ sym (empty u) }
+    record { sixteen = length-replicate {A = ℕ} 16 0; each = λ u. get_or_alike 16 u 0 ∙ sym (empty u) }
   where
     empty : (u : ℕ) → deep (worker_at (start (suc n)) u) ≡ 0
     empty zero = unfold start worker_at in refl
-    empty (suc u) = unfold start worker_at idle_worker in (ap deep (get_d_alike n u idle_worker))
+    empty (suc u) = unfold start worker_at idle_worker in (ap deep (get_or_alike n u idle_worker))
 
 -- One worker's deque has another length now.
 module _ (s t : Run) (sizes : List ℕ) (sized : Sized s sizes) (w x : ℕ) (few : w < most_workers) (here : deep (worker_at t w) ≡ x)
