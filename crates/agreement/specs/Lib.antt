@@ -3,10 +3,6 @@
 --     Agreement     what is claimed of live runs and replay (to be read)
 --     WorkerCount   what is claimed of the count (to be read)
 --     StepClasses   what is claimed of the classes (to be read)
---     Theorem       the claims, with all that they are for (to be read)
---     Laws          their proofs
 pub mod Agreement
 pub mod WorkerCount
 pub mod StepClasses
-pub mod Theorem
-pub mod Laws

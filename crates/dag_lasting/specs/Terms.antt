@@ -3,7 +3,7 @@ use Rattle.std.specs.Prelude.{ℕ, suc, ◌*◌, ◌≤◌, ◌<◌, ◌≡◌, 
 use Rattle.rules.specs.Tree.{most_steps, kinds, tree_verdict}
 use Rattle.rules_dag.specs.Spans.{lasts}
 use Rattle.tree_scan.specs.Laws.Frames.{size_at}
-use Rattle.tree_tables.specs.Laws.Filling as tables
+use Rattle.tree_tables.proofs.Laws.Filling as tables
 
 -- The most that four bytes can weigh.
 abbrev pub most_weight : ℕ

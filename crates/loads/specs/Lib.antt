@@ -1,5 +1,3 @@
 -- Loads: how a steal moves weight from one worker's load to another's, and the totals at the end.
 --     Terms     the weight that a steal moves, what it leaves in the loads, what is so of all together, and the totals
---     Laws      loads over phases and by class, the weight that moves by the tables, the search for the heaviest (proved)
 pub mod Terms
-pub mod Laws

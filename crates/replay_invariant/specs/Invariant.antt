@@ -7,8 +7,8 @@ use Rattle.rules.specs.Tree.{task_end}
 use Rattle.rules.specs.Scheduling.{work_first, Phase, phase_at}
 use Rattle.rules.specs.Traces.{covers}
 use Rattle.run_invariant.specs.Invariant.{Pushed, frontier_end}
-use Rattle.run_invariant.specs.Laws.Counts.{Has}
-use Rattle.run_invariant.specs.Laws.Weights.{span}
+use Rattle.run_invariant.proofs.Laws.Counts.{Has}
+use Rattle.run_invariant.proofs.Laws.Weights.{span}
 
 -- A phase of a replayed trace.
 pub record Cut (p : ℕ) (ks : List ℕ) (ph : Phase) : Type 0 where

@@ -6,7 +6,6 @@
 --     Begins    what beginning a phase stores
 --     Orders    what is written of one phase
 --     Lists     what is written of all phases
---     Laws      each of these case by case, in the terms of the code, and that they are the rules (proved)
 pub mod Workers
 pub mod Naming
 pub mod Labels
@@ -14,4 +13,3 @@ pub mod Reading
 pub mod Begins
 pub mod Orders
 pub mod Lists
-pub mod Laws

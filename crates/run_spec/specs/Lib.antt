@@ -7,7 +7,6 @@
 --     Moves      a run, a steal and an event whole
 --     Idle       the idle workers
 --     Terms      words of inner contracts, which no entry names
---     Laws       each of these case by case, in the terms of the code (proved)
 pub mod Deques
 pub mod Running
 pub mod Ordinals
@@ -15,4 +14,3 @@ pub mod Stealing
 pub mod Moves
 pub mod Idle
 pub mod Terms
-pub mod Laws

@@ -1,5 +1,3 @@
 -- One turn of the schedule maker.
 --     Terms     the maker's arrays, and how they show a list in the making
---     Laws      what a turn keeps (proved)
 pub mod Terms
-pub mod Laws

@@ -1,7 +1,7 @@
 -- An end lasts its weight, and going back from child to child each opener finds in the tables what its two parts tell.
 use Rattle.std.proofs.Common.{ℕ, ◌-◌, ◌<◌, length, sym, ◌∙◌, arith, length-set}
 use Rattle.rules.specs.Tree.{most_steps, kinds}
-use Rattle.tree_tables.specs.Laws.Filling.{end_kind, open_kind}
+use Rattle.tree_tables.proofs.Laws.Filling.{end_kind, open_kind}
 use Rattle.dag_lasting.specs.Laws.Filling.{Child, reach, same_room, passed_start, end_lasting, filled-stored}
 use Rattle.dag_lasting.specs.Laws.Filling.{passed-root, passed_first, room_back, passed-child, parts-short, passed-turn}
 use Rattle.dag_lasting.specs.Laws.Filling.{tabled_again, tabled_through, tabled_back, tabled_end, tabled_open}

@@ -8,7 +8,7 @@ use borrow.Author.Rules.{rules}
 use lib.ListN.{length}
 use Rattle.rules.specs.Tree.{kinds, kind_at, task}
 use Rattle.tree_scan.specs.Laws.Frames.{Frame, accepted-frame}
-use Rattle.tree_tables.specs.Laws.Filling.{fill_start, filled-ends, filled-openers}
+use Rattle.tree_tables.proofs.Laws.Filling.{fill_start, filled-ends, filled-openers}
 use Rattle.dag_lasting.specs.Laws.Filling.{root_ends}
 use Rattle.dag_lasting.proofs.fill.Statement.{statement}
 use Rattle.dag_lasting.proofs.fill.Tie as tie

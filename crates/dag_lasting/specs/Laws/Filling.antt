@@ -8,9 +8,9 @@ use Rattle.tree_scan.specs.Laws.Shape.{Shape, child-inside}
 use Rattle.tree_scan.specs.Laws.Frames.{Frame, end_at, size_at, accepted-frame}
 use Rattle.tree_scan.specs.Laws.Places.{part, root-first, task-child, task-cont, last_step}
 use Rattle.tree_scan.specs.Laws.Openings.{opened}
-use Rattle.tree_tables.specs.Laws.Filling.{stored, fill_end, fill-open}
+use Rattle.tree_tables.proofs.Laws.Filling.{stored, fill_end, fill-open}
 use Rattle.dag_chain.specs.Terms.{joined}
-use Rattle.dag_chain.specs.Laws.Lasting.{lasts-end, lasts-open, lasts-most}
+use Rattle.dag_chain.proofs.Laws.Lasting.{lasts-end, lasts-open, lasts-most}
 use Rattle.dag_lasting.specs.Terms.{most_weight, longest, Lasts, Lasting, Filled, Tabled, Room}
 
 -- ---- where children end

@@ -9,8 +9,8 @@ use Rattle.rules.specs.Tree.{kinds, weights}
 use Rattle.tree.specs.Laws.Records.{length-kinds, length-weights}
 use Rattle.tree_scan.specs.Laws.Frames.{accepted-frame}
 use Rattle.tree_tables.specs.Terms.{weight_before}
-use Rattle.tree_tables.specs.Laws.Filling.{weight-step}
-use Rattle.dag_chain.specs.Laws.Bounds.{weight-none, work-weight}
+use Rattle.tree_tables.proofs.Laws.Filling.{weight-step}
+use Rattle.dag_chain.proofs.Laws.Bounds.{weight-none, work-weight}
 use Rattle.dag_span.proofs.work.Statement.{statement}
 use Rattle.dag_span.proofs.work.Tie as tie
 

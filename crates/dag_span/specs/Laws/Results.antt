@@ -11,8 +11,8 @@ use Rattle.tree.specs.declared.Accepted.{Accepted}
 use Rattle.tree.specs.Contract.{acceptance}
 use Rattle.tree.specs.Laws.Verdicts.{first-refuses}
 use Rattle.tree_scan.specs.Laws.Frames.{accepted-frame}
-use Rattle.dag_chain.specs.Laws.Times.{span-lasts}
-use Rattle.dag_chain.specs.Laws.Claim.{call_accepted, call_refused}
+use Rattle.dag_chain.proofs.Laws.Times.{span-lasts}
+use Rattle.dag_chain.proofs.Laws.Claim.{call_accepted, call_refused}
 use Rattle.dag_span.specs.declared.Spanned.{Spanned}
 use Rattle.dag_span.specs.Contract.{answers}
 use Rattle.dag_walk.specs.Terms.{ChainWritten}

@@ -6,7 +6,7 @@ use native.Mathlib.Omega.{arith}
 use lib.ListN.{length, get_or}
 use borrow.Author.Rules.{rules}
 use Rattle.rules.specs.Tree.{kinds, kind_at}
-use Rattle.tree_tables.specs.Laws.Filling.{end_kind}
+use Rattle.tree_tables.proofs.Laws.Filling.{end_kind}
 use Rattle.dag_chain.specs.Terms.{Climbing}
 use Rattle.dag_walk.specs.Terms.{Tables}
 use Rattle.dag_walk.specs.Laws.Steps.{frame, climb_first, climb-on, climb-less, climb-found}

@@ -7,7 +7,7 @@ use lib.ListN.{length}
 use borrow.Author.Rules.{rules}
 use Rattle.rules.specs.Tree.{kinds, weights}
 use Rattle.tree_scan.specs.Laws.Frames.{Frame}
-use Rattle.tree_tables.specs.Laws.Filling.{end_kind}
+use Rattle.tree_tables.proofs.Laws.Filling.{end_kind}
 use Rattle.dag_walk.specs.Terms.{Tables, Lasted, Walking}
 use Rattle.dag_walk.specs.Laws.Steps.{frame}
 use Rattle.dag_walk.specs.Laws.Walking.{walk_start, walk-length, walk-room, walk_last, walk-held, walk-higher, walk_turn}

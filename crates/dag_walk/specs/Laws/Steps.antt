@@ -11,9 +11,9 @@ use Rattle.tree_scan.specs.Laws.Shape.{after, child-inside}
 use Rattle.tree_scan.specs.Laws.Frames.{Frame, end_at, size_at, end_size, accepted-frame, cont-after}
 use Rattle.tree_scan.specs.Laws.Places.{last_step, finish_cont}
 use Rattle.tree_scan.specs.Laws.Openings.{opened}
-use Rattle.tree_tables.specs.Laws.Filling.{cont-at, end_kind, open_kind}
+use Rattle.tree_tables.proofs.Laws.Filling.{cont-at, end_kind, open_kind}
 use Rattle.dag_chain.specs.Terms.{open_next, Held, Climbing, AfterFinish, NextStep}
-use Rattle.dag_chain.specs.Laws.Climb.{climb-start, climb_turn, climb_done}
+use Rattle.dag_chain.proofs.Laws.Climb.{climb-start, climb_turn, climb_done}
 use Rattle.dag_walk.specs.Terms.{Tables, Lasted}
 
 -- ---- the climb

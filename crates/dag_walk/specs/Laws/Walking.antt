@@ -15,10 +15,10 @@ use Rattle.buffers.specs.Laws.Fronts.{event_written, length-written}
 use Rattle.tree_scan.specs.Laws.Shape.{Shape}
 use Rattle.tree_scan.specs.Laws.Frames.{end_at, size_at}
 use Rattle.dag_chain.specs.Terms.{onward, pending, walked, remains, Held, NextStep}
-use Rattle.dag_chain.specs.Laws.Walk.{remains-root, pending-root, Goes, goes_higher, goes, path-last, path-more}
-use Rattle.dag_chain.specs.Laws.Choice.{chain-walked}
-use Rattle.dag_chain.specs.Laws.Climb.{left-held, next-onward}
-use Rattle.dag_chain.specs.Laws.Claim.{bytes-length}
+use Rattle.dag_chain.proofs.Laws.Walk.{remains-root, pending-root, Goes, goes_higher, goes, path-last, path-more}
+use Rattle.dag_chain.proofs.Laws.Choice.{chain-walked}
+use Rattle.dag_chain.proofs.Laws.Climb.{left-held, next-onward}
+use Rattle.dag_chain.proofs.Laws.Claim.{bytes-length}
 use Rattle.dag_walk.specs.Terms.{Walking, ChainWritten}
 
 -- One step more, in bytes.

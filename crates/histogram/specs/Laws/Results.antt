@@ -8,14 +8,14 @@ use Rattle.rules.specs.Tree.{most_steps, kinds, weights}
 use Rattle.rules.specs.Calls.{Replayed as Call, replay_verdict, replay_of}
 use Rattle.rules_histogram.specs.Histograms.{most_traces, wrapping, add_loads, add_verdict, add_refused, add_of, add_call}
 use Rattle.replay_invariant.specs.Splits.{phases_of}
-use Rattle.replay_invariant.specs.Laws.Consequences.{replay_frame}
-use Rattle.replay_invariant.specs.Laws.Entries.{listed_room}
+use Rattle.replay_invariant.proofs.Laws.Consequences.{replay_frame}
+use Rattle.replay_invariant.proofs.Laws.Entries.{listed_room}
 use Rattle.replay.specs.declared.answer.Replayed.{Replayed}
 use Rattle.replay.specs.Contract.{answers as replay_answers}
 use Rattle.replay.specs.Terms.{replay_unless}
 use Rattle.replay.specs.Laws.Unless.{unless_refused, unless-accepted, unless-room, unless_verdict}
 use Rattle.histogram_phases.specs.Terms.{entries_read, phase_loads}
-use Rattle.histogram_phases.specs.Laws.Loads.{listed-loads}
+use Rattle.histogram_phases.proofs.Laws.Loads.{listed-loads}
 use Rattle.histogram.specs.declared.Histogram.{Histogram}
 use Rattle.histogram.specs.declared.Added.{Added}
 use Rattle.histogram.specs.Contract.{given, answers}

@@ -4,7 +4,7 @@ use mathlib.Core.Path.{◌≡◌, sym}
 use native.Mathlib.Omega.{arith}
 use borrow.Author.Rules.{rules}
 use borrow.Author.Tests.{eqb-true}
-use Rattle.histogram_limits.specs.Laws.Buckets.{place-zero}
+use Rattle.histogram_limits.proofs.Laws.Buckets.{place-zero}
 use Rattle.histogram_bucket.proofs.bucket.Statement.{statement}
 use Rattle.histogram_bucket.proofs.bucket.Tie as tie
 

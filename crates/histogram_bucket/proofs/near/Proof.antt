@@ -2,7 +2,7 @@
 -- limits above it are the last three of the table, halved. Assumes nothing.
 use mathlib.Core.Path.{sym}
 use borrow.Author.Rules.{rules}
-use Rattle.histogram_limits.specs.Laws.Buckets.{place_near}
+use Rattle.histogram_limits.proofs.Laws.Buckets.{place_near}
 use Rattle.histogram_bucket.proofs.near.Statement.{statement}
 use Rattle.histogram_bucket.proofs.near.Tie as tie
 

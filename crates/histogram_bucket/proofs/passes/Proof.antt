@@ -3,7 +3,7 @@
 use Prim.Native.Nat.{◌/◌, ◌^◌}
 use lib.Dec.{leb}
 use borrow.Author.Rules.{rules}
-use Rattle.run_invariant.specs.Laws.Counts.{at_most_one}
+use Rattle.run_invariant.proofs.Laws.Counts.{at_most_one}
 use Rattle.histogram_limits.specs.Terms.{passes}
 use Rattle.histogram_bucket.specs.Laws.Bits.{bool_number}
 use Rattle.histogram_bucket.proofs.passes.Statement.{statement}

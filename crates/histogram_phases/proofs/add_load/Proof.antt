@@ -3,7 +3,7 @@
 use Rattle.std.proofs.Common.{◌<◌, refl, arith, rules}
 use Rattle.rules_histogram.specs.Limits.{bucket_count}
 use Rattle.rules_histogram.specs.Histograms.{wrapping, add_load}
-use Rattle.histogram_limits.specs.Laws.Buckets.{place_within}
+use Rattle.histogram_limits.proofs.Laws.Buckets.{place_within}
 use Rattle.histogram_phases.proofs.add_load.Statement.{statement}
 use Rattle.histogram_phases.proofs.add_load.Tie as tie
 

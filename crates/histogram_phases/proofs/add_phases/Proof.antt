@@ -3,7 +3,7 @@
 -- 4,095 weights of 32 bits stay below 2 to the power 44. Assumes nothing.
 use Rattle.std.proofs.Common.{◌-◌, ◌∙◌, arith, rules}
 use Rattle.rules.specs.Tree.{weights}
-use Rattle.histogram_phases.specs.Laws.Passes.{Adding, adding_start, adding-own, adding-next, adding-done}
+use Rattle.histogram_phases.proofs.Laws.Passes.{Adding, adding_start, adding-own, adding-next, adding-done}
 use Rattle.histogram_phases.proofs.add_phases.Statement.{statement}
 use Rattle.histogram_phases.proofs.add_phases.Tie as tie
 

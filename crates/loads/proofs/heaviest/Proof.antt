@@ -2,7 +2,7 @@
 -- its place; at the end all are looked at. Assumes nothing.
 use Prim.Native.Nat.{◌-◌}
 use native.Mathlib.Omega.{arith}
-use Rattle.loads.specs.Laws.Heaviest.{Leads, leads_start, leads-more, leads-still, leads_done}
+use Rattle.loads.proofs.Laws.Heaviest.{Leads, leads_start, leads-more, leads-still, leads_done}
 use Rattle.loads.proofs.heaviest.Statement.{statement}
 use Rattle.loads.proofs.heaviest.Tie as tie
 

@@ -11,8 +11,8 @@ use Rattle.buffers.specs.Terms.{number_at}
 use Rattle.buffers.specs.Laws.Records.{entry_at}
 use Rattle.tree.specs.Laws.Counts.{map-count}
 use Rattle.replay_invariant.specs.Splits.{phases_of, Splits}
-use Rattle.replay_invariant.specs.Laws.Consequences.{splits}
-use Rattle.replay_invariant.specs.Laws.Entries.{run_of, entry_phase, phase-by, step_by}
+use Rattle.replay_invariant.proofs.Laws.Consequences.{splits}
+use Rattle.replay_invariant.proofs.Laws.Entries.{run_of, entry_phase, phase-by, step_by}
 use Rattle.phases_text.specs.Line.Terms.{worker_by, line_of, lines_of, Phased}
 use Rattle.phases_text.specs.Laws.Verdicts.{accepted-walk}
 use Rattle.phases_text.specs.Laws.Workers.{phases-many, phase-worker}

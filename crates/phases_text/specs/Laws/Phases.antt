@@ -13,9 +13,9 @@ use Rattle.rules.specs.Traces.{entry_bytes}
 use Rattle.rules.specs.Calls.{written, replay_verdict, replay_of, replay_refused, replay_call, Replayed as Call}
 use Rattle.rules.specs.Program.{input_policy, input_tree, input_trace, heading, phase_lines, refused_line, phases_text, most_input, printed}
 use Rattle.replay_invariant.specs.Splits.{phases_of}
-use Rattle.replay_invariant.specs.Laws.Verdicts.{call_accepted, call_refused, call_number}
-use Rattle.replay_invariant.specs.Laws.Consequences.{replay_starts_lem}
-use Rattle.replay_invariant.specs.Laws.Entries.{run_of, listed_room}
+use Rattle.replay_invariant.proofs.Laws.Verdicts.{call_accepted, call_refused, call_number}
+use Rattle.replay_invariant.proofs.Laws.Consequences.{replay_starts_lem}
+use Rattle.replay_invariant.proofs.Laws.Entries.{run_of, listed_room}
 use Rattle.replay.specs.declared.answer.Replayed.{Replayed}
 use Rattle.replay.specs.Contract.{answers}
 use Rattle.phases_text.specs.Contract.{most_text, text_for}

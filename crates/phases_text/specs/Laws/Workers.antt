@@ -13,8 +13,8 @@ use Rattle.rules.specs.Bytes.{records, walk}
 use Rattle.rules.specs.Scheduling.{Phase, first_phases, phase_at}
 use Rattle.rules.specs.Traces.{judge_trace_record, next_phases, stolen_step, record_number, replay_walk}
 use Rattle.tree.specs.Laws.Records.{length-records, field_at}
-use Rattle.run_invariant.specs.Laws.Moves.{begin-map}
-use Rattle.replay_invariant.specs.Laws.Always.{judged-read, read_next}
+use Rattle.run_invariant.proofs.Laws.Moves.{begin-map}
+use Rattle.replay_invariant.proofs.Laws.Always.{judged-read, read_next}
 use Rattle.phases_text.specs.Line.Terms.{worker_by}
 
 -- The worker that a record gives a phase to.

@@ -4,7 +4,7 @@ use mathlib.Core.Path.{sym, ◌∙◌}
 use native.Mathlib.Omega.{arith}
 use Rattle.rules.specs.Tree.{kinds}
 use Rattle.tree.specs.Laws.Records.{length-kinds}
-use Rattle.policy.specs.Laws.Parts.{holds-cont, holds-next}
+use Rattle.policy.proofs.Laws.Parts.{holds-cont, holds-next}
 use borrow.Author.Rules.{rules}
 use Rattle.policy.proofs.held_after.Statement.{statement}
 use Rattle.policy.proofs.held_after.Tie as tie

@@ -2,7 +2,7 @@
 use mathlib.Core.Path.{sym, ◌∙◌}
 use native.Mathlib.Omega.{arith}
 use borrow.Author.Rules.{rules}
-use Rattle.policy.specs.Laws.Workers.{limit_is, limit_beyond}
+use Rattle.policy.proofs.Laws.Workers.{limit_is, limit_beyond}
 use Rattle.policy.proofs.limit.Statement.{statement}
 use Rattle.policy.proofs.limit.Tie as tie
 

@@ -4,7 +4,7 @@ use mathlib.Core.Path.{sym, ◌∙◌}
 use native.Mathlib.Omega.{arith}
 use Rattle.rules.specs.Tree.{kinds}
 use Rattle.tree.specs.Laws.Records.{length-kinds}
-use Rattle.policy.specs.Laws.Parts.{pushes-cont, pushes-next}
+use Rattle.policy.proofs.Laws.Parts.{pushes-cont, pushes-next}
 use borrow.Author.Rules.{rules}
 use Rattle.policy.proofs.pushed_by.Statement.{statement}
 use Rattle.policy.proofs.pushed_by.Tie as tie

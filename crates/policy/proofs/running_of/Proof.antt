@@ -6,7 +6,7 @@ use native.Mathlib.Omega.{arith}
 use lib.ListN.{length}
 use Rattle.rules.specs.Tree.{kinds}
 use Rattle.tree.specs.Laws.Records.{length-kinds}
-use Rattle.policy.specs.Laws.Running.{running_past, running_end, running_open}
+use Rattle.policy.proofs.Laws.Running.{running_past, running_end, running_open}
 use borrow.Author.Rules.{rules}
 use Rattle.policy.proofs.running_of.Statement.{statement}
 use Rattle.policy.proofs.running_of.Tie as tie

@@ -8,9 +8,9 @@ use borrow.Author.Rules.{rules}
 use Rattle.rules.specs.Tree.{kinds}
 use Rattle.run_spec.specs.declared.Event.{Event}
 use Rattle.run_spec.specs.Moves.{Fields, fields_of}
-use Rattle.run_spec.specs.Laws.Moves.{fresh_arrays}
-use Rattle.run_refinement.specs.Laws.Hints.{shows_hints}
-use Rattle.tree_tables.specs.Laws.Fronts.{start-frame}
+use Rattle.run_spec.proofs.Laws.Moves.{fresh_arrays}
+use Rattle.run_refinement.proofs.Laws.Hints.{shows_hints}
+use Rattle.tree_tables.proofs.Laws.Fronts.{start-frame}
 use Rattle.record_walk.specs.Laws.Recording.{Recording}
 use Rattle.record_walk.specs.Laws.Turns.{Turn, Weighed, turn-start, turn-done, turn-refused, ran-fits}
 use Rattle.record_walk.specs.Laws.Turns.{ran-turn, stole-fits, stole-movable, stole-turn}

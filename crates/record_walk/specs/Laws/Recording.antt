@@ -22,25 +22,25 @@ use Rattle.tree_scan.specs.Laws.Starts.{start-tree-accepts, start_workers}
 use Rattle.tree_scan.specs.Laws.Frames.{Frame, accepted-frame}
 use Rattle.tree_tables.specs.Terms.{Ends, Sums, weight_before}
 use Rattle.run_invariant.specs.Invariant.{Invariant}
-use Rattle.run_invariant.specs.Laws.Weights.{span}
-use Rattle.run_invariant.specs.Laws.Moves.{sum_one, ran as ran_by, run_is, begin-length, begin-robbed, enriched, steal-thief}
-use Rattle.run_invariant.specs.Laws.Moves.{victim-rich, first_within, second_within, run_held, event_runs, event_steals}
-use Rattle.run_invariant.specs.Laws.Always.{start_invariant, event_keeps}
-use Rattle.run_invariant.specs.Laws.Consequences.{covered_once, runs_most, steals_most}
+use Rattle.run_invariant.proofs.Laws.Weights.{span}
+use Rattle.run_invariant.proofs.Laws.Moves.{sum_one, ran as ran_by, run_is, begin-length, begin-robbed, enriched, steal-thief}
+use Rattle.run_invariant.proofs.Laws.Moves.{victim-rich, first_within, second_within, run_held, event_runs, event_steals}
+use Rattle.run_invariant.proofs.Laws.Always.{start_invariant, event_keeps}
+use Rattle.run_invariant.proofs.Laws.Consequences.{covered_once, runs_most, steals_most}
 use Rattle.trace.specs.declared.number.TraceNumber.{TraceNumber}
 use Rattle.run_spec.specs.declared.Outcome.{Outcome}
 use Rattle.run_spec.specs.declared.Outcome.TheVariants.{Ran, Stole, Refused}
 use Rattle.trace.specs.Contract.{number_value}
 use Rattle.run_spec.specs.Moves.{Fields, fresh, event_move}
 use Rattle.run_refinement.specs.Tie.{Shows, held_step, told}
-use Rattle.run_refinement.specs.Laws.Follows.{number-traced}
-use Rattle.run_refinement.specs.Laws.Moves.{Known, held-some}
-use Rattle.run_refinement.specs.Laws.AnyState.{event_setup}
-use Rattle.run_refinement.specs.Laws.Events.{start-shows, event_tells, event_shows}
+use Rattle.run_refinement.proofs.Laws.Follows.{number-traced}
+use Rattle.run_refinement.proofs.Laws.Moves.{Known, held-some}
+use Rattle.run_refinement.proofs.Laws.AnyState.{event_setup}
+use Rattle.run_refinement.proofs.Laws.Events.{start-shows, event_tells, event_shows}
 use Rattle.buffers.specs.Terms.{record_put}
 use Rattle.buffers.specs.Laws.Records.{length-entries, entries-one, length_trace, trace_one, put-length, put_front}
 use Rattle.loads.specs.Terms.{Movable, load_moved, Whole}
-use Rattle.loads.specs.Laws.Loads.{part_weight, start-loads, start-whole, Takes, begin-loads, begin-whole, begin_movable}
+use Rattle.loads.proofs.Laws.Loads.{part_weight, start-loads, start-whole, Takes, begin-loads, begin-whole, begin_movable}
 use Rattle.record_walk.specs.Terms.{Front}
 
 -- After the first k events, none of them refused: the rules' run and the state that shows it, and log, trace and loads so far.

@@ -15,8 +15,8 @@ use Rattle.buffers.specs.Terms.{record_put}
 use Rattle.tree.specs.declared.Phase.{Phase}
 use Rattle.tree.specs.declared.Step.{Step}
 use Rattle.loads.specs.Terms.{weight_between, Movable, load_moved}
-use Rattle.loads.specs.Laws.Loads.{part_between}
-use Rattle.tree_tables.specs.Laws.Fronts.{start-frame}
+use Rattle.loads.proofs.Laws.Loads.{part_between}
+use Rattle.tree_tables.proofs.Laws.Fronts.{start-frame}
 use Rattle.record_walk.specs.declared.Ended.{Ended}
 use Rattle.record_walk.specs.Terms.{Reached, Walks}
 use Rattle.record_walk.specs.Laws.Recording.{Recording, recording_start, recording-done, event-refused, ran-room}

@@ -4,7 +4,7 @@ use Prim.Native.Nat.{◌<◌}
 use native.Mathlib.Omega.{arith}
 use lib.ListN.{length, get_or}
 use borrow.Author.Rules.{rules}
-use Rattle.replay_spec.specs.Laws.Claims.{Claiming, claim_start, claim-room, claim-less, claim-turn, claim-end}
+use Rattle.replay_spec.proofs.Laws.Claims.{Claiming, claim_start, claim-room, claim-less, claim-turn, claim-end}
 use Rattle.replay_labels.proofs.claim.Statement.{statement}
 use Rattle.replay_labels.proofs.claim.Tie as tie
 

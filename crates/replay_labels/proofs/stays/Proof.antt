@@ -1,7 +1,7 @@
 -- `replay_labels::stays` meets its contract: a pushed step is dropped exactly where it has the label of another phase. Assumes
 -- nothing.
 use borrow.Author.Rules.{rules}
-use Rattle.replay_spec.specs.Laws.Dropping.{entry_free, entry_other}
+use Rattle.replay_spec.proofs.Laws.Dropping.{entry_free, entry_other}
 use Rattle.replay_labels.proofs.stays.Statement.{statement}
 use Rattle.replay_labels.proofs.stays.Tie as tie
 

@@ -4,7 +4,7 @@ use Prim.Native.Nat.{◌<◌}
 use native.Mathlib.Omega.{arith}
 use lib.ListN.{length}
 use borrow.Author.Rules.{rules}
-use Rattle.replay_spec.specs.Laws.Claims.{free_past, take-labelled, take_claimed}
+use Rattle.replay_spec.proofs.Laws.Claims.{free_past, take-labelled, take_claimed}
 use Rattle.replay_labels.proofs.take.Statement.{statement}
 use Rattle.replay_labels.proofs.take.Tie as tie
 

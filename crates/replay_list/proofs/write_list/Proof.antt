@@ -7,8 +7,8 @@ use lib.ListN.{length}
 use borrow.Author.Rules.{rules}
 use Rattle.buffers.specs.Laws.Fronts.{front_length}
 use Rattle.policy.specs.Contract.{most_phases}
-use Rattle.replay_spec.specs.Laws.Lists.{Listing, Turn, listing_start, listing_done, list_fits, phase_writable, count_fits}
-use Rattle.replay_spec.specs.Laws.Lists.{phase-listed}
+use Rattle.replay_spec.proofs.Laws.Lists.{Listing, Turn, listing_start, listing_done, list_fits, phase_writable, count_fits}
+use Rattle.replay_spec.proofs.Laws.Lists.{phase-listed}
 use Rattle.replay_list.proofs.write_list.Statement.{statement}
 use Rattle.replay_list.proofs.write_list.Tie as tie
 

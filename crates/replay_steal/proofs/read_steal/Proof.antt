@@ -12,8 +12,8 @@ use Rattle.tree.specs.declared.Step.{Step}
 use Rattle.tree_scan.specs.Laws.Frames.{accepted-frame}
 use Rattle.replay_spec.specs.declared.Named.TheVariants.{At}
 use Rattle.replay_spec.specs.Naming.{named_of, step_named}
-use Rattle.replay_spec.specs.Laws.Naming.{step_within}
-use Rattle.replay_spec.specs.Laws.Taking.{table_upward, named_some, read_unnamed, read-elsewhere, read-there}
+use Rattle.replay_spec.proofs.Laws.Naming.{step_within}
+use Rattle.replay_spec.proofs.Laws.Taking.{table_upward, named_some, read_unnamed, read-elsewhere, read-there}
 use Rattle.replay_steal.proofs.read_steal.Statement.{statement}
 use Rattle.replay_steal.proofs.read_steal.Tie as tie
 

@@ -20,21 +20,21 @@ use Rattle.tree_scan.specs.Laws.Frames.{end_at, size_at, Frame, accepted-frame}
 use Rattle.tree_scan.specs.Laws.Places.{root-first}
 use Rattle.tree_scan.specs.Laws.Starts.{start-tree-accepts, start_workers, admitted_policy}
 use Rattle.tree_tables.specs.Terms.{Ends, Openers, Sums, weight_before}
-use Rattle.run_invariant.specs.Laws.Counts.{and_both}
+use Rattle.run_invariant.proofs.Laws.Counts.{and_both}
 use Rattle.replay_invariant.specs.Invariant.{Split}
-use Rattle.replay_invariant.specs.Laws.Parts.{covered-sum}
-use Rattle.replay_invariant.specs.Laws.Reads.{Based, based_fresh}
-use Rattle.replay_invariant.specs.Laws.Labels.{first-labels}
-use Rattle.replay_invariant.specs.Laws.Always.{first-split}
+use Rattle.replay_invariant.proofs.Laws.Parts.{covered-sum}
+use Rattle.replay_invariant.proofs.Laws.Reads.{Based, based_fresh}
+use Rattle.replay_invariant.proofs.Laws.Labels.{first-labels}
+use Rattle.replay_invariant.proofs.Laws.Always.{first-split}
 use Rattle.loads.specs.Terms.{Whole}
-use Rattle.loads.specs.Laws.Loads.{start-loads}
+use Rattle.loads.proofs.Laws.Loads.{start-loads}
 use Rattle.trace.specs.Terms.{RecordAt}
 use Rattle.replay_spec.specs.Workers.{judged_workers}
 use Rattle.policy.specs.Contract.{most_phases}
-use Rattle.replay_spec.specs.Laws.Workers.{Latest, judged-stop}
+use Rattle.replay_spec.proofs.Laws.Workers.{Latest, judged-stop}
 use Rattle.replay_walk.specs.declared.Ended.{Ended}
 use Rattle.replay_walk.specs.Terms.{Retraced}
-use Rattle.replay_spec.specs.Laws.Begins.{based_at}
+use Rattle.replay_spec.proofs.Laws.Begins.{based_at}
 use Rattle.replay_invariant.specs.Terms.{free, label_of, Labels}
 
 -- Phases that split the tree cover each step once, so all loads together are its weight.

@@ -14,30 +14,30 @@ use Rattle.tree.specs.Laws.Walks.{walk_on}
 use Rattle.tree_scan.specs.Laws.Shape.{Shape}
 use Rattle.tree_scan.specs.Laws.Frames.{end_at, size_at}
 use Rattle.run_invariant.specs.Invariant.{Pushed}
-use Rattle.run_invariant.specs.Laws.Moves.{begin-length}
-use Rattle.run_invariant.specs.Laws.Weights.{pushed_within}
+use Rattle.run_invariant.proofs.Laws.Moves.{begin-length}
+use Rattle.run_invariant.proofs.Laws.Weights.{pushed_within}
 use Rattle.replay_invariant.specs.Invariant.{Taken}
-use Rattle.replay_invariant.specs.Laws.Parts.{part_inside, pushes_part}
-use Rattle.replay_invariant.specs.Laws.Reads.{allowed_taken}
-use Rattle.replay_invariant.specs.Laws.Labels.{root-labelled, begin-labels}
-use Rattle.replay_invariant.specs.Laws.Always.{Read, latest_own, read_next, begin-split}
+use Rattle.replay_invariant.proofs.Laws.Parts.{part_inside, pushes_part}
+use Rattle.replay_invariant.proofs.Laws.Reads.{allowed_taken}
+use Rattle.replay_invariant.proofs.Laws.Labels.{root-labelled, begin-labels}
+use Rattle.replay_invariant.proofs.Laws.Always.{Read, latest_own, read_next, begin-split}
 use Rattle.replay_spec.specs.declared.Named.{Named}
 use Rattle.replay_spec.specs.declared.Named.TheVariants.{At, Nothing}
 use Rattle.replay_spec.specs.Naming.{step_named, named}
 use Rattle.replay_spec.specs.Reading.{Reading}
 use Rattle.policy.specs.Contract.{most_phases}
 use Rattle.replay_spec.specs.Begins.{bases_begun, ordinals_begun}
-use Rattle.replay_spec.specs.Laws.Reading.{opener_parts, read-allowed, read-broken}
+use Rattle.replay_spec.proofs.Laws.Reading.{opener_parts, read-allowed, read-broken}
 use Rattle.loads.specs.Terms.{load_moved, weight_between, Movable}
-use Rattle.loads.specs.Laws.Loads.{Takes, part_between, begin-loads, begin_movable}
+use Rattle.loads.proofs.Laws.Loads.{Takes, part_between, begin-loads, begin_movable}
 use Rattle.trace.specs.Contract.{number_by}
 use Rattle.trace.specs.declared.number.TraceNumber.{TraceNumber}
 use Rattle.trace.specs.Terms.{RecordAt}
 use Rattle.replay_spec.specs.Workers.{judged_workers}
-use Rattle.replay_spec.specs.Laws.Workers.{fine_workers, latest_some, latest_next, judged-on}
+use Rattle.replay_spec.proofs.Laws.Workers.{fine_workers, latest_some, latest_next, judged-on}
 use Rattle.replay_walk.specs.declared.Ended.{Ended}
 use Rattle.replay_walk.specs.Terms.{Retraced}
-use Rattle.replay_spec.specs.Laws.Begins.{firsts-next, bases-within, bases-next}
+use Rattle.replay_spec.proofs.Laws.Begins.{firsts-next, bases-within, bases-next}
 use Rattle.replay_walk.specs.Laws.Retracing.{split-whole, Retracing, Tables, retrace_stopped}
 use Rattle.replay_invariant.specs.Terms.{free, label_of, Climb, labelled, PartOf}
 

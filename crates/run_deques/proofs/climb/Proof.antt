@@ -5,7 +5,7 @@ use mathlib.Core.Path.{◌≡◌, refl}
 use native.Mathlib.Omega.{arith}
 use borrow.Author.Rules.{rules}
 use Rattle.run_spec.specs.Deques.{newest_mark}
-use Rattle.run_spec.specs.Laws.Marks.{newest_end, climb-less, climb-below, climb-hit, climb-miss}
+use Rattle.run_spec.proofs.Laws.Marks.{newest_end, climb-less, climb-below, climb-hit, climb-miss}
 use Rattle.run_deques.proofs.climb.Statement.{statement}
 use Rattle.run_deques.proofs.climb.Tie as tie
 

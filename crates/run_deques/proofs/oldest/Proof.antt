@@ -4,7 +4,7 @@ use Prim.Native.Nat.{◌-◌}
 use mathlib.Core.Path.{◌≡◌, refl}
 use native.Mathlib.Omega.{arith}
 use Rattle.run_spec.specs.Deques.{oldest_mark}
-use Rattle.run_spec.specs.Laws.Marks.{oldest_hit, oldest_miss, oldest_end}
+use Rattle.run_spec.proofs.Laws.Marks.{oldest_hit, oldest_miss, oldest_end}
 use Rattle.run_deques.proofs.oldest.Statement.{statement}
 use Rattle.run_deques.proofs.oldest.Tie as tie
 

@@ -8,7 +8,7 @@ use Rattle.tree.specs.declared.Step.{Step}
 use Rattle.tree.specs.Laws.Highest.{highest-is}
 use Rattle.run_spec.specs.declared.Found.TheVariants.{At}
 use Rattle.run_spec.specs.Deques.{newest_mark, marked}
-use Rattle.run_spec.specs.Laws.Marks.{found_at, found_nothing, popped-at, popped-nothing}
+use Rattle.run_spec.proofs.Laws.Marks.{found_at, found_nothing, popped-at, popped-nothing}
 use borrow.Author.Rules.{rules}
 use Rattle.run_deques.proofs.pop.Statement.{statement}
 use Rattle.run_deques.proofs.pop.Tie as tie

@@ -4,7 +4,7 @@ use Prim.Native.Nat.{◌≤◌}
 use mathlib.Core.Path.{◌≡◌, refl}
 use native.Mathlib.Omega.{arith}
 use Rattle.run_spec.specs.Deques.{newest_mark}
-use Rattle.run_spec.specs.Laws.Marks.{newest_hit, newest_miss, newest_end}
+use Rattle.run_spec.proofs.Laws.Marks.{newest_hit, newest_miss, newest_end}
 use Rattle.run_deques.proofs.scan.Statement.{statement}
 use Rattle.run_deques.proofs.scan.Tie as tie
 

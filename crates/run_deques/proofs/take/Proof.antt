@@ -7,7 +7,7 @@ use native.Mathlib.Omega.{arith}
 use Rattle.tree.specs.declared.Step.{Step}
 use Rattle.run_spec.specs.declared.Found.TheVariants.{At}
 use Rattle.run_spec.specs.Deques.{oldest_mark}
-use Rattle.run_spec.specs.Laws.Marks.{found_at, found_nothing, oldest_before, robbed-at, robbed-nothing}
+use Rattle.run_spec.proofs.Laws.Marks.{found_at, found_nothing, oldest_before, robbed-at, robbed-nothing}
 use borrow.Author.Rules.{rules}
 use Rattle.run_deques.proofs.take.Statement.{statement}
 use Rattle.run_deques.proofs.take.Tie as tie

@@ -1,7 +1,7 @@
 -- `run_event::event_on` meets its contract: on equal bytes an event is by definition a run by that worker, on different ones a steal by
 -- the first from the second. Assumes nothing.
 use Rattle.run_spec.specs.Moves.{Fields, fields_of}
-use Rattle.run_spec.specs.Laws.Moves.{event_run, event_steal}
+use Rattle.run_spec.proofs.Laws.Moves.{event_run, event_steal}
 use borrow.Author.Rules.{rules}
 use Rattle.run_event.proofs.event_on.Statement.{statement}
 use Rattle.run_event.proofs.event_on.Tie as tie

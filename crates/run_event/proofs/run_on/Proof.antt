@@ -6,10 +6,10 @@ use mathlib.Core.List.{List}
 use native.Mathlib.Omega.{arith}
 use lib.ListN.{length, get_or}
 use Rattle.rules.specs.Tree.{kinds}
-use Rattle.policy.specs.Laws.Workers.{limit-below}
-use Rattle.run_spec.specs.Laws.Running.{run_allowed}
+use Rattle.policy.proofs.Laws.Workers.{limit-below}
+use Rattle.run_spec.proofs.Laws.Running.{run_allowed}
 use Rattle.run_spec.specs.Moves.{Fields, fields_of}
-use Rattle.run_spec.specs.Laws.Moves.{lent_climbs, run_refused, run_runs}
+use Rattle.run_spec.proofs.Laws.Moves.{lent_climbs, run_refused, run_runs}
 use borrow.Author.Rules.{rules}
 use Rattle.run_event.proofs.run_on.Statement.{statement}
 use Rattle.run_event.proofs.run_on.Tie as tie

@@ -9,10 +9,10 @@ use lib.ListN.{length}
 use Rattle.rules.specs.Tree.{kinds}
 use Rattle.run_spec.specs.declared.Taken.TheVariants.{Of}
 use Rattle.run_spec.specs.Terms.{Small}
-use Rattle.policy.specs.Laws.Workers.{limit-below}
-use Rattle.run_spec.specs.Laws.Stealing.{steal_allowed}
+use Rattle.policy.proofs.Laws.Workers.{limit-below}
+use Rattle.run_spec.proofs.Laws.Stealing.{steal_allowed}
 use Rattle.run_spec.specs.Moves.{Fields, Move, fields_of, move_of}
-use Rattle.run_spec.specs.Laws.Moves.{steal-refused, steal-empty, steal-takes}
+use Rattle.run_spec.proofs.Laws.Moves.{steal-refused, steal-empty, steal-takes}
 use Rattle.run_event.specs.declared.Moved.{Moved}
 use borrow.Author.Rules.{rules}
 use Rattle.run_event.proofs.steal_on.Statement.{statement}

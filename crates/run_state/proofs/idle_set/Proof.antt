@@ -4,8 +4,8 @@ use Prim.Native.Nat.{ℕ, ◌+◌, ◌*◌, ◌≤◌, ◌<◌}
 use native.Mathlib.Omega.{arith}
 use borrow.Author.Rules.{rules}
 use Rattle.policy.specs.Contract.{worker_limit}
-use Rattle.policy.specs.Laws.Workers.{limit_most}
-use Rattle.run_spec.specs.Laws.Idle.{Built, built-start, built-fits, built-idle, built-busy, built-done}
+use Rattle.policy.proofs.Laws.Workers.{limit_most}
+use Rattle.run_spec.proofs.Laws.Idle.{Built, built-start, built-fits, built-idle, built-busy, built-done}
 use Rattle.run_state.proofs.idle_set.Statement.{statement}
 use Rattle.run_state.proofs.idle_set.Tie as tie
 

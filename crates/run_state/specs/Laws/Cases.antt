@@ -10,11 +10,11 @@ use Rattle.tree.specs.declared.Accepted.{Accepted}
 use Rattle.arguments.specs.Terms.{start_judged}
 use Rattle.tree_scan.specs.Laws.Starts.{admitted_position}
 use Rattle.policy.specs.Contract.{worker_limit}
-use Rattle.policy.specs.Laws.Workers.{limit_most}
+use Rattle.policy.proofs.Laws.Workers.{limit_most}
 use Rattle.run_spec.specs.Moves.{Move, fresh, run_move, steal_move}
 use Rattle.run_spec.specs.Idle.{idle_bits}
-use Rattle.run_spec.specs.Laws.Moves.{event_run, event_steal}
-use Rattle.run_spec.specs.Laws.Idle.{ones-set, lowest_set}
+use Rattle.run_spec.proofs.Laws.Moves.{event_run, event_steal}
+use Rattle.run_spec.proofs.Laws.Idle.{ones-set, lowest_set}
 use Rattle.run_state.specs.declared.RunState.{RunState}
 use Rattle.run_state.specs.declared.Answer.{Answer}
 use Rattle.run_state.specs.declared.Started.{Started}

@@ -9,19 +9,19 @@ use Rattle.rules.specs.Scheduling.{most_workers, start}
 use Rattle.rules.specs.Calls.{start_verdict, written, finished}
 use Rattle.rules_schedule.specs.Schedules.{Making, begun, round, made, most_made}
 use Rattle.tree_scan.specs.Laws.Starts.{start_workers}
-use Rattle.tree_tables.specs.Laws.Fronts.{start-frame}
+use Rattle.tree_tables.proofs.Laws.Fronts.{start-frame}
 use Rattle.policy.specs.declared.Setup.{Setup}
 use Rattle.run_spec.specs.Running.{no_step}
 use Rattle.run_spec.specs.Moves.{Fields, fresh}
-use Rattle.run_invariant.specs.Laws.Counts.{not_so}
-use Rattle.run_invariant.specs.Laws.Consequences.{runs_most, finished_runs, runs_finished}
-use Rattle.run_refinement.specs.Laws.Events.{start-shows}
-use Rattle.schedule_invariant.specs.Laws.Turns.{going_start}
-use Rattle.schedule_invariant.specs.Laws.Rounds.{round-last, round_runs, rounds-next, rounds-done}
+use Rattle.run_invariant.proofs.Laws.Counts.{not_so}
+use Rattle.run_invariant.proofs.Laws.Consequences.{runs_most, finished_runs, runs_finished}
+use Rattle.run_refinement.proofs.Laws.Events.{start-shows}
+use Rattle.schedule_invariant.proofs.Laws.Turns.{going_start}
+use Rattle.schedule_invariant.proofs.Laws.Rounds.{round-last, round_runs, rounds-next, rounds-done}
 use Rattle.schedule_turn.specs.Terms.{Arrays, Stands, Standing, Turns}
-use Rattle.schedule_turn.specs.Laws.Sizes.{sized_start}
-use Rattle.schedule_turn.specs.Laws.Awaits.{awaited-start}
-use Rattle.schedule_turn.specs.Laws.Listing.{frame, listed-count}
+use Rattle.schedule_turn.proofs.Laws.Sizes.{sized_start}
+use Rattle.schedule_turn.proofs.Laws.Awaits.{awaited-start}
+use Rattle.schedule_turn.proofs.Laws.Listing.{frame, listed-count}
 use Rattle.schedule.specs.Terms.{FirstTurns, Underway, ListWritten}
 
 -- ---- a round, turn by turn

@@ -4,10 +4,10 @@
 use Rattle.std.proofs.Common.{ℕ, ◌<◌, get_or, set, sym, refl, ap, ◌∙◌, arith, rules}
 use Rattle.rules.specs.Tree.{kinds}
 use Rattle.rules.specs.Scheduling.{most_workers}
-use Rattle.run_refinement.specs.Laws.Hints.{shows_hints}
-use Rattle.schedule_turn.specs.Laws.Listing.{frame, few_events}
-use Rattle.schedule_turn.specs.Laws.Turning.{few, still-stands, never-stole, ran-small, ran-fits, ran-stands}
-use Rattle.schedule_turn.specs.Laws.Turning.{held-most, noted-stands, passed-stands, late-held, late-stands}
+use Rattle.run_refinement.proofs.Laws.Hints.{shows_hints}
+use Rattle.schedule_turn.proofs.Laws.Listing.{frame, few_events}
+use Rattle.schedule_turn.proofs.Laws.Turning.{few, still-stands, never-stole, ran-small, ran-fits, ran-stands}
+use Rattle.schedule_turn.proofs.Laws.Turning.{held-most, noted-stands, passed-stands, late-held, late-stands}
 use Rattle.schedule_turn.specs.Terms.{Noted}
 use Rattle.schedule_turn.proofs.run_turn.Statement.{statement}
 use Rattle.schedule_turn.proofs.run_turn.Tie as tie

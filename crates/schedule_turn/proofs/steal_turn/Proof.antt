@@ -2,8 +2,8 @@
 -- step, so the length alone tells whether the worker drawn can be robbed; and where it can, the call on the arrays robs it. Assumes
 -- nothing.
 use Rattle.std.proofs.Common.{refl, arith, rules}
-use Rattle.schedule_turn.specs.Laws.Listing.{few_events}
-use Rattle.schedule_turn.specs.Laws.Turning.{miss-stands, hit-fits, hit-stands}
+use Rattle.schedule_turn.proofs.Laws.Listing.{few_events}
+use Rattle.schedule_turn.proofs.Laws.Turning.{miss-stands, hit-fits, hit-stands}
 use Rattle.schedule_turn.proofs.steal_turn.Statement.{statement}
 use Rattle.schedule_turn.proofs.steal_turn.Tie as tie
 

@@ -9,8 +9,8 @@ use lib.ListN.{length, get_or, length-set}
 use Rattle.rules.specs.Tree.{kinds, kind_at, cont}
 use Rattle.tree.specs.Laws.Records.{length-kinds, kind_at_lem}
 use Rattle.tree_scan.specs.Laws.Frames.{Frame, end_at, accepted-frame}
-use Rattle.tree_tables.specs.Laws.Filling.{Filled, end_kind, open_kind, fill_start, fill-turn, fill_end, fill-after}
-use Rattle.tree_tables.specs.Laws.Filling.{fill-inside, fill-open, filled-ends, filled-openers}
+use Rattle.tree_tables.proofs.Laws.Filling.{Filled, end_kind, open_kind, fill_start, fill-turn, fill_end, fill-after}
+use Rattle.tree_tables.proofs.Laws.Filling.{fill-inside, fill-open, filled-ends, filled-openers}
 use Rattle.tree_tables.proofs.fill.Statement.{statement}
 use Rattle.tree_tables.proofs.fill.Tie as tie
 

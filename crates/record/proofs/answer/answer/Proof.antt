@@ -5,7 +5,7 @@ use mathlib.Core.Bool.{false}
 use lib.Dec.{ltb}
 use borrow.Author.Rules.{rules}
 use borrow.Author.Tests.{eq-eqb, ne_eqb}
-use Rattle.loads.specs.Laws.Totals.{totals_refused, totals_accepted}
+use Rattle.loads.proofs.Laws.Totals.{totals_refused, totals_accepted}
 use Rattle.record.specs.Answer.Terms.{refusal, answered}
 use Rattle.record.proofs.answer.answer.Statement.{statement}
 use Rattle.record.proofs.answer.answer.Tie as tie

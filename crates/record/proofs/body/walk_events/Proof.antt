@@ -9,7 +9,7 @@ use borrow.Author.Rules.{rules}
 use Rattle.rules.specs.Tree.{kinds}
 use Rattle.tree_scan.specs.Laws.Starts.{start-tree-accepts}
 use Rattle.tree_scan.specs.Laws.Frames.{Frame}
-use Rattle.tree_tables.specs.Laws.Fronts.{start-frame, ends_prefix, openers_prefix}
+use Rattle.tree_tables.proofs.Laws.Fronts.{start-frame, ends_prefix, openers_prefix}
 use Rattle.record.proofs.body.walk_events.Statement.{statement}
 use Rattle.record.proofs.body.walk_events.Tie as tie
 

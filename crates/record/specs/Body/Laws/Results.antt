@@ -9,10 +9,10 @@ use Rattle.rules.specs.Traces.{trace_bytes, entry_bytes}
 use Rattle.rules.specs.Calls.{most_trace_records, written, record_walk, finished}
 use Rattle.tree_scan.specs.Laws.Starts.{start-tree-accepts}
 use Rattle.tree_scan.specs.Laws.Frames.{Frame, accepted-frame}
-use Rattle.run_invariant.specs.Laws.Consequences.{runs_most, steals_most, finished_runs, runs_finished}
+use Rattle.run_invariant.proofs.Laws.Consequences.{runs_most, steals_most, finished_runs, runs_finished}
 use Rattle.tree_tables.specs.Terms.{classes_before}
 use Rattle.buffers.specs.Laws.Records.{length-entries, length_trace}
-use Rattle.loads.specs.Laws.Classes.{classes_are}
+use Rattle.loads.proofs.Laws.Classes.{classes_are}
 use Rattle.record_walk.specs.declared.Ended.{Ended}
 use Rattle.record_walk.specs.Terms.{Reached, Walks}
 use Rattle.record.specs.Body.Terms.{Admitted, Told, Result}

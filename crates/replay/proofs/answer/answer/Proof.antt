@@ -3,7 +3,7 @@
 use mathlib.Core.Path.{◌∙◌}
 use borrow.Author.Rules.{rules}
 use borrow.Author.Tests.{eq-eqb, ne_eqb}
-use Rattle.loads.specs.Laws.Totals.{totals_refused, totals_accepted}
+use Rattle.loads.proofs.Laws.Totals.{totals_refused, totals_accepted}
 use Rattle.replay.specs.Answer.Terms.{refusal, answered}
 use Rattle.replay.proofs.answer.answer.Statement.{statement}
 use Rattle.replay.proofs.answer.answer.Tie as tie

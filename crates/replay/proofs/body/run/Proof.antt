@@ -13,7 +13,7 @@ use Rattle.rules.specs.Tree.{kinds}
 use Rattle.tree_scan.specs.Laws.Starts.{start-tree-accepts}
 use Rattle.tree_scan.specs.Laws.Frames.{Frame}
 use Rattle.tree_tables.specs.Terms.{Ends}
-use Rattle.tree_tables.specs.Laws.Fronts.{start-frame, ends_prefix, openers_prefix}
+use Rattle.tree_tables.proofs.Laws.Fronts.{start-frame, ends_prefix, openers_prefix}
 use Rattle.replay_walk.specs.Terms.{Retraced}
 use Rattle.replay.specs.Body.Terms.{Admitted}
 use Rattle.replay.specs.Body.Laws.Results.{take-replicate, front_room, front_length, lost_result, full-result}

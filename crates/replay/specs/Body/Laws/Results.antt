@@ -11,13 +11,13 @@ use Rattle.rules.specs.Calls.{written}
 use Rattle.tree_scan.specs.Laws.Starts.{admitted_policy}
 use Rattle.tree_scan.specs.Laws.Frames.{Frame}
 use Rattle.tree_tables.specs.Terms.{classes_before}
-use Rattle.tree_tables.specs.Laws.Fronts.{start-frame}
-use Rattle.loads.specs.Laws.Classes.{classes_are}
+use Rattle.tree_tables.proofs.Laws.Fronts.{start-frame}
+use Rattle.loads.proofs.Laws.Classes.{classes_are}
 use Rattle.replay_invariant.specs.Invariant.{Split}
-use Rattle.replay_invariant.specs.Laws.Always.{always_split}
+use Rattle.replay_invariant.proofs.Laws.Always.{always_split}
 use Rattle.policy.specs.Contract.{most_phases}
 use Rattle.replay_spec.specs.Lists.{listed, Listable}
-use Rattle.replay_spec.specs.Laws.RunLists.{listed-is}
+use Rattle.replay_spec.proofs.Laws.RunLists.{listed-is}
 use Rattle.replay_walk.specs.declared.Ended.{Ended}
 use Rattle.replay_walk.specs.Terms.{ruled, Retraced}
 use Rattle.replay_walk.specs.Laws.Retracing.{split-whole}

@@ -9,8 +9,8 @@ use borrow.Author.Rules.{rules}
 use Rattle.rules.specs.Tree.{kinds}
 use Rattle.rules.specs.Calls.{most_trace_records}
 use Rattle.replay_spec.specs.Labels.{dropped}
-use Rattle.replay_spec.specs.Laws.Stacks.{Writing, Turn, Opening, writing_start, record_fits, phase-done, step-popped, pushed_inside}
-use Rattle.replay_spec.specs.Laws.Stacks.{step-dropped, push-fits, step_pushed, list_kept}
+use Rattle.replay_spec.proofs.Laws.Stacks.{Writing, Turn, Opening, writing_start, record_fits, phase-done, step-popped, pushed_inside}
+use Rattle.replay_spec.proofs.Laws.Stacks.{step-dropped, push-fits, step_pushed, list_kept}
 use Rattle.replay_list.proofs.phase.write_phase.Statement.{statement}
 use Rattle.replay_list.proofs.phase.write_phase.Tie as tie
 

@@ -4,7 +4,7 @@ use mathlib.Core.Path.{sym, ◌∙◌}
 use native.Mathlib.Omega.{arith}
 use borrow.Author.Rules.{rules}
 use Rattle.rules.specs.Tree.{kinds}
-use Rattle.replay_spec.specs.Laws.Naming.{pushable-first, pushable_async, pushable_finish, pushable-none}
+use Rattle.replay_spec.proofs.Laws.Naming.{pushable-first, pushable_async, pushable_finish, pushable-none}
 use Rattle.replay_steal.proofs.number.async_or_after_finish.Statement.{statement}
 use Rattle.replay_steal.proofs.number.async_or_after_finish.Tie as tie
 

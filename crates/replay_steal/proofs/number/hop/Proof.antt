@@ -5,7 +5,7 @@ use native.Mathlib.Omega.{arith}
 use borrow.Author.Rules.{rules}
 use Rattle.rules.specs.Tree.{kinds}
 use Rattle.replay_invariant.specs.Terms.{hopped}
-use Rattle.replay_spec.specs.Laws.Naming.{hop_end, hop_on, hop-done}
+use Rattle.replay_spec.proofs.Laws.Naming.{hop_end, hop_on, hop-done}
 use Rattle.replay_steal.proofs.number.hop.Statement.{statement}
 use Rattle.replay_steal.proofs.number.hop.Tie as tie
 

@@ -7,7 +7,7 @@ use borrow.Author.Rules.{rules}
 use Rattle.tree.specs.declared.Step.{Step}
 use Rattle.tree.specs.declared.Ordinal.{Ordinal}
 use Rattle.rules.specs.Tree.{kinds}
-use Rattle.replay_spec.specs.Laws.Naming.{name_own, name_hopped, name_past, name-other, name-itself}
+use Rattle.replay_spec.proofs.Laws.Naming.{name_own, name_hopped, name_past, name-other, name-itself}
 use Rattle.replay_steal.proofs.number.step_named.Statement.{statement}
 use Rattle.replay_steal.proofs.number.step_named.Tie as tie
 

@@ -7,8 +7,8 @@ use lib.Dec.{leb}
 use borrow.Author.Rules.{rules}
 use borrow.Author.Tests.{leb-false}
 use Rattle.policy.specs.Contract.{worker_limit}
-use Rattle.policy.specs.Laws.Workers.{limit_most}
-use Rattle.replay_spec.specs.Laws.Workers.{thief-refused, victim-refused, same-refused, unseen-refused, none-refused}
+use Rattle.policy.proofs.Laws.Workers.{limit_most}
+use Rattle.replay_spec.proofs.Laws.Workers.{thief-refused, victim-refused, same-refused, unseen-refused, none-refused}
 use Rattle.replay_steal.proofs.workers.judge_workers.Statement.{statement}
 use Rattle.replay_steal.proofs.workers.judge_workers.Tie as tie
 

@@ -5,7 +5,7 @@ use mathlib.Core.Path.{sym, ◌∙◌}
 use native.Mathlib.Omega.{arith}
 use Rattle.rules.specs.Tree.{kinds}
 use Rattle.tree.specs.Laws.Records.{length-kinds, kind_at_lem}
-use Rattle.run_spec.specs.Laws.Children.{Counted, counted_start, counted-end, counted-child, counted-inner, counted-done}
+use Rattle.run_spec.proofs.Laws.Children.{Counted, counted_start, counted-end, counted-child, counted-inner, counted-done}
 use Rattle.run_event.proofs.ordinal.children_between.Statement.{statement}
 use Rattle.run_event.proofs.ordinal.children_between.Tie as tie
 

@@ -3,7 +3,7 @@
 -- pass sixteen bits. Assumes nothing.
 use native.Mathlib.Omega.{arith}
 use Rattle.rules.specs.Tree.{kinds}
-use Rattle.run_spec.specs.Laws.Ordinals.{ordinal-counted, ordinal_uncounted}
+use Rattle.run_spec.proofs.Laws.Ordinals.{ordinal-counted, ordinal_uncounted}
 use borrow.Author.Rules.{rules}
 use Rattle.run_event.proofs.ordinal.ordinal_from.Statement.{statement}
 use Rattle.run_event.proofs.ordinal.ordinal_from.Tie as tie

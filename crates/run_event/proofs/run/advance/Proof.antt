@@ -9,9 +9,9 @@ use lib.ListN.{length}
 use Rattle.rules.specs.Tree.{kinds, kind_at}
 use Rattle.tree.specs.Laws.Highest.{highest-is}
 use Rattle.run_spec.specs.Deques.{marked, newest_mark}
-use Rattle.run_spec.specs.Laws.Marks.{found_at, found_nothing}
-use Rattle.policy.specs.Laws.Parts.{holds_most, pushes_most}
-use Rattle.run_spec.specs.Laws.Running.{next-opens, place-opens, next-pops, next-ends, place-ends}
+use Rattle.run_spec.proofs.Laws.Marks.{found_at, found_nothing}
+use Rattle.policy.proofs.Laws.Parts.{holds_most, pushes_most}
+use Rattle.run_spec.proofs.Laws.Running.{next-opens, place-opens, next-pops, next-ends, place-ends}
 use borrow.Author.Rules.{rules}
 use Rattle.run_event.proofs.run.advance.Statement.{statement}
 use Rattle.run_event.proofs.run.advance.Tie as tie

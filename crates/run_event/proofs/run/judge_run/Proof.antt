@@ -8,11 +8,11 @@ use mathlib.Core.Option.{Option}
 use lib.ListN.{length}
 use Rattle.rules.specs.Tree.{kinds}
 use Rattle.policy.specs.Contract.{worker_limit}
-use Rattle.policy.specs.Laws.Workers.{limit-below}
+use Rattle.policy.proofs.Laws.Workers.{limit-below}
 use Rattle.run_spec.specs.Running.{waits_for, awaits, run_number}
-use Rattle.run_spec.specs.Laws.Marks.{found_at, found_nothing}
-use Rattle.run_spec.specs.Laws.Waiting.{waits-at_low, waits_for-some, waits_for-none}
-use Rattle.run_spec.specs.Laws.Running.{judged-worker, judged-long, judged-idle, judged-waits, judged-runs}
+use Rattle.run_spec.proofs.Laws.Marks.{found_at, found_nothing}
+use Rattle.run_spec.proofs.Laws.Waiting.{waits-at_low, waits_for-some, waits_for-none}
+use Rattle.run_spec.proofs.Laws.Running.{judged-worker, judged-long, judged-idle, judged-waits, judged-runs}
 use borrow.Author.Rules.{rules}
 use borrow.Author.Tests.{leb-true, leb-false}
 use Rattle.run_event.proofs.run.judge_run.Statement.{statement}

@@ -5,8 +5,8 @@ use mathlib.Core.Path.{sym, subst, ◌∙◌}
 use lib.ListN.{length}
 use Rattle.rules.specs.Tree.{kinds}
 use Rattle.policy.specs.Contract.{worker_limit}
-use Rattle.policy.specs.Laws.Workers.{limit-below}
-use Rattle.run_spec.specs.Laws.Stealing.{judged-thief, judged-victim, judged-long, judged-busy, judged-idle}
+use Rattle.policy.proofs.Laws.Workers.{limit-below}
+use Rattle.run_spec.proofs.Laws.Stealing.{judged-thief, judged-victim, judged-long, judged-busy, judged-idle}
 use borrow.Author.Rules.{rules}
 use borrow.Author.Tests.{leb-true, leb-false}
 use Rattle.run_event.proofs.steal.judge_steal.Statement.{statement}

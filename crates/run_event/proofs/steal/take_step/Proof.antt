@@ -8,9 +8,9 @@ use native.Mathlib.Omega.{arith}
 use lib.ListN.{length}
 use Rattle.rules.specs.Tree.{kinds}
 use Rattle.run_spec.specs.Deques.{oldest_mark, found_of, robbed}
-use Rattle.run_spec.specs.Laws.Marks.{found_at, found_nothing, oldest_before}
-use Rattle.policy.specs.Laws.Parts.{pushes_most}
-use Rattle.run_spec.specs.Laws.Stealing.{takes_nothing, takes_step}
+use Rattle.run_spec.proofs.Laws.Marks.{found_at, found_nothing, oldest_before}
+use Rattle.policy.proofs.Laws.Parts.{pushes_most}
+use Rattle.run_spec.proofs.Laws.Stealing.{takes_nothing, takes_step}
 use borrow.Author.Rules.{rules}
 use Rattle.run_event.proofs.steal.take_step.Statement.{statement}
 use Rattle.run_event.proofs.steal.take_step.Tie as tie

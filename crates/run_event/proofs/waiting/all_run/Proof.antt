@@ -2,7 +2,7 @@
 -- 0. A block has no more steps than the count has room for. Assumes nothing.
 use Prim.Native.Nat.{◌-◌}
 use native.Mathlib.Omega.{arith}
-use Rattle.run_spec.specs.Laws.Waiting.{Counted, counted_start, counted-unrun, counted-run, counted-done}
+use Rattle.run_spec.proofs.Laws.Waiting.{Counted, counted_start, counted-unrun, counted-run, counted-done}
 use Rattle.run_event.proofs.waiting.all_run.Statement.{statement}
 use Rattle.run_event.proofs.waiting.all_run.Tie as tie
 

@@ -6,7 +6,7 @@ use mathlib.Core.Option.{Option}
 use Rattle.rules.specs.Tree.{kinds}
 use Rattle.run_spec.specs.declared.Found.{Found}
 use Rattle.run_spec.specs.Deques.{found_of}
-use Rattle.run_spec.specs.Laws.Waiting.{awaits-found, awaits-nothing}
+use Rattle.run_spec.proofs.Laws.Waiting.{awaits-found, awaits-nothing}
 use borrow.Author.Rules.{rules}
 use Rattle.run_event.proofs.waiting.awaits.Statement.{statement}
 use Rattle.run_event.proofs.waiting.awaits.Tie as tie

@@ -6,8 +6,8 @@ use mathlib.Core.Option.{Option}
 use native.Mathlib.Omega.{arith}
 use Rattle.run_spec.specs.declared.Found.{Found}
 use Rattle.run_spec.specs.Deques.{unrun_mark, newest_mark, found_of}
-use Rattle.run_spec.specs.Laws.Marks.{newest_end}
-use Rattle.run_spec.specs.Laws.Waiting.{block_run, block_unrun}
+use Rattle.run_spec.proofs.Laws.Marks.{newest_end}
+use Rattle.run_spec.proofs.Laws.Waiting.{block_run, block_unrun}
 use Rattle.run_event.proofs.waiting.last_unrun.Statement.{statement}
 use Rattle.run_event.proofs.waiting.last_unrun.Tie as tie
 

@@ -1,7 +1,7 @@
 -- `run_state::RunState::run` meets its contract: it lends its arrays to `run_event::run_on` and stores back those that a run
 -- changes, so the next state has the fields that the run leaves; of the empty tables that it lends nothing is asked. Assumes
 -- nothing.
-use Rattle.run_spec.specs.Laws.Moves.{no_hints}
+use Rattle.run_spec.proofs.Laws.Moves.{no_hints}
 use Rattle.run_state.specs.Laws.Cases.{run_answers}
 use Rattle.run_state.proofs.RunState.run.Statement.{statement}
 use Rattle.run_state.proofs.RunState.run.Tie as tie

@@ -7,9 +7,9 @@ use native.Mathlib.Omega.{arith}
 use lib.ListN.{length}
 use borrow.Author.Rules.{rules}
 use Rattle.rules.specs.Tree.{kinds}
-use Rattle.run_spec.specs.Laws.Moves.{fresh_arrays}
+use Rattle.run_spec.proofs.Laws.Moves.{fresh_arrays}
 use Rattle.schedule_turn.specs.Terms.{arrays_of}
-use Rattle.schedule_turn.specs.Laws.Listing.{few_events}
+use Rattle.schedule_turn.proofs.Laws.Listing.{few_events}
 use Rattle.schedule.specs.Terms.{Underway}
 use Rattle.schedule.specs.Laws.Rounding.{making_begins, making_standing, making-falls, making-goes-on, making_ends}
 use Rattle.schedule.proofs.rounds.make_events.Statement.{statement}

@@ -4,8 +4,8 @@ use Rattle.std.proofs.Common.{sym, refl, ◌∙◌, arith, rules}
 use Rattle.rules.specs.Tree.{kinds, finish_before}
 use Rattle.tree.specs.Laws.Highest.{Highest, highest-is}
 use Rattle.run_spec.specs.Deques.{unrun_mark, marked, newest_mark}
-use Rattle.run_spec.specs.Laws.Marks.{found_at}
-use Rattle.run_spec.specs.Laws.Waiting.{child-found}
+use Rattle.run_spec.proofs.Laws.Marks.{found_at}
+use Rattle.run_spec.proofs.Laws.Waiting.{child-found}
 use Rattle.schedule_turn.proofs.waiting.awaited_before.Statement.{statement}
 use Rattle.schedule_turn.proofs.waiting.awaited_before.Tie as tie
 

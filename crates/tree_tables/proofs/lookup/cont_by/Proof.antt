@@ -4,7 +4,7 @@ use mathlib.Core.Path.{◌∙◌}
 use native.Mathlib.Omega.{arith}
 use lib.ListN.{length}
 use Rattle.rules.specs.Tree.{kinds}
-use Rattle.tree_tables.specs.Laws.Lookup.{cont-looked}
+use Rattle.tree_tables.proofs.Laws.Lookup.{cont-looked}
 use borrow.Author.Rules.{rules}
 use Rattle.tree_tables.proofs.lookup.cont_by.Statement.{statement}
 use Rattle.tree_tables.proofs.lookup.cont_by.Tie as tie

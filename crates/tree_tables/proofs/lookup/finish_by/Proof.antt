@@ -6,7 +6,7 @@ use native.Mathlib.Omega.{arith}
 use Rattle.rules.specs.Tree.{kinds}
 use Rattle.tree_scan.specs.Laws.Steps.{child-none, finish_first, finish-open}
 use Rattle.tree_tables.specs.Terms.{Opener}
-use Rattle.tree_tables.specs.Laws.Lookup.{finish_other, finish_opened}
+use Rattle.tree_tables.proofs.Laws.Lookup.{finish_other, finish_opened}
 use borrow.Author.Rules.{rules}
 use Rattle.tree_tables.proofs.lookup.finish_by.Statement.{statement}
 use Rattle.tree_tables.proofs.lookup.finish_by.Tie as tie

@@ -7,7 +7,7 @@ use borrow.Author.Rules.{rules}
 use Rattle.rules.specs.Tree.{kinds, classes, weights}
 use Rattle.tree.specs.Laws.Records.{length-kinds, length_paired}
 use Rattle.tree_tables.specs.Terms.{weight_before}
-use Rattle.tree_tables.specs.Laws.Charging.{zeros-all, sum_zeros}
+use Rattle.tree_tables.proofs.Laws.Charging.{zeros-all, sum_zeros}
 use Rattle.tree_tables.proofs.sums.add_up.Statement.{statement}
 use Rattle.tree_tables.proofs.sums.add_up.Tie as tie
 

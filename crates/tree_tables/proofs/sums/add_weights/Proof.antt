@@ -9,7 +9,7 @@ use Rattle.rules.specs.Bytes.{count, sum}
 use Rattle.rules.specs.Tree.{kinds, classes, weights}
 use Rattle.tree.specs.Laws.Records.{length-kinds}
 use Rattle.tree_tables.specs.Terms.{weight_before}
-use Rattle.tree_tables.specs.Laws.Filling.{weight-step, Added, add_start, add_turn, added-all}
+use Rattle.tree_tables.proofs.Laws.Filling.{weight-step, Added, add_start, add_turn, added-all}
 use Rattle.tree_tables.proofs.sums.add_weights.Statement.{statement}
 use Rattle.tree_tables.proofs.sums.add_weights.Tie as tie
 

@@ -6,7 +6,7 @@ use native.Mathlib.Omega.{arith}
 use lib.ListN.{length}
 use Rattle.rules.specs.Tree.{kinds, classes, weights}
 use Rattle.tree.specs.Laws.Records.{length-kinds, length_paired}
-use Rattle.tree_tables.specs.Laws.Charging.{Charged, charge_start, charge-turn, charged_all}
+use Rattle.tree_tables.proofs.Laws.Charging.{Charged, charge_start, charge-turn, charged_all}
 use Rattle.tree_tables.proofs.sums.charge.Statement.{statement}
 use Rattle.tree_tables.proofs.sums.charge.Tie as tie
 

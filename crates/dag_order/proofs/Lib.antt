@@ -1,0 +1,5 @@
+-- What is proved of the definitions in specs.
+--     Theorem    the claim, for every accepted tree (to be read)
+--     Laws       its proof
+pub mod Theorem
+pub mod Laws
