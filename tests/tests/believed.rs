@@ -60,14 +60,16 @@ fn files(folder: &str) -> Vec<String> {
 
 // ---- Imports ----
 
-/// The page of `CRATE.specs.Page`. None for a type that is declared in code, and for what the language's library has.
+/// The page of `CRATE.specs.Page` or `CRATE.proofs.Page`. None for a type that is declared in code, and for what the language's library has.
 fn page(import: &str) -> Option<String> {
     let (of, place) = import.split_once('.').unwrap_or_else(|| panic!("{import} has no page"));
     if LIBRARIES.contains(&of) {
         return None;
     }
-    let place = place.strip_prefix("specs.").unwrap_or_else(|| panic!("{import} is no page of definitions"));
-    (!place.starts_with("declared.")).then(|| format!("crates/{of}/specs/{}.antt", place.replace('.', "/")))
+    let kind = ["specs", "proofs"].into_iter().find(|kind| place.starts_with(&format!("{kind}.")));
+    let kind = kind.unwrap_or_else(|| panic!("{import} is no page of definitions or proofs"));
+    let place = &place[kind.len() + 1..];
+    (!place.starts_with("declared.")).then(|| format!("crates/{of}/{kind}/{}.antt", place.replace('.', "/")))
 }
 
 /// The pages that a text imports, each with the names that it has from there.
@@ -160,10 +162,10 @@ fn statements(whole: &str) -> Vec<String> {
 /// The pages with several theorems: demand 3, the worker count and the classes; one addition to a histogram, and a list of them;
 /// progress of a state with the invariant, and of one that events lead to. Every other has one.
 const SEVERAL: [(&str, usize); 4] = [
-    ("crates/agreement/specs/Theorem.antt", 3),
-    ("crates/histogram_invariant/specs/Theorem.antt", 2),
-    ("crates/run_progress/specs/Theorem.antt", 2),
-    ("crates/run_refinement/specs/Theorem.antt", 2),
+    ("crates/agreement/proofs/Theorem.antt", 3),
+    ("crates/histogram_invariant/proofs/Theorem.antt", 2),
+    ("crates/run_progress/proofs/Theorem.antt", 2),
+    ("crates/run_refinement/proofs/Theorem.antt", 2),
 ];
 
 /// Every page to be believed, with what names it: an entry, a theorem or another page.
@@ -176,7 +178,7 @@ fn believed() -> BTreeMap<String, String> {
             from.extend(pages.into_iter().map(|page| (page, format!("{source}, {name}"))));
         }
     }
-    let theorems: Vec<String> = files("crates").into_iter().filter(|name| name.ends_with("/specs/Theorem.antt")).collect();
+    let theorems: Vec<String> = files("crates").into_iter().filter(|name| name.ends_with("/proofs/Theorem.antt")).collect();
     assert_eq!(theorems.len(), 10, "{theorems:#?}");
     for theorem in theorems {
         let whole = text(&theorem, "--");
@@ -216,7 +218,7 @@ fn believed_pages_by_name() {
     let pages = believed();
     for (page, from) in &pages {
         let name = page.rsplit('/').next().expect("a path ends");
-        assert!(!page.contains("/Laws/") && name != "Laws.antt" && name != "Terms.antt", "{page} is named by {from}");
+        assert!(!page.contains("/Laws/") && !page.contains("/proofs/") && name != "Laws.antt" && name != "Terms.antt", "{page} is named by {from}");
     }
     for page in files("crates").into_iter().filter(|name| name.ends_with("/Contract.antt")) {
         assert!(pages.contains_key(&page), "no promise names {page}");
@@ -243,7 +245,7 @@ fn contracts_name_no_law() {
     assert!(sources.len() > 30, "{sources:#?}");
     for source in sources {
         for (page, names) in imports(&text(&source, "//")) {
-            assert!(!page.contains("/Laws/"), "{source} has {names:?} from {page}");
+            assert!(!page.contains("/Laws/") && !page.contains("/proofs/"), "{source} has {names:?} from {page}");
         }
     }
 }

@@ -1,2 +1,2 @@
-// The live run and the replay of its trace have the same phases: a theorem in specs/. No code.
+// The live run and the replay of its trace have the same phases: theorems in proofs/. No code.
 #![tactic(auto)]

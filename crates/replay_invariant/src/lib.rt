@@ -1,2 +1,2 @@
-// What is so of every trace that replay accepts, as theorems in specs/. No code.
+// What is so of every trace that replay accepts, as theorems in proofs/. No code.
 #![tactic(auto)]

@@ -1,3 +1,3 @@
-// A run never gets stuck: in every state that events lead to, unless every step has run, some worker may run. Theorems in `specs`
-// alone, no code.
+// A run never gets stuck: in every state that events lead to, unless every step has run, some worker may run. Statements in
+// `specs`, theorems in `proofs`, no code.
 #![tactic(auto)]
