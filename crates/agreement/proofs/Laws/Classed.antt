@@ -39,7 +39,7 @@ use Rattle.record.specs.Laws.Cases.{accepts-both}
 use Rattle.replay_walk.specs.Laws.Retracing.{split-whole}
 use Rattle.agreement.specs.StepClasses.{formerly_formed, former_judge, former_walk, former_verdict, together, own_loads}
 use Rattle.agreement.specs.StepClasses.{recorded_else, replayed_else, Alike, StepClasses}
-use Rattle.agreement.proofs.Laws.Folds.{folded}
+use Rattle.agreement.proofs.Laws.Folded.{folded}
 use Rattle.agreement.proofs.Laws.Counted.{told, recording, recorded, record-told, replaying, replayed, replay-told}
 
 -- ---- condition 3

@@ -19,7 +19,8 @@ use Rattle.run_invariant.proofs.Laws.Always.{always}
 use Rattle.run_invariant.proofs.Laws.Consequences.{runs_most, steals_most}
 use Rattle.arguments.specs.Terms.{too_short}
 use Rattle.record.specs.Laws.Cases.{Ready, record-event, record-all}
-use Rattle.agreement.proofs.Laws.Folds.{AcceptedTo, accepted_walks, refused_walks, walk_folds, counts}
+use Rattle.agreement.proofs.Laws.Folds.{AcceptedTo, accepted_walks, refused_walks, counts}
+use Rattle.agreement.proofs.Laws.Folded.{walk_folds}
 use Rattle.run_spec.specs.declared.Event.{Event}
 use Rattle.agreement.specs.Agreement.{event_bytes}
 use Rattle.agreement.proofs.Laws.Live.{pair, event_records}

@@ -14,7 +14,8 @@ use Rattle.rules_histogram.specs.Histograms.{most_traces, Histogram, empty, Adde
 use Rattle.run_invariant.proofs.Laws.Weights.{sum_append}
 use Rattle.run_invariant.proofs.Laws.Moves.{sum_replicate, get_or_alike}
 use Rattle.histogram_invariant.specs.Totals.{Call, phases, loads_of, accepts, called, after_calls, answers, loads_added, Totals}
-use Rattle.histogram_invariant.proofs.Laws.Loads.{total, goes_to, loads-length, loads-total, loads_each, loads_wrap}
+use Rattle.histogram_invariant.proofs.Laws.Loads.{total, goes_to, loads-length, loads-total, loads_each}
+use Rattle.histogram_invariant.proofs.Laws.Wraps.{loads_wrap}
 use Rattle.histogram_invariant.proofs.Laws.Calls.{judged, loads_few, no_room, refused_alike, refused_full, trace_added}
 use Rattle.histogram_invariant.proofs.Laws.Calls.{by_cases}
 

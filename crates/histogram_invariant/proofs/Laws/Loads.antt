@@ -24,7 +24,7 @@ abbrev pub goes_to : ℕ → ℕ → ℕ
 goes_to b load = cond (eqb (place load) b) 1 0
 
 module _ (more : ℕ → ℕ) where
-  load-length : (counts : List ℕ) (load : ℕ) → length (add_load more counts load) ≡ length counts
+  pub load-length : (counts : List ℕ) (load : ℕ) → length (add_load more counts load) ≡ length counts
   unfolding add_load
   load-length counts load = simp length-set
 
@@ -39,7 +39,7 @@ module _ (counts : List ℕ) (load : ℕ) (size : length counts ≡ bucket_count
   within : place load < length counts
   within = rw size (limits_rule.within load)
 
-  load-total : total (add_load suc counts load) ≡ suc (total counts)
+  pub load-total : total (add_load suc counts load) ≡ suc (total counts)
   unfolding add_load
   load-total = omega (arith, sum_set (λ (count : ℕ). count) counts (place load) (suc (get_or counts (place load) 0)) 0 within)
 
@@ -53,7 +53,7 @@ module _ (counts : List ℕ) (load : ℕ) (size : length counts ≡ bucket_count
         | no n ↦ rw (get_or-set_other counts k b next 0 (λ e. n (sym e)), ne_eqb k b n) (omega arith)
       ]
 
-  load_wraps : total counts < 4294967295 → add_load wrapping counts load ≡ add_load suc counts load
+  pub load_wraps : total counts < 4294967295 → add_load wrapping counts load ≡ add_load suc counts load
   unfolding add_load wrapping
   load_wraps few =
       let k = place load in
@@ -76,12 +76,3 @@ unfolding add_loads sum
 loads_each [] counts size b = omega arith
 loads_each (load ∷ loads) counts size b =
     omega (arith, loads_each loads (add_load suc counts load) (load-length suc counts load ∙ size) b, load_each counts load size b)
-
-pub loads_wrap : (loads counts : List ℕ) → length counts ≡ bucket_count → total counts + length loads < 4294967296
-    → add_loads wrapping counts loads ≡ add_loads suc counts loads
-unfolding add_loads
-loads_wrap [] counts size few = refl
-loads_wrap (load ∷ loads) counts size few =
-    let next = add_load suc counts load in
-    rw (load_wraps counts load size (omega arith))
-    (loads_wrap loads next (load-length suc counts load ∙ size) (omega (arith, load-total counts load size)))

@@ -24,6 +24,7 @@ use Rattle.run_invariant.proofs.Laws.Counts.{any_one, any_sum, sum_plus}
 use Rattle.run_invariant.proofs.Laws.Weights.{span, end_within}
 use Rattle.run_invariant.proofs.Laws.Moves.{sum_one, sum_set, robbed}
 use Rattle.loads.specs.Terms.{weight_between, Movable, load_moved, Whole}
+use Rattle.loads.proofs.Laws.Takes.{Takes}
 
 -- ---- sums
 
@@ -228,17 +229,6 @@ module _ (ks : List ℕ) (some-step : 1 ≤ length ks) (sh : Shape (length ks) (
   pub start-whole : Whole ks first_phases
   unfolding first_phases sum
   start-whole ws = omega (arith, first_load ws)
-
--- Worker t takes step o from phase k, which is worker v's.
-pub record Takes (ks : List ℕ) (phs : List Phase) (t k v o : ℕ) : Type 0 where
-  pub begun : k < length phs
-  pub own : (phase_at phs k).worker ≡ v
-  pub other : t ≡ v → ⊥
-  pub thief : t < most_workers
-  pub victim : v < most_workers
-  pub within : o < length ks
-  -- The parts stolen from the phase before and the part taken now are apart, and inside the part from its first step.
-  pub apart : (j : ℕ) → sum (span ks j) (phase_at phs k).stolen + span ks j o ≤ span ks j (phase_at phs k).first
 
 -- A part goes from one phase to another, so all loads together stay what they were.
 pub begin-whole : (ks : List ℕ) {phs : List Phase} {t k v o : ℕ} → Takes ks phs t k v o → Whole ks phs → Whole ks (begin phs t k o)

@@ -40,7 +40,8 @@ use Rattle.run_refinement.proofs.Laws.Events.{start-shows, event_tells, event_sh
 use Rattle.buffers.specs.Terms.{record_put}
 use Rattle.buffers.specs.Laws.Records.{length-entries, entries-one, length_trace, trace_one, put-length, put_front}
 use Rattle.loads.specs.Terms.{Movable, load_moved, Whole}
-use Rattle.loads.proofs.Laws.Loads.{part_weight, start-loads, start-whole, Takes, begin-loads, begin-whole, begin_movable}
+use Rattle.loads.proofs.Laws.Loads.{part_weight, start-loads, start-whole, begin-loads, begin-whole, begin_movable}
+use Rattle.loads.proofs.Laws.Takes.{Takes}
 use Rattle.record_walk.specs.Terms.{Front}
 
 -- After the first k events, none of them refused: the rules' run and the state that shows it, and log, trace and loads so far.

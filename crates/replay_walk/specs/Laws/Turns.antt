@@ -29,7 +29,8 @@ use Rattle.policy.specs.Contract.{most_phases}
 use Rattle.replay_spec.specs.Begins.{bases_begun, ordinals_begun}
 use Rattle.replay_spec.proofs.Laws.Reading.{opener_parts, read-allowed, read-broken}
 use Rattle.loads.specs.Terms.{load_moved, weight_between, Movable}
-use Rattle.loads.proofs.Laws.Loads.{Takes, part_between, begin-loads, begin_movable}
+use Rattle.loads.proofs.Laws.Loads.{part_between, begin-loads, begin_movable}
+use Rattle.loads.proofs.Laws.Takes.{Takes}
 use Rattle.trace.specs.Contract.{number_by}
 use Rattle.trace.specs.declared.number.TraceNumber.{TraceNumber}
 use Rattle.trace.specs.Terms.{RecordAt}

@@ -18,20 +18,10 @@ use Rattle.run_invariant.specs.Invariant.{Chain}
 use Rattle.run_invariant.proofs.Laws.Counts.{some_fails}
 use Rattle.run_invariant.proofs.Laws.Weights.{span, span-inside, cont-inside, pushes-inside, nested_end, child_shared}
 use Rattle.run_invariant.proofs.Laws.Phase.{finish_pushes, held_within}
+use Rattle.run_progress.proofs.Laws.Blocked.{Blocked}
 use Rattle.run_invariant.proofs.Laws.Waiting.{finish_opens, waits_finish, first_never_waits, child_never_waits, async_never_waits}
 
 -- ---- what a step waits for
-
--- Step i follows the finish child that step `opener` opens, and of the steps between them `unrun` has not run.
-pub record Blocked (ks : List ℕ) (log : List Entry) (i : ℕ) : Type 0 where
-  pub opener : ℕ
-  pub within : opener < length ks
-  pub finish : is_finish (kind_at ks opener) ≡ true
-  pub follows : i ≡ cont ks opener
-  pub unrun : ℕ
-  pub past : opener < unrun
-  pub before : unrun < i
-  pub not_yet : has_run log unrun ≡ false
 
 module _ (ks : List ℕ) (sh : Shape (length ks) (end_at ks) (size_at ks)) (log : List Entry) where
   -- A continuation waits only where its child is a finish child, and while not all of that child has run.
