@@ -264,9 +264,17 @@ fn ended(child: Child) -> Ended {
     (output.status.code(), text(&output.stdout), text(&output.stderr))
 }
 
+impl Drop for Scene {
+    fn drop(&mut self) {
+        // If it cannot be removed, it stays.
+        let _ = fs::remove_dir_all(&self.0);
+    }
+}
+
 impl Scene {
+    /// Outside of the checkout, below whose top the gate refuses another crates.txt and links.
     fn new(name: &str, rt: &str) -> Scene {
-        let scene = Scene(folder(name));
+        let scene = Scene(std::env::temp_dir().join(format!("first_commands-{}-{name}", std::process::id())));
         for folder in ["bin", "tools", "crates/one/src", "crates/phases/src"] {
             fs::create_dir_all(scene.0.join(folder)).expect("the folder can be made");
         }
