@@ -6,7 +6,8 @@ ghost use Rattle.std.specs.Prelude.{◌≡◌, get_or};
 ghost use Rattle.rules.specs.Tree.{kinds, classes, weights, kind_at, cont, finish_before};
 ghost use Rattle.tree.specs.Contract.{acceptance};
 ghost use Rattle.policy.specs.Contract.{running_of};
-ghost use Rattle.tree_scan.specs.Contract.{task_of, child_of};
+ghost use Rattle.tree.specs.Steps.{maybe_step};
+ghost use Rattle.tree_scan.specs.Contract.{task_of};
 ghost use Rattle.frame_tree.specs.Contract.{flat_tree, flat_task, flat_child, flat_running};
 
 use tree::Step;
@@ -89,11 +90,11 @@ pub extern "C" fn frame_task(tree: &[u8], step: usize) -> FrameTask
 // The first step of the finish child whose end stands just before a step, 0 for none.
 #[unsafe(no_mangle)]
 pub extern "C" fn frame_finish_before(tree: &[u8], step: usize) -> usize
-    ensures { result ≡ flat_child (child_of (finish_before (kinds tree.now) step)) }
+    ensures { result ≡ flat_child (maybe_step (finish_before (kinds tree.now) step)) }
 {
     match tree_scan::children::finish_before(tree, Step(step)) {
-        tree_scan::FinishChild::From(first) => first.0,
-        tree_scan::FinishChild::Nothing => 0,
+        Some(first) => first.0,
+        None => 0,
     }
 }
 

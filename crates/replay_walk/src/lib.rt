@@ -14,7 +14,7 @@ ghost use Rattle.policy.specs.Contract.{most_phases};
 ghost use Rattle.replay_walk.specs.Terms.{Retraced};
 
 use policy::{MOST_PHASES, Setup, WORKERS};
-use replay_spec::{Begun, NO_PHASE, Named};
+use replay_spec::{Begun, NO_PHASE};
 use tree::Phase;
 use tree_tables::wide;
 
@@ -91,7 +91,7 @@ pub fn walk(
         match replay_steal::read_steal(
             tree, ends, openers, labels, &bases, &ordinals, phase, number,
         ) {
-            Named::At(step) => {
+            Some(step) => {
                 replay_steal::phase::begin(
                     openers,
                     labels,
@@ -109,7 +109,7 @@ pub fn walk(
                 );
                 loads::move_part(ends, sums, &mut loads, thief, victim, step);
             }
-            Named::Nothing => {
+            None => {
                 return refused(15, at);
             }
         }

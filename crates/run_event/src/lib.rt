@@ -18,7 +18,7 @@ ghost use Rattle.run_spec.specs.Moves.{fields_of, move_of, run_move, steal_move,
 ghost use Rattle.run_spec.specs.Terms.{Hints};
 
 use policy::{MOST_PHASES, Setup, WORKERS};
-use run_spec::{Event, Outcome, Taken};
+use run_spec::{Event, Outcome};
 use tree::{MOST_STEPS, Ordinal, Phase, Step};
 use tree_tables::wide;
 
@@ -100,7 +100,7 @@ pub fn steal_on(
     let from = Step(wide(low[v]));
     let ordinal = Ordinal(wide(base[v]));
     match steal::take_step(tree, ends, place, setup.policy, victim, from, ordinal) {
-        Taken::Of(stolen) => {
+        Some(stolen) => {
             let begun = steals % MOST_PHASES as u16 + 1;
             steal::settle(
                 held,
@@ -121,7 +121,7 @@ pub fn steal_on(
                 steals: begun,
             }
         }
-        Taken::Nothing => refused(12, steals),
+        None => refused(12, steals),
     }
 }
 

@@ -9,7 +9,7 @@ ghost use Rattle.run_spec.specs.Running.{run_number, held_next, place_next};
 
 use super::waiting::{awaits, may_wait};
 use policy::WORKERS;
-use run_spec::{Found, NO_STEP};
+use run_spec::NO_STEP;
 use tree::{END, MOST_STEPS, Step};
 use tree_tables::wide;
 
@@ -43,8 +43,8 @@ pub fn judge_run(
         return 0;
     }
     match awaits(tree, openers, place, Step(i)) {
-        Found::At(unrun) => 10,
-        Found::Nothing => 0,
+        Some(unrun) => 10,
+        None => 0,
     }
 }
 
@@ -71,10 +71,10 @@ pub fn advance(
         return held.0 as u16;
     }
     match run_deques::pop(openers, place, worker, low, step) {
-        Found::At(q) => {
+        Some(q) => {
             let held = policy::pushed_by(tree, ends, policy, q);
             held.0 as u16
         }
-        Found::Nothing => NO_STEP,
+        None => NO_STEP,
     }
 }

@@ -10,7 +10,7 @@ ghost use Rattle.run_spec.specs.Terms.{Small};
 ghost use Rattle.run_spec.specs.declared.Taken.TheVariants.{Of};
 
 use policy::WORKERS;
-use run_spec::{Found, Stolen, Taken};
+use run_spec::Stolen;
 use tree::{MOST_STEPS, Ordinal, Phase, Step};
 use tree_tables::wide;
 
@@ -44,7 +44,7 @@ pub fn take_step(
     victim: u8,
     low: Step,
     base: Ordinal,
-) -> Taken
+) -> Option<Stolen>
     requires { (length (kinds tree.now) ≤ most_steps) × Ends (kinds tree.now) ends.now (length ends.now) }
     ensures gives { let ks = kinds tree.now in
         result ≡ taken_of policy ks base.0 low.0 (oldest_mark place.old victim low.0 (length ks)) }
@@ -53,16 +53,16 @@ pub fn take_step(
 {
     let n = tree::steps(tree);
     match run_deques::take(place, victim, low, n) {
-        Found::At(pusher) => {
+        Some(pusher) => {
             let step = policy::pushed_by(tree, ends, policy, pusher);
             let ordinal = super::ordinal::ordinal_from(tree, policy, base, low, pusher);
-            Taken::Of(Stolen {
+            Some(Stolen {
                 pusher,
                 step,
                 ordinal,
             })
         }
-        Found::Nothing => Taken::Nothing,
+        None => None,
     }
 }
 

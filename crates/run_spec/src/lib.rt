@@ -16,26 +16,12 @@ pub struct Event {
     pub second: u8,
 }
 
-// The step that was looked for, or none: the pusher of a step of a deque, or a step that has not run.
-#[derive(Clone, Copy)]
-pub enum Found {
-    At(Step),
-    Nothing,
-}
-
 // A stolen step with the step that pushed it and, work-first, its ordinal.
 #[derive(Clone, Copy)]
 pub struct Stolen {
     pub pusher: Step,
     pub step: Step,
     pub ordinal: Ordinal,
-}
-
-// What a steal takes from a deque: its oldest step, or nothing.
-#[derive(Clone, Copy)]
-pub enum Taken {
-    Of(Stolen),
-    Nothing,
 }
 
 // What an event did: the phase and the step that it ran, or the trace number of the step that it stole, or its refusal, whose

@@ -6,9 +6,8 @@ ghost use Rattle.tree_tables.specs.Terms.{Openers};
 ghost use Rattle.schedule_turn.specs.Terms.{Noted, unrun_still};
 
 use run_deques::NOT_RUN;
-use run_spec::{Found, NO_STEP};
+use run_spec::NO_STEP;
 use tree::{MOST_STEPS, Step};
-use tree_scan::FinishChild;
 use tree_tables::lookup::finish_by;
 
 // A step that a held step waits for, the highest before step `end`, or NO_STEP: where there is none, where `end` is no step, as for a
@@ -33,11 +32,11 @@ pub fn awaited_before(
         return NO_STEP;
     }
     match finish_by(tree, openers, step) {
-        FinishChild::From(first) => match run_event::waiting::last_unrun(place, first, end) {
-            Found::At(unrun) => unrun.0 as u16,
-            Found::Nothing => NO_STEP,
+        Some(first) => match run_event::waiting::last_unrun(place, first, end) {
+            Some(unrun) => unrun.0 as u16,
+            None => NO_STEP,
         },
-        FinishChild::Nothing => NO_STEP,
+        None => NO_STEP,
     }
 }
 

@@ -10,13 +10,6 @@ ghost use Rattle.tree_scan.specs.Contract.{task_of};
 
 use tree::{END, Ordinal, Step, TREE_RECORD};
 
-// A finish child by its first step, or none.
-#[derive(Clone, Copy)]
-pub enum FinishChild {
-    From(Step),
-    Nothing,
-}
-
 // The task of a step, named by its first step, and the step's ordinal in it.
 #[derive(Clone, Copy)]
 pub struct Task {

@@ -15,12 +15,12 @@ enum_known-first c = search rules
 enum_told-1 : tie.Need-enum_told-1
 enum_told-1 c = search rules
 
-returns-in-From : tie.Need-returns-in-From
-returns-in-From c = ap flat_child (sym c.in-From.is ∙ c.finish_before.ensures)
+returns-in-Some : tie.Need-returns-in-Some
+returns-in-Some c = ap flat_child (sym c.in-Some.is ∙ c.finish_before.ensures)
 
-returns-in-Nothing : tie.Need-returns-in-Nothing
-returns-in-Nothing c = ap flat_child (sym c.in-Nothing.is ∙ c.finish_before.ensures)
+returns-in-None : tie.Need-returns-in-None
+returns-in-None c = ap flat_child (sym c.in-None.is ∙ c.finish_before.ensures)
 
 pub frame_finish_before_spec : {M : Type 1} → statement M
 frame_finish_before_spec =
-    tie.close (tie.spec finish_before-requires enum_known-first enum_told-1 returns-in-From returns-in-Nothing)
+    tie.close (tie.spec finish_before-requires enum_known-first enum_told-1 returns-in-Some returns-in-None)

@@ -1,5 +1,7 @@
 -- `replay_steal::read_steal` meets its contract: the step that the number names is a step of the tree, so it has a label, and
 -- the labels tell whether it can be stolen from the phase. Assumes nothing.
+use Rattle.std.specs.Prelude.{Some}
+use Rattle.tree.specs.Steps.{maybe_step}
 use Prim.Native.Nat.{ℕ, ◌<◌}
 use mathlib.Core.Path.{◌≡◌, sym, ap, ◌∙◌}
 use mathlib.Core.Bool.{not}
@@ -10,8 +12,7 @@ use borrow.Author.Rules.{rules}
 use Rattle.rules.specs.Tree.{kinds}
 use Rattle.tree.specs.declared.Step.{Step}
 use Rattle.tree_scan.specs.Laws.Frames.{accepted-frame}
-use Rattle.replay_spec.specs.declared.Named.TheVariants.{At}
-use Rattle.replay_spec.specs.Naming.{named_of, step_named}
+use Rattle.replay_spec.specs.Naming.{step_named}
 use Rattle.replay_spec.proofs.Laws.Naming.{step_within}
 use Rattle.replay_spec.proofs.Laws.Taking.{table_upward, named_some, read_unnamed, read-elsewhere, read-there}
 use Rattle.replay_steal.proofs.read_steal.Statement.{statement}
@@ -27,7 +28,7 @@ asked c =
     let a = (entry c).args in
     step_named (kinds a.tree.now) (get_or a.bases.now a.phase.0 0) (get_or a.ordinals.now a.phase.0 0) a.number
 
-answer : (c : tie.After-step_named) → c.step_named.result ≡ named_of (asked c)
+answer : (c : tie.After-step_named) → c.step_named.result ≡ maybe_step (asked c)
 answer c =
     let ordinal = c.wide-2.ensures in
     let base = c.wide.ensures in
@@ -35,17 +36,17 @@ answer c =
 
 -- ---- where it names one
 
-abbrev naming : tie.In-At → tie.After-step_named
+abbrev naming : tie.In-Some → tie.After-step_named
 naming c = c.before
 
-abbrev step : tie.In-At → Step
-step c = c.in-At.step
+abbrev step : tie.In-Some → Step
+step c = c.in-Some.step
 
-found : (c : tie.In-At) → named_of (asked (naming c)) ≡ At (step c)
-found c = sym (answer (naming c)) ∙ c.in-At.is
+found : (c : tie.In-Some) → maybe_step (asked (naming c)) ≡ Some (step c)
+found c = sym (answer (naming c)) ∙ c.in-Some.is
 
 -- It is a step of the tree, so it has a label.
-within : (c : tie.In-At) → (step c).0 < length (kinds (entry (naming c)).args.tree.now)
+within : (c : tie.In-Some) → (step c).0 < length (kinds (entry (naming c)).args.tree.now)
 within c =
     let start = entry (naming c) in
     let a = start.args in
@@ -54,7 +55,7 @@ within c =
     (named_some (asked (naming c)) (step c) (found c))
 
 -- The labels have been asked.
-abbrev told : tie.After-slice_known-in-At-1 → tie.In-At
+abbrev told : tie.After-slice_known-in-Some-1 → tie.In-Some
 told c = c.before.before.before.before
 
 -- ---- the needs
@@ -120,11 +121,11 @@ returns-else-not-take c =
     read-there a.openers.now a.labels.now (asked (naming at)) a.phase.0 (step at) (found at) take.result
     take.new.labels take.ensures (ap not c.if-not-take.false)
 
-returns-in-Nothing : tie.Need-returns-in-Nothing
-returns-in-Nothing c =
+returns-in-None : tie.Need-returns-in-None
+returns-in-None c =
     let a = (entry c.before).args in
     read_unnamed a.openers.now a.labels.now (asked c.before) a.phase.0 c.step_named.result (answer c.before)
-    c.in-Nothing.is a.labels.now
+    c.in-None.is a.labels.now
 
 pub read_steal_spec : {M : Type 1} → statement M
 read_steal_spec =
@@ -144,4 +145,4 @@ read_steal_spec =
     enum_told-1
     shape_of-labels
     returns-else-not-take
-    returns-in-Nothing)
+    returns-in-None)

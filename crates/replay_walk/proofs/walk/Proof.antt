@@ -73,14 +73,14 @@ abbrev turn : tie.After-labels-in-loop-k-1 invariant-loop-k decreases-loop-k →
 turn c = fine (decoded c)
 
 -- It names a step that can be stolen.
-abbrev told : tie.In-At invariant-loop-k decreases-loop-k → tie.After-labels-in-loop-k-1 invariant-loop-k decreases-loop-k
+abbrev told : tie.In-Some invariant-loop-k decreases-loop-k → tie.After-labels-in-loop-k-1 invariant-loop-k decreases-loop-k
 told c = c.before.before
 
 -- The step's ordinal is known, and the phase has begun with it; the weight has moved.
-abbrev naming : tie.After-ordinal_in invariant-loop-k decreases-loop-k → tie.In-At invariant-loop-k decreases-loop-k
+abbrev naming : tie.After-ordinal_in invariant-loop-k decreases-loop-k → tie.In-Some invariant-loop-k decreases-loop-k
 naming c = c.before.before.before.before.before.before
 
-abbrev begins : tie.After-loads-in-At-1 invariant-loop-k decreases-loop-k → tie.After-begin invariant-loop-k decreases-loop-k
+abbrev begins : tie.After-loads-in-Some-1 invariant-loop-k decreases-loop-k → tie.After-begin invariant-loop-k decreases-loop-k
 begins c = c.before.before.before
 
 -- ---- what is so there
@@ -141,20 +141,20 @@ read c =
       kept = c.labels-in-loop-k-1.given;
     }
 
-abbrev step : tie.In-At invariant-loop-k decreases-loop-k → ℕ
-step c = c.in-At.step.0
+abbrev step : tie.In-Some invariant-loop-k decreases-loop-k → ℕ
+step c = c.in-Some.step.0
 
-given : (c : tie.In-At invariant-loop-k decreases-loop-k)
+given : (c : tie.In-Some invariant-loop-k decreases-loop-k)
     → let a = (entry (start (turn (told c)))).args in
     (step c < length (kinds a.tree.now)) × (get_or a.openers.now (step c) 0 < step c)
     × (length (kinds a.tree.now) ≤ most_steps)
-given c = begin-ready (judged (turn (told c))) (read (told c)) c.in-At.is
+given c = begin-ready (judged (turn (told c))) (read (told c)) c.in-Some.is
 
-movable : (c : tie.In-At invariant-loop-k decreases-loop-k)
+movable : (c : tie.In-Some invariant-loop-k decreases-loop-k)
     → let t = turn (told c) in
     let a = (entry (start t)).args in
     Movable a.ends.now a.sums.now (start t).loop-k.loads (thief t) (victim t) (step c)
-movable c = part-movable (judged (turn (told c))) (read (told c)) c.in-At.is
+movable c = part-movable (judged (turn (told c))) (read (told c)) c.in-Some.is
 
 -- The ordinal that is kept has two bytes, and work-first it is the number.
 own-ordinal : (c : tie.After-ordinal_in invariant-loop-k decreases-loop-k)
@@ -281,22 +281,22 @@ loop-k-preserved c =
     let at = naming begun.before in
     let l = told at in
     let stored = begun.begin.ensures in
-    retrace-begun (judged (turn l)) (read l) at.in-At.is (latest (decoded l)) (own-ordinal begun.before).1
+    retrace-begun (judged (turn l)) (read l) at.in-Some.is (latest (decoded l)) (own-ordinal begun.before).1
     _ _ _ _ _ _ stored.0 stored.1.0 stored.1.1.0 stored.1.1.1.0 stored.1.1.1.1 c.move_part.ensures
 
 enum_told-1 : tie.Need-enum_told-1 invariant-loop-k decreases-loop-k
 enum_told-1 c = search rules
 
-refused-requires-in-Nothing : tie.Need-refused-requires-in-Nothing invariant-loop-k decreases-loop-k
-refused-requires-in-Nothing c κs = search rules
+refused-requires-in-None : tie.Need-refused-requires-in-None invariant-loop-k decreases-loop-k
+refused-requires-in-None c κs = search rules
 
-shape_of-labels-in-Nothing : tie.Need-shape_of-labels-in-Nothing invariant-loop-k decreases-loop-k
-shape_of-labels-in-Nothing c =
+shape_of-labels-in-None : tie.Need-shape_of-labels-in-None invariant-loop-k decreases-loop-k
+shape_of-labels-in-None c =
     (read c.before.before.before).kept ∙ lent-labels (start (turn c.before.before.before))
 
-returns-in-Nothing : tie.Need-returns-in-Nothing invariant-loop-k decreases-loop-k
-returns-in-Nothing c =
-    retrace-broken (judged (turn c.before.before.before)) (read c.before.before.before) c.in-Nothing.is _ c.refused-in-Nothing.ensures
+returns-in-None : tie.Need-returns-in-None invariant-loop-k decreases-loop-k
+returns-in-None c =
+    retrace-broken (judged (turn c.before.before.before)) (read c.before.before.before) c.in-None.is _ c.refused-in-None.ensures
 
 overflow_add-result : tie.Need-overflow_add-result invariant-loop-k decreases-loop-k
 overflow_add-result c =
@@ -340,9 +340,9 @@ walk_spec =
     loop-k-smaller
     loop-k-preserved
     enum_told-1
-    refused-requires-in-Nothing
-    shape_of-labels-in-Nothing
-    returns-in-Nothing
+    refused-requires-in-None
+    shape_of-labels-in-None
+    returns-in-None
     overflow_add-result
     shape_of-labels
     returns)

@@ -1,13 +1,13 @@
 -- `run_event::steal_on` meets its contract: a steal that `judge_steal` refuses stores nothing, and a steal from an empty deque
 -- leaves the places as they were; any other takes the deque's oldest step, tells its trace number and stores it for thief and
 -- victim. Assumes nothing.
+use Rattle.std.specs.Prelude.{Some}
 use Prim.Native.Nat.{ℕ, ◌≤◌, ◌<◌}
 use mathlib.Core.Path.{refl, sym, ap, ◌∙◌}
 use mathlib.Core.List.{List}
 use native.Mathlib.Omega.{arith}
 use lib.ListN.{length}
 use Rattle.rules.specs.Tree.{kinds}
-use Rattle.run_spec.specs.declared.Taken.TheVariants.{Of}
 use Rattle.run_spec.specs.Terms.{Small}
 use Rattle.policy.proofs.Laws.Workers.{limit-below}
 use Rattle.run_spec.proofs.Laws.Stealing.{steal_allowed}
@@ -96,8 +96,8 @@ enum_known-stolen : tie.Need-enum_known-stolen
 enum_known-stolen c = search rules
 
 -- What is taken fits the tables.
-small : (c : tie.In-Of) → Small (Of c.in-Of.stolen)
-small c = rw c.in-Of.is at c.take_step.ensures.1.1
+small : (c : tie.In-Some) → Small (Some c.in-Some.stolen)
+small c = rw c.in-Some.is at c.take_step.ensures.1.1
 
 overflow_cast-begun : tie.Need-overflow_cast-begun
 overflow_cast-begun c = search rules
@@ -108,13 +108,13 @@ nonzero_rem-begun c = search rules
 overflow_add-begun : tie.Need-overflow_add-begun
 overflow_add-begun c = search rules
 
-wide-requires-in-Of : tie.Need-wide-requires-in-Of
-wide-requires-in-Of c κs = search rules
+wide-requires-in-Some : tie.Need-wide-requires-in-Some
+wide-requires-in-Some c κs = search rules
 
 settle-requires : tie.Need-settle-requires
 settle-requires c κs =
     let few = allowed (looked c.before.before.before.before.before.before) in
-    (few.0, few.1, small c.before.before.before.before.before, omega (arith, c.wide-in-Of.ensures))
+    (few.0, few.1, small c.before.before.before.before.before, omega (arith, c.wide-in-Some.ensures))
 
 trace_number-requires : tie.Need-trace_number-requires
 trace_number-requires c κs = search rules
@@ -122,38 +122,38 @@ trace_number-requires c κs = search rules
 enum_told-1 : tie.Need-enum_told-1
 enum_told-1 c = search rules
 
-refused-requires-in-Nothing : tie.Need-refused-requires-in-Nothing
-refused-requires-in-Nothing c κs = search rules
+refused-requires-in-None : tie.Need-refused-requires-in-None
+refused-requires-in-None c κs = search rules
 
-returns-in-Of : tie.Need-returns-in-Of
-returns-in-Of c =
+returns-in-Some : tie.Need-returns-in-Some
+returns-in-Some c =
     let e = looked c.before.before.before.before.before.before.before.before.before.before in
     let at = start e in
     let a = at.args in
     let from = (reads c.before.before.before.before.before.before.before.before.before.before).wide in
     let base = (reads c.before.before.before.before.before.before.before.before.before.before).wide-2 in
     let took = c.take_step in
-    let x = c.in-Of.stolen in
+    let x = c.in-Some.stolen in
     let number = c.trace_number in
     let settled = c.settle.ensures in
-    let begun = rw c.wide-in-Of.ensures at settled.1.0 in
+    let begun = rw c.wide-in-Some.ensures at settled.1.0 in
     steal-takes (lent at) a.tree.now a.thief a.victim _ e.judge_steal-refusal.ensures e.if-refusal-ne0.false
     from.result from.ensures base.result base.ensures took.new.place took.ensures.1.0
-    took.result took.ensures.0 x c.in-Of.is number.result number.ensures _ refl
+    took.result took.ensures.0 x c.in-Some.is number.result number.ensures _ refl
     _ _ _ _ settled.0 begun settled.1.1.0 settled.1.1.1
 
-returns-in-Nothing : tie.Need-returns-in-Nothing
-returns-in-Nothing c =
+returns-in-None : tie.Need-returns-in-None
+returns-in-None c =
     let e = looked c.before.before in
     let at = start e in
     let a = at.args in
     let from = (reads c.before.before).wide in
     let base = (reads c.before.before).wide-2 in
     let took = c.take_step in
-    ap (kept at took.new.place) c.refused-in-Nothing.ensures
+    ap (kept at took.new.place) c.refused-in-None.ensures
     ∙ steal-empty (lent at) a.tree.now a.thief a.victim _ e.judge_steal-refusal.ensures e.if-refusal-ne0.false
     from.result from.ensures base.result base.ensures took.new.place took.ensures.1.0
-    took.result took.ensures.0 c.in-Nothing.is
+    took.result took.ensures.0 c.in-None.is
 
 pub steal_on_spec : {M : Type 1} → statement M
 steal_on_spec =
@@ -173,10 +173,10 @@ steal_on_spec =
     overflow_cast-begun
     nonzero_rem-begun
     overflow_add-begun
-    wide-requires-in-Of
+    wide-requires-in-Some
     settle-requires
     trace_number-requires
     enum_told-1
-    refused-requires-in-Nothing
-    returns-in-Of
-    returns-in-Nothing)
+    refused-requires-in-None
+    returns-in-Some
+    returns-in-None)

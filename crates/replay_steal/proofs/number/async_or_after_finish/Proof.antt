@@ -33,18 +33,18 @@ enum_known-first c = search rules
 enum_told-1 : tie.Need-enum_told-1
 enum_told-1 c = search rules
 
-returns-in-From : tie.Need-returns-in-From
-returns-in-From c =
+returns-in-Some : tie.Need-returns-in-Some
+returns-in-Some c =
     let a = c.args in
-    pushable_finish (kinds a.tree.now) a.step.0 c.in-From.first
-    (sym c.finish_by.ensures ∙ c.in-From.is)
+    pushable_finish (kinds a.tree.now) a.step.0 c.in-Some.first
+    (sym c.finish_by.ensures ∙ c.in-Some.is)
 
-returns-in-Nothing : tie.Need-returns-in-Nothing
-returns-in-Nothing c =
+returns-in-None : tie.Need-returns-in-None
+returns-in-None c =
     let a = c.args in
     pushable-none (kinds a.tree.now) a.step.0 (omega arith)
     (λ e. c.if-kind-eq-ASYNC.false (c.kind.ensures ∙ e))
-    (sym c.finish_by.ensures ∙ c.in-Nothing.is)
+    (sym c.finish_by.ensures ∙ c.in-None.is)
 
 pub async_or_after_finish_spec : {M : Type 1} → statement M
 async_or_after_finish_spec =
@@ -57,5 +57,5 @@ async_or_after_finish_spec =
     finish_by-requires
     enum_known-first
     enum_told-1
-    returns-in-From
-    returns-in-Nothing)
+    returns-in-Some
+    returns-in-None)

@@ -9,7 +9,7 @@ use lib.ListN.{length}
 use Rattle.rules.specs.Tree.{kinds, kind_at}
 use Rattle.tree.specs.Laws.Highest.{highest-is}
 use Rattle.run_spec.specs.Deques.{marked, newest_mark}
-use Rattle.run_spec.proofs.Laws.Marks.{found_at, found_nothing}
+use Rattle.tree.specs.Laws.Steps.{found_at, found_nothing}
 use Rattle.policy.proofs.Laws.Parts.{holds_most, pushes_most}
 use Rattle.run_spec.proofs.Laws.Running.{next-opens, place-opens, next-pops, next-ends, place-ends}
 use borrow.Author.Rules.{rules}
@@ -28,7 +28,7 @@ ends : (c : tie.Else-kind-ne-END) → let a = (start c.before).args in kind_at (
 ends c = sym c.kind.ensures ∙ c.if-kind-ne-END.false
 
 -- The pusher that is found stands before it.
-abbrev asked : tie.In-At → tie.Start
+abbrev asked : tie.In-Some → tie.Start
 asked c = start (popping c.before).before
 
 abbrev newest : tie.Start → Option ℕ
@@ -36,15 +36,15 @@ newest c =
     let a = c.args in
     newest_mark a.place.now a.worker a.low.0 a.step.0
 
-found : (c : tie.In-At) → newest (asked c) ≡ some c.in-At.q.0
+found : (c : tie.In-Some) → newest (asked c) ≡ some c.in-Some.q.0
 found c =
     let pop = c.pop in
-    found_at (newest (asked c)) pop.result pop.ensures.0 c.in-At.q c.in-At.is
+    found_at (newest (asked c)) pop.result pop.ensures.0 c.in-Some.q c.in-Some.is
 
-before : (c : tie.In-At) → c.in-At.q.0 < length (kinds (asked c).args.tree.now)
+before : (c : tie.In-Some) → c.in-Some.q.0 < length (kinds (asked c).args.tree.now)
 before c =
     let a = (asked c).args in
-    let is = highest-is (marked a.place.now a.worker) a.low.0 a.step.0 c.in-At.q.0 (found c) in
+    let is = highest-is (marked a.place.now a.worker) a.low.0 a.step.0 c.in-Some.q.0 (found c) in
     omega (arith, (asked c).requires.0, is.before)
 
 -- ---- the needs
@@ -83,34 +83,34 @@ enum_known-q c = search rules
 pushed_by-held-requires : tie.Need-pushed_by-held-requires
 pushed_by-held-requires c κs = (before c, (asked c).requires.2)
 
-overflow_cast-result-in-At : tie.Need-overflow_cast-result-in-At
-overflow_cast-result-in-At c =
+overflow_cast-result-in-Some : tie.Need-overflow_cast-result-in-Some
+overflow_cast-result-in-Some c =
     let at = asked c.before.before in
     let ks = kinds at.args.tree.now in
-    omega (arith, c.pushed_by-held.ensures, at.requires.1, pushes_most at.args.policy ks c.in-At.q.0 (before c.before.before))
+    omega (arith, c.pushed_by-held.ensures, at.requires.1, pushes_most at.args.policy ks c.in-Some.q.0 (before c.before.before))
 
 enum_told-1 : tie.Need-enum_told-1
 enum_told-1 c = search rules
 
-returns-in-At : tie.Need-returns-in-At
-returns-in-At c =
+returns-in-Some : tie.Need-returns-in-Some
+returns-in-Some c =
     let a = (asked c.before.before).args in
     let ks = kinds a.tree.now in
     let popped = c.pop in
     let pushed = c.pushed_by-held in
     let end = ends (popping c.before.before.before) in (
-      next-pops a.policy ks a.place.now a.worker a.low.0 a.step.0 end c.in-At.q.0 (found c.before.before)
+      next-pops a.policy ks a.place.now a.worker a.low.0 a.step.0 end c.in-Some.q.0 (found c.before.before)
           pushed.result.0 pushed.ensures,
       place-ends a.policy ks a.place.now a.worker a.low.0 a.step.0 end popped.new.place popped.ensures.1,
     )
 
-returns-in-Nothing : tie.Need-returns-in-Nothing
-returns-in-Nothing c =
+returns-in-None : tie.Need-returns-in-None
+returns-in-None c =
     let e = popping c.before in
     let a = (start e.before).args in
     let ks = kinds a.tree.now in
     let popped = c.pop in
-    let none = found_nothing (newest (start e.before)) popped.result popped.ensures.0 c.in-Nothing.is in (
+    let none = found_nothing (newest (start e.before)) popped.result popped.ensures.0 c.in-None.is in (
       next-ends a.policy ks a.place.now a.worker a.low.0 a.step.0 (ends e) none,
       place-ends a.policy ks a.place.now a.worker a.low.0 a.step.0 (ends e) popped.new.place popped.ensures.1,
     )
@@ -127,7 +127,7 @@ advance_spec =
     pop-requires
     enum_known-q
     pushed_by-held-requires
-    overflow_cast-result-in-At
+    overflow_cast-result-in-Some
     enum_told-1
-    returns-in-At
-    returns-in-Nothing)
+    returns-in-Some
+    returns-in-None)

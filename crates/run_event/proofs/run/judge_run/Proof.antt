@@ -10,7 +10,7 @@ use Rattle.rules.specs.Tree.{kinds}
 use Rattle.policy.specs.Contract.{worker_limit}
 use Rattle.policy.proofs.Laws.Workers.{limit-below}
 use Rattle.run_spec.specs.Running.{waits_for, awaits, run_number}
-use Rattle.run_spec.proofs.Laws.Marks.{found_at, found_nothing}
+use Rattle.tree.specs.Laws.Steps.{found_at, found_nothing}
 use Rattle.run_spec.proofs.Laws.Waiting.{waits-at_low, waits_for-some, waits_for-none}
 use Rattle.run_spec.proofs.Laws.Running.{judged-worker, judged-long, judged-idle, judged-waits, judged-runs}
 use borrow.Author.Rules.{rules}
@@ -130,24 +130,24 @@ waited c =
     let a = (start (short (held c))).args in
     awaits (kinds a.tree.now) a.place.now (held c).wide-i.result
 
-returns-in-At : tie.Need-returns-in-At
-returns-in-At c =
+returns-in-Some : tie.Need-returns-in-Some
+returns-in-Some c =
     let e = held c.before in
     let a = (start (short e)).args in
     let i = e.wide-i in
-    let unrun = c.in-At.unrun in
+    let unrun = c.in-Some.unrun in
     judged-waits a.workers (kinds a.tree.now) a.place.now a.held.now a.worker (few (short e).before.before)
     (most (short e)) i.result i.ensures (within e)
     (waits_for-some (kinds a.tree.now) a.place.now i.result unrun.0
-    (found_at (waited c.before) c.awaits.result c.awaits.ensures unrun c.in-At.is))
+    (found_at (waited c.before) c.awaits.result c.awaits.ensures unrun c.in-Some.is))
 
-returns-in-Nothing : tie.Need-returns-in-Nothing
-returns-in-Nothing c =
+returns-in-None : tie.Need-returns-in-None
+returns-in-None c =
     let e = held c.before in
     let a = (start (short e)).args in
     runs e
     (waits_for-none (kinds a.tree.now) a.place.now e.wide-i.result
-    (found_nothing (waited c.before) c.awaits.result c.awaits.ensures c.in-Nothing.is))
+    (found_nothing (waited c.before) c.awaits.result c.awaits.ensures c.in-None.is))
 
 pub judge_run_spec : {M : Type 1} → statement M
 judge_run_spec =
@@ -169,5 +169,5 @@ judge_run_spec =
     awaits-requires
     enum_known-unrun
     enum_told-1
-    returns-in-At
-    returns-in-Nothing)
+    returns-in-Some
+    returns-in-None)

@@ -1,14 +1,16 @@
 -- `run_event::steal::take_step` meets its contract: it scans the steps of the tree from the victim's `low` up, so the pusher
 -- that it finds is the lowest that is marked with the victim, which pushed the oldest step of the deque; and since that pusher
 -- stands in the tree, all that is taken fits the tables. Assumes nothing.
+use Rattle.tree.specs.Steps.{maybe_step}
 use Prim.Native.Nat.{ℕ, ◌<◌}
 use mathlib.Core.Path.{◌≡◌}
 use mathlib.Core.Option.{Option, some}
 use native.Mathlib.Omega.{arith}
 use lib.ListN.{length}
 use Rattle.rules.specs.Tree.{kinds}
-use Rattle.run_spec.specs.Deques.{oldest_mark, found_of, robbed}
-use Rattle.run_spec.proofs.Laws.Marks.{found_at, found_nothing, oldest_before}
+use Rattle.run_spec.specs.Deques.{oldest_mark, robbed}
+use Rattle.tree.specs.Laws.Steps.{found_at, found_nothing}
+use Rattle.run_spec.proofs.Laws.Marks.{oldest_before}
 use Rattle.policy.proofs.Laws.Parts.{pushes_most}
 use Rattle.run_spec.proofs.Laws.Stealing.{takes_nothing, takes_step}
 use borrow.Author.Rules.{rules}
@@ -34,7 +36,7 @@ oldest c =
     let a = (start c).args in
     oldest_mark a.place.now a.victim a.low.0 (length (kinds a.tree.now))
 
-gives : (c : tie.After-take) → c.take.result ≡ found_of (oldest c)
+gives : (c : tie.After-take) → c.take.result ≡ maybe_step (oldest c)
 gives c = rw (← c.steps-n.ensures) c.take.ensures.0
 
 leaves : (c : tie.After-take) → let a = (start c).args in
@@ -43,16 +45,16 @@ leaves c = rw (← c.steps-n.ensures) c.take.ensures.1
 
 -- ---- a pusher is found, and stands in the tree
 
-abbrev took : tie.In-At → tie.After-take
+abbrev took : tie.In-Some → tie.After-take
 took c = c.before
 
-found : (c : tie.In-At) → oldest (took c) ≡ some c.in-At.pusher.0
-found c = found_at (oldest (took c)) (took c).take.result (gives (took c)) c.in-At.pusher c.in-At.is
+found : (c : tie.In-Some) → oldest (took c) ≡ some c.in-Some.pusher.0
+found c = found_at (oldest (took c)) (took c).take.result (gives (took c)) c.in-Some.pusher c.in-Some.is
 
-within : (c : tie.In-At) → c.in-At.pusher.0 < length (kinds (start (took c)).args.tree.now)
+within : (c : tie.In-Some) → c.in-Some.pusher.0 < length (kinds (start (took c)).args.tree.now)
 within c =
     let a = (start (took c)).args in
-    oldest_before a.place.now a.victim a.low.0 (length (kinds a.tree.now)) c.in-At.pusher.0 (found c)
+    oldest_before a.place.now a.victim a.low.0 (length (kinds a.tree.now)) c.in-Some.pusher.0 (found c)
 
 -- ---- the needs
 
@@ -66,12 +68,12 @@ ordinal_from-ordinal-requires c κs =
 enum_told-1 : tie.Need-enum_told-1
 enum_told-1 c = search rules
 
-returns-in-At : tie.Need-returns-in-At
-returns-in-At c =
+returns-in-Some : tie.Need-returns-in-Some
+returns-in-Some c =
     let s = start (took c.before.before) in
     let a = s.args in
     let ks = kinds a.tree.now in
-    let q = c.in-At.pusher in
+    let q = c.in-Some.pusher in
     let step = c.pushed_by-step in
     let ordinal = c.ordinal_from-ordinal in
     let small = within c.before.before in (
@@ -87,10 +89,10 @@ returns-in-At c =
       ),
     )
 
-returns-in-Nothing : tie.Need-returns-in-Nothing
-returns-in-Nothing c =
+returns-in-None : tie.Need-returns-in-None
+returns-in-None c =
     let a = (start c.before).args in
-    let none = found_nothing (oldest c.before) c.take.result (gives c.before) c.in-Nothing.is in
+    let none = found_nothing (oldest c.before) c.take.result (gives c.before) c.in-None.is in
     (takes_nothing a.policy (kinds a.tree.now) a.base.0 a.low.0 (oldest c.before) none, (leaves c.before, omega arith))
 
 pub take_step_spec : {M : Type 1} → statement M
@@ -103,5 +105,5 @@ take_step_spec =
     pushed_by-step-requires
     ordinal_from-ordinal-requires
     enum_told-1
-    returns-in-At
-    returns-in-Nothing)
+    returns-in-Some
+    returns-in-None)

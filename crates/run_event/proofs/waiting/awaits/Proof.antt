@@ -1,11 +1,10 @@
 -- `run_event::waiting::awaits` meets its contract: a step waits only for the finish child that ends just before it, and the steps of
 -- that child and of its descendants are those from the child's first to before the step. Assumes nothing.
+use Rattle.tree.specs.Steps.{MaybeStep, maybe_step}
 use Prim.Native.Nat.{ℕ}
 use mathlib.Core.Path.{sym, ap, ◌∙◌}
 use mathlib.Core.Option.{Option}
 use Rattle.rules.specs.Tree.{kinds}
-use Rattle.run_spec.specs.declared.Found.{Found}
-use Rattle.run_spec.specs.Deques.{found_of}
 use Rattle.run_spec.proofs.Laws.Waiting.{awaits-found, awaits-nothing}
 use borrow.Author.Rules.{rules}
 use Rattle.run_event.proofs.waiting.awaits.Statement.{statement}
@@ -23,20 +22,20 @@ last_unrun-requires c κs = search rules
 enum_told-1 : tie.Need-enum_told-1
 enum_told-1 c = search rules
 
-returns-in-From : tie.Need-returns-in-From
-returns-in-From c =
+returns-in-Some : tie.Need-returns-in-Some
+returns-in-Some c =
     let a = c.args in
     c.last_unrun.ensures
-    ∙ ap {B = Found} (λ (o : Option ℕ). found_of o)
-    (awaits-found (kinds a.tree.now) a.place.now a.step.0 c.in-From.first
-    (sym c.finish_by.ensures ∙ c.in-From.is))
+    ∙ ap {B = MaybeStep} (λ (o : Option ℕ). maybe_step o)
+    (awaits-found (kinds a.tree.now) a.place.now a.step.0 c.in-Some.first
+    (sym c.finish_by.ensures ∙ c.in-Some.is))
 
-returns-in-Nothing : tie.Need-returns-in-Nothing
-unfolding found_of
-returns-in-Nothing c =
+returns-in-None : tie.Need-returns-in-None
+unfolding maybe_step
+returns-in-None c =
     let a = c.args in
-    ap {B = Found} (λ (o : Option ℕ). found_of o)
-    (awaits-nothing (kinds a.tree.now) a.place.now a.step.0 (sym c.finish_by.ensures ∙ c.in-Nothing.is))
+    ap {B = MaybeStep} (λ (o : Option ℕ). maybe_step o)
+    (awaits-nothing (kinds a.tree.now) a.place.now a.step.0 (sym c.finish_by.ensures ∙ c.in-None.is))
 
 pub awaits_spec : {M : Type 1} → statement M
-awaits_spec = tie.close (tie.spec finish_by-requires enum_known-first last_unrun-requires enum_told-1 returns-in-From returns-in-Nothing)
+awaits_spec = tie.close (tie.spec finish_by-requires enum_known-first last_unrun-requires enum_told-1 returns-in-Some returns-in-None)

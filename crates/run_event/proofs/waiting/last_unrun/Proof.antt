@@ -1,11 +1,11 @@
 -- `run_event::waiting::last_unrun` meets its contract: what is found before the step where the walk stands is what is found in all, since
 -- every block that it has passed has all run; and in a block that has not, the highest is found. Assumes nothing.
+use Rattle.tree.specs.Steps.{MaybeStep, maybe_step}
 use Prim.Native.Nat.{ℕ, ◌≤◌}
 use mathlib.Core.Path.{◌≡◌, refl, sym, ap, ◌∙◌}
 use mathlib.Core.Option.{Option}
 use native.Mathlib.Omega.{arith}
-use Rattle.run_spec.specs.declared.Found.{Found}
-use Rattle.run_spec.specs.Deques.{unrun_mark, newest_mark, found_of}
+use Rattle.run_spec.specs.Deques.{unrun_mark, newest_mark}
 use Rattle.run_spec.proofs.Laws.Marks.{newest_end}
 use Rattle.run_spec.proofs.Laws.Waiting.{block_run, block_unrun}
 use Rattle.run_event.proofs.waiting.last_unrun.Statement.{statement}
@@ -38,7 +38,7 @@ returns-then-not-all_run c =
     let low = c.block_before-low in
     let not-all = sym c.all_run.ensures ∙ c.if-not-all_run.true in
     c.scan.ensures
-    ∙ ap {B = Found} (λ (o : Option ℕ). found_of o)
+    ∙ ap {B = MaybeStep} (λ (o : Option ℕ). maybe_step o)
     (block_unrun a.place.now a.first.0 low.result.0 c.loop-j.j low.ensures.0 (omega (arith, low.ensures.1)) not-all
     ∙ c.loop-j.invariant.1)
 

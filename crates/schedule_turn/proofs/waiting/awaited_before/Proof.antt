@@ -4,18 +4,17 @@ use Rattle.std.proofs.Common.{sym, refl, ◌∙◌, arith, rules}
 use Rattle.rules.specs.Tree.{kinds, finish_before}
 use Rattle.tree.specs.Laws.Highest.{Highest, highest-is}
 use Rattle.run_spec.specs.Deques.{unrun_mark, marked, newest_mark}
-use Rattle.run_spec.proofs.Laws.Marks.{found_at}
-use Rattle.run_spec.proofs.Laws.Waiting.{child-found}
+use Rattle.tree.specs.Laws.Steps.{found_at}
 use Rattle.schedule_turn.proofs.waiting.awaited_before.Statement.{statement}
 use Rattle.schedule_turn.proofs.waiting.awaited_before.Tie as tie
 
 -- In the finish child, the highest step before `end` that has not run.
-found : (c : tie.In-At) → Highest (marked c.args.place.now unrun_mark) c.in-From.first.0 c.args.end.0 c.in-At.unrun.0
+found : (c : tie.In-Some) → Highest (marked c.args.place.now unrun_mark) c.in-Some.first.0 c.args.end.0 c.in-Some.unrun.0
 found c =
     let a = c.args in
-    highest-is (marked a.place.now unrun_mark) c.in-From.first.0 a.end.0 c.in-At.unrun.0
-    (found_at (newest_mark a.place.now unrun_mark c.in-From.first.0 a.end.0) c.last_unrun.result c.last_unrun.ensures
-    c.in-At.unrun c.in-At.is)
+    highest-is (marked a.place.now unrun_mark) c.in-Some.first.0 a.end.0 c.in-Some.unrun.0
+    (found_at (newest_mark a.place.now unrun_mark c.in-Some.first.0 a.end.0) c.last_unrun.result c.last_unrun.ensures
+    c.in-Some.unrun c.in-Some.is)
 
 returns-then-j-ge-MOST_STEPS : tie.Need-returns-then-j-ge-MOST_STEPS
 returns-then-j-ge-MOST_STEPS c = λ n. absurd (n refl)
@@ -42,30 +41,30 @@ overflow_cast-result c = omega (arith, c.if-i-j.false, c.requires.0, (found c.be
 enum_told-1 : tie.Need-enum_told-1
 enum_told-1 c = search rules
 
-enum_told-in-Nothing : tie.Need-enum_told-in-Nothing
-enum_told-in-Nothing c = search rules
+enum_told-in-None : tie.Need-enum_told-in-None
+enum_told-in-None c = search rules
 
-returns-in-At : tie.Need-returns-in-At
-returns-in-At c =
+returns-in-Some : tie.Need-returns-in-Some
+returns-in-Some c =
     let a = c.args in
     let unrun = found c.before in
     λ n. (
       record {
-        first = c.in-From.first.0;
+        first = c.in-Some.first.0;
         child =
-            child-found (finish_before (kinds a.tree.now) a.step.0) c.in-From.first
-            (sym c.finish_by.ensures ∙ c.in-From.is);
+            found_at (finish_before (kinds a.tree.now) a.step.0) _ refl c.in-Some.first
+            (sym c.finish_by.ensures ∙ c.in-Some.is);
         from = unrun.from;
         before = omega (arith, unrun.before, c.if-i-j.false);
       },
       unrun.passes,
     )
 
-returns-in-Nothing-last_unrun : tie.Need-returns-in-Nothing-last_unrun
-returns-in-Nothing-last_unrun c = λ n. absurd (n refl)
+returns-in-None-last_unrun : tie.Need-returns-in-None-last_unrun
+returns-in-None-last_unrun c = λ n. absurd (n refl)
 
-returns-in-Nothing : tie.Need-returns-in-Nothing
-returns-in-Nothing c = λ n. absurd (n refl)
+returns-in-None : tie.Need-returns-in-None
+returns-in-None c = λ n. absurd (n refl)
 
 pub awaited_before_spec : {M : Type 1} → statement M
 awaited_before_spec =
@@ -79,7 +78,7 @@ awaited_before_spec =
     enum_known-unrun
     overflow_cast-result
     enum_told-1
-    enum_told-in-Nothing
-    returns-in-At
-    returns-in-Nothing-last_unrun
-    returns-in-Nothing)
+    enum_told-in-None
+    returns-in-Some
+    returns-in-None-last_unrun
+    returns-in-None)
