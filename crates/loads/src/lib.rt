@@ -48,12 +48,9 @@ fn heaviest(loads: &[u64; WORKERS]) -> usize
     ensures { result ≡ heaviest_of loads.now }
 {
     let mut best = 0;
-    let mut w = 1;
-    while w < WORKERS {
-        let k = w;
-        w += 1;
-        if loads[best] < loads[k] {
-            best = k;
+    for w in 1..WORKERS {
+        if loads[best] < loads[w] {
+            best = w;
         }
     }
     best
