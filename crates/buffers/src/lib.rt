@@ -66,9 +66,5 @@ pub fn copy_out(from: &[u8], count: usize, to: &mut [u8])
     requires { (count ≤ length from.now) × (count ≤ length to.old) }
     ensures { to.new ≡ written (take count from.now) to.old }
 {
-    let mut i = 0;
-    while i < count {
-        to[i] = from[i];
-        i += 1;
-    }
+    to[..count].copy_from_slice(&from[..count]);
 }
