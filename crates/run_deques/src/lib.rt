@@ -25,10 +25,7 @@ pub fn scan(place: &[u8; MOST_STEPS], mark: u8, low: Step, end: Step) -> Option<
     requires { end.0 ≤ most_steps }
     ensures { result ≡ maybe_step (newest_mark place.now mark low.0 end.0) }
 {
-    let from = low.0;
-    let mut j = end.0;
-    while from < j {
-        j -= 1;
+    for j in (low.0..end.0).rev() {
         if place[j] == mark {
             return Some(Step(j));
         }
@@ -38,7 +35,13 @@ pub fn scan(place: &[u8; MOST_STEPS], mark: u8, low: Step, end: Step) -> Option<
 
 // The highest step marked with the worker among those from `low` to before `end`, from opener to opener: no step between is
 // marked with a worker that holds step `end`.
-fn climb(openers: &[u16], place: &[u8; MOST_STEPS], worker: u8, low: Step, end: Step) -> Option<Step>
+fn climb(
+    openers: &[u16],
+    place: &[u8; MOST_STEPS],
+    worker: u8,
+    low: Step,
+    end: Step,
+) -> Option<Step>
     requires { (end.0 < most_steps) × (end.0 < length openers.now) × Climbs openers.now place.now worker low.0 end.0 }
     ensures { result ≡ maybe_step (newest_mark place.now worker low.0 end.0) }
 {
@@ -58,7 +61,13 @@ fn climb(openers: &[u16], place: &[u8; MOST_STEPS], worker: u8, low: Step, end: 
 
 // The highest step marked with the worker among those from `low` to before `end`: by the openers where their table has step
 // `end`, else by a scan.
-pub fn newest(openers: &[u16], place: &[u8; MOST_STEPS], worker: u8, low: Step, end: Step) -> Option<Step>
+pub fn newest(
+    openers: &[u16],
+    place: &[u8; MOST_STEPS],
+    worker: u8,
+    low: Step,
+    end: Step,
+) -> Option<Step>
     requires { (end.0 < most_steps) × (end.0 < length openers.now → Climbs openers.now place.now worker low.0 end.0) }
     ensures { result ≡ maybe_step (newest_mark place.now worker low.0 end.0) }
 {
@@ -74,12 +83,10 @@ pub fn oldest(place: &[u8; MOST_STEPS], worker: u8, low: Step, end: usize) -> Op
     requires { end ≤ most_steps }
     ensures { result ≡ maybe_step (oldest_mark place.now worker low.0 end) }
 {
-    let mut j = low.0;
-    while j < end {
+    for j in low.0..end {
         if place[j] == worker {
             return Some(Step(j));
         }
-        j += 1;
     }
     None
 }
