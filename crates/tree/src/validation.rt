@@ -77,9 +77,8 @@ pub fn accept(tree: &[u8]) -> Accepted
         };
     }
     let n = tree.len() / TREE_RECORD;
-    let mut i = 0;
     let mut depth: usize = 1;
-    while i < n {
+    for i in 0..n {
         let number = judge_record(tree, i, depth);
         if number != 0 {
             return Accepted {
@@ -88,9 +87,7 @@ pub fn accept(tree: &[u8]) -> Accepted
                 steps: 0,
             };
         }
-        let k = tree[TREE_RECORD * i];
-        i += 1;
-        if k == END {
+        if tree[TREE_RECORD * i] == END {
             depth -= 1;
         } else {
             depth += 1;
