@@ -38,12 +38,9 @@ fn work(tree: &[u8]) -> u64
     requires { (tree_verdict tree.now).number ≡ 0 }
     ensures { result ≡ work_of (weights tree.now) }
 {
-    let n = steps(tree);
-    let mut j = 0;
     let mut total: u64 = 0;
-    while j < n {
+    for j in 0..steps(tree) {
         total += weight(tree, Step(j)) as u64;
-        j += 1;
     }
     total
 }
