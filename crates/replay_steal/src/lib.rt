@@ -46,13 +46,9 @@ pub fn read_steal(
     let at = phase.0;
     let base = Step(wide(bases[at]));
     let ordinal = Ordinal(wide(ordinals[at]));
-    match number::step_named(tree, ends, openers, base, ordinal, number) {
-        Some(step) => {
-            if !replay_labels::take(openers, labels, step, phase) {
-                return None;
-            }
-            Some(step)
-        }
-        None => None,
+    let step = number::step_named(tree, ends, openers, base, ordinal, number)?;
+    if !replay_labels::take(openers, labels, step, phase) {
+        return None;
     }
+    Some(step)
 }

@@ -18,17 +18,14 @@ fn hop(tree: &[u8], ends: &[u16], from: Step, children: usize) -> Option<Step>
     requires { Ends (kinds tree.now) ends.now (length ends.now) }
     ensures { result ≡ maybe_step (hopped (kinds tree.now) children from.0) }
 {
-    let mut i = from.0;
-    let mut left = children;
-    while 0 < left {
-        left -= 1;
-        if kind(tree, Step(i)) == END {
+    let mut step = from;
+    for _ in 0..children {
+        if kind(tree, step) == END {
             return None;
         }
-        let next = cont_by(tree, ends, Step(i));
-        i = next.0;
+        step = cont_by(tree, ends, step);
     }
-    Some(Step(i))
+    Some(step)
 }
 
 // Whether a step is the first of an async child, or the step after a finish child.
