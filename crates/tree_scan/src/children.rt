@@ -17,21 +17,18 @@ pub fn cont(tree: &[u8], step: Step) -> Step
     if n <= i {
         return Step(n);
     }
-    let mut j = i + 1;
     let mut left: usize = 1;
-    while 0 < left {
-        if n <= j {
-            return Step(n);
-        }
-        let k = tree[TREE_RECORD * j];
-        j += 1;
-        if k == END {
-            left -= 1;
-        } else {
+    for j in i + 1..n {
+        if tree[TREE_RECORD * j] != END {
             left += 1;
+            continue;
+        }
+        left -= 1;
+        if left == 0 {
+            return Step(j + 1);
         }
     }
-    Step(j)
+    Step(n)
 }
 
 // The finish child whose end stands just before a step.

@@ -21,12 +21,9 @@ pub fn task_of(tree: &[u8], step: Step) -> Task
     ensures { result ≡ task_of (kinds tree.now) step.0 }
 {
     let n = tree.len() / TREE_RECORD;
-    let i = step.0;
-    let mut j = if i < n { i } else { n };
     let mut ended: usize = 0;
     let mut children: usize = 0;
-    while 0 < j {
-        j -= 1;
+    for j in (0..step.0.min(n)).rev() {
         if tree[TREE_RECORD * j] == END {
             ended += 1;
             continue;
