@@ -42,10 +42,10 @@ pub fn judge_run(
     if !may_wait(openers, Step(i), Step(wide(low[w]))) {
         return 0;
     }
-    match awaits(tree, openers, place, Step(i)) {
-        Some(unrun) => 10,
-        None => 0,
+    if awaits(tree, openers, place, Step(i)).is_some() {
+        return 10;
     }
+    0
 }
 
 // A worker has run a step: the places change, and the step that it holds next, or NO_STEP, is given.

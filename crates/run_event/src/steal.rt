@@ -1,13 +1,12 @@
 // Stealing a step (document 01, "Scheduling"): whether a thief may steal, what it takes from the victim's deque, and what the
 // workers' tables are then.
-ghost use Rattle.std.specs.Prelude.{◌≡◌, ◌+◌, ◌≤◌, ◌<◌, length, set};
+ghost use Rattle.std.specs.Prelude.{◌≡◌, ◌+◌, ◌≤◌, ◌<◌, length, set, Some};
 ghost use Rattle.rules.specs.Tree.{kinds, most_steps};
 ghost use Rattle.rules.specs.Scheduling.{most_workers};
 ghost use Rattle.tree_tables.specs.Terms.{Ends};
 ghost use Rattle.run_spec.specs.Deques.{oldest_mark, robbed};
 ghost use Rattle.run_spec.specs.Stealing.{steal_number, taken_of};
 ghost use Rattle.run_spec.specs.Terms.{Small};
-ghost use Rattle.run_spec.specs.declared.Taken.TheVariants.{Of};
 
 use policy::WORKERS;
 use run_spec::Stolen;
@@ -78,7 +77,7 @@ pub fn settle(
     stolen: Stolen,
     begun: Phase,
 )
-    requires { (thief < most_workers) × (victim < most_workers) × Small (Of stolen) × (begun.0 < 65536) }
+    requires { (thief < most_workers) × (victim < most_workers) × Small (Some stolen) × (begun.0 < 65536) }
     ensures held { held.new ≡ set held.old thief stolen.step.0 }
     ensures phase { phase.new ≡ set phase.old thief begun.0 }
     ensures low { let passed = set low.old victim (stolen.pusher.0 + 1) in

@@ -21,12 +21,8 @@ fn all_run(place: &[u8; MOST_STEPS], first: Step, end: Step) -> bool
     requires { (end.0 ≤ most_steps) × (end.0 ≤ first.0 + 255) }
     ensures { result ≡ all_run place.now first.0 end.0 }
 {
-    let to = end.0;
-    let mut j = first.0;
     let mut unrun: u8 = 0;
-    while j < to {
-        let k = j;
-        j += 1;
+    for k in first.0..end.0 {
         if place[k] == NOT_RUN {
             unrun += 1;
         }
