@@ -69,10 +69,8 @@ pub fn walk(
     let mut loads: [u64; WORKERS] = [0; WORKERS];
     let weight = sums[tree::steps(tree)];
     replay_steal::phase::begin_first(labels, firsts, &mut latest, &mut loads, weight);
-    let mut k = 0;
-    while k < trace.len() / buffers::RECORD {
-        let at = k;
-        k += 1;
+    let records = trace.len() / buffers::RECORD;
+    for at in 0..records {
         let steal = trace::record_at(trace, at);
         let refusal = replay_steal::workers::judge_workers(
             &latest,
@@ -85,39 +83,35 @@ pub fn walk(
         }
         let thief = steal.thief as usize;
         let victim = steal.victim as usize;
-        // The victim's latest phase. The record begins phase k.
+        // The victim's latest phase. Record k begins phase k + 1.
         let phase = Phase(wide(latest[victim]));
         let number = trace::number::decode_number(setup.policy, steal.number);
-        match replay_steal::read_steal(
+        let Some(step) = replay_steal::read_steal(
             tree, ends, openers, labels, &bases, &ordinals, phase, number,
-        ) {
-            Some(step) => {
-                replay_steal::phase::begin(
-                    openers,
-                    labels,
-                    firsts,
-                    &mut bases,
-                    &mut ordinals,
-                    &mut latest,
-                    Begun {
-                        phase: Phase(k),
-                        from: phase,
-                        thief,
-                        step,
-                        ordinal: trace::number::ordinal_in(number),
-                    },
-                );
-                loads::move_part(ends, sums, &mut loads, thief, victim, step);
-            }
-            None => {
-                return refused(15, at);
-            }
-        }
+        ) else {
+            return refused(15, at);
+        };
+        replay_steal::phase::begin(
+            openers,
+            labels,
+            firsts,
+            &mut bases,
+            &mut ordinals,
+            &mut latest,
+            Begun {
+                phase: Phase(at + 1),
+                from: phase,
+                thief,
+                step,
+                ordinal: trace::number::ordinal_in(number),
+            },
+        );
+        loads::move_part(ends, sums, &mut loads, thief, victim, step);
     }
     Ended {
         number: 0,
         position: 0,
-        phases: k + 1,
+        phases: records + 1,
         loads,
     }
 }
