@@ -40,10 +40,8 @@ fn put_number(text: &mut [u8], number: usize, end: u8) -> usize
 {
     let count = places(number);
     text[count] = end;
-    let mut i = count;
     let mut rest = number;
-    while 0 < i {
-        i -= 1;
+    for i in (0..count).rev() {
         text[i] = (ZERO + rest % 10) as u8;
         rest /= 10;
     }
