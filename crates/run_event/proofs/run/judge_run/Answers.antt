@@ -74,10 +74,12 @@ returns-then-is_some c =
     let a = c.args in
     judged-waits a.workers (kinds a.tree.now) a.place.now a.held.now a.worker (few _ _ c.no_worker.ensures c.if-no_worker.false)
     (omega arith) c.wide-i.result c.wide-i.ensures (omega arith)
-    (sym (asked (kinds a.tree.now) a.place.now c.wide-i.result c.awaits.result c.awaits.ensures) ∙ sym c.is_some.ensures ∙ c.if-is_some.true)
+    (sym (asked (kinds a.tree.now) a.place.now c.wide-i.result c.awaits.result c.awaits.ensures)
+    ∙ sym c.is_some.ensures ∙ c.if-is_some.true)
 
 pub returns : goal.returns
 returns c =
     let a = c.args in
     runs (goal.at.returns c).Else-n-i
-    (sym (asked (kinds a.tree.now) a.place.now c.wide-i.result c.awaits.result c.awaits.ensures) ∙ sym c.is_some.ensures ∙ c.if-is_some.false)
+    (sym (asked (kinds a.tree.now) a.place.now c.wide-i.result c.awaits.result c.awaits.ensures)
+    ∙ sym c.is_some.ensures ∙ c.if-is_some.false)
