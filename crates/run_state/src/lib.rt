@@ -65,14 +65,11 @@ pub struct Idle {
 fn idle_set(held: &[u16; WORKERS], workers: u16) -> u16
     ensures { result ≡ idle_bits held.now 0 (worker_limit workers) }
 {
-    let mut w = policy::limit(workers);
     let mut set: u16 = 0;
-    while 0 < w {
-        w -= 1;
+    for w in (0..policy::limit(workers)).rev() {
+        set *= 2;
         if MOST_STEPS <= wide(held[w]) {
-            set = 2 * set + 1;
-        } else {
-            set = 2 * set;
+            set += 1;
         }
     }
     set
