@@ -48,10 +48,11 @@ pub returns-then-ended-eq0 : goal.returns-then-ended-eq0
 returns-then-ended-eq0 c =
     let tree = c.args.tree.now in
     let loop = c.loop-j in
-    let behind = turn (kinds tree) c.args.step.0 loop.j loop.ended 0 loop.children loop.invariant (omega arith) (omega arith) in
+    let i = c.args.step.0 in
+    let behind = turn (kinds tree) i loop.j loop.ended 0 loop.children loop.invariant (omega arith) (omega arith) in
     let same = kind_at_lem tree (loop.j - 1) (omega (arith, length-kinds tree)) in
-    let found = backward_found (kinds tree) c.args.step.0 (loop.j - 1) loop.children behind (λ e. c.if-tree-j-eq-END.false (sym same ∙ e)) in
-    answer (kinds tree) c.args.step.0 (loop.j - 1 + 1) loop.children found.0 found.1
+    let found = backward_found (kinds tree) i (loop.j - 1) loop.children behind (λ e. c.if-tree-j-eq-END.false (sym same ∙ e)) in
+    answer (kinds tree) i (loop.j - 1 + 1) loop.children found.0 found.1
 
 pub overflow_add-children : goal.overflow_add-children
 overflow_add-children c = omega (arith, length-kinds c.args.tree.now)

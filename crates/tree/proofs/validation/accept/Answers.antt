@@ -26,7 +26,8 @@ returns-then-number-ne0 c =
     let tree = c.args.tree.now in
     let loop = c.loop-i in
     let same = c.judge_record-number.ensures in
-    let stop = walking-stop tree loop.i loop.depth loop.invariant (omega (arith, length-kinds tree)) (λ e. c.if-number-ne0.true (same ∙ e)) in
+    let within : loop.i < length (kinds tree) = omega (arith, length-kinds tree) in
+    let stop = walking-stop tree loop.i loop.depth loop.invariant within (λ e. c.if-number-ne0.true (same ∙ e)) in
     let here = ap {B = Verdict} (λ (x : ℕ). record { number = x; position = loop.i }) (sym same) in
     let verdict : Verdict = record { number = c.judge_record-number.result; position = loop.i } in
     let right = sym c.wrong_length.ensures ∙ c.if-wrong_length.false in
