@@ -69,14 +69,6 @@ pub fn class(tree: &[u8], step: Step) -> u8
     byte(tree, step.0, 1)
 }
 
-// The answer on a tree: refusal and position, or the count of steps.
-#[derive(Clone, Copy)]
-pub struct Accepted {
-    pub number: u8,
-    pub position: usize,
-    pub steps: usize,
-}
-
 // The weight of a step, 0 where it is beyond the tree.
 pub fn weight(tree: &[u8], step: Step) -> u32
     ensures { result ≡ get_or (weights tree.now) step.0 0 }
