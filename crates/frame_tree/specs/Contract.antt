@@ -2,7 +2,7 @@
 use Rattle.std.specs.Prelude.{Some, None}
 use Rattle.tree.specs.Steps.{MaybeStep}
 use Rattle.std.specs.Prelude.{ℕ}
-use Rattle.tree.specs.declared.Accepted.{Accepted}
+use Rattle.tree.specs.Contract.{Accepted}
 use Rattle.tree_scan.specs.declared.Task.{Task}
 use Rattle.policy.specs.declared.Running.{Running}
 use Rattle.policy.specs.declared.Running.TheVariants.{Opens, Ends}

@@ -7,8 +7,7 @@ use borrow.Author.Tests.{eq-eqb, lt-ltb, le-ltb}
 use Rattle.rules.specs.Bytes.{Verdict, accepted, refused_if, first_refused}
 use Rattle.rules.specs.Tree.{kinds, weights, tree_verdict}
 use Rattle.rules_dag.specs.Spans.{work, lasts, span_verdict, span_of, span_refused, span_call}
-use Rattle.tree.specs.declared.Accepted.{Accepted}
-use Rattle.tree.specs.Contract.{acceptance}
+use Rattle.tree.specs.Contract.{Accepted, acceptance}
 use Rattle.tree.specs.Laws.Verdicts.{first-refuses}
 use Rattle.tree_scan.specs.Laws.Frames.{accepted-frame}
 use Rattle.dag_chain.proofs.Laws.Times.{span-lasts}

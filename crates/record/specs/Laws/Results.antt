@@ -8,7 +8,7 @@ use Rattle.rules.specs.Tree.{kinds, classes, weights}
 use Rattle.rules.specs.Scheduling.{most_workers, Run}
 use Rattle.rules.specs.Traces.{loads, heaviest, class_loads}
 use Rattle.rules.specs.Calls.{record_walk, finished, record_of, record_refused, record_call, Recorded as Call}
-use Rattle.tree.specs.declared.Accepted.{Accepted}
+use Rattle.tree.specs.Contract.{Accepted}
 use Rattle.tree_scan.specs.Laws.Starts.{start-tree-accepts}
 use Rattle.tree_scan.specs.Laws.Frames.{accepted-frame}
 use Rattle.record_walk.specs.declared.Ended.{Ended}

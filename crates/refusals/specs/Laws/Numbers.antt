@@ -1,5 +1,5 @@
 -- An answer is refused exactly where its number is not 0.
-use Rattle.std.specs.Prelude.{ℕ, ◌≡◌, ◌<◌, refl, Result, Ok, Err}
+use Rattle.std.specs.Prelude.{◌≡◌, ◌<◌, refl, Result, Ok, Err}
 use Rattle.std.proofs.Common.{arith}
 use Rattle.refusals.specs.declared.Refusal.{Refusal}
 use Rattle.refusals.specs.declared.Refusal.TheVariants.{Policy, TreeLength, TreeRecord, TooDeep, RootEnd, Records, ShortOutput}

@@ -7,7 +7,7 @@ use Rattle.rules.specs.Tree.{kinds, classes, weights}
 use Rattle.rules.specs.Scheduling.{most_workers, Phase}
 use Rattle.rules.specs.Traces.{loads, heaviest, class_loads}
 use Rattle.rules.specs.Calls.{replay_of, replay_refused, Replayed as Call}
-use Rattle.tree.specs.declared.Accepted.{Accepted}
+use Rattle.tree.specs.Contract.{Accepted}
 use Rattle.replay_walk.specs.declared.Ended.{Ended}
 use Rattle.replay_walk.specs.Terms.{ruled}
 use Rattle.arguments.specs.Terms.{replay_judged}

@@ -6,7 +6,7 @@ use Rattle.std.proofs.Common.{◌∙◌}
 use Rattle.std.specs.Int.Count.{ones, count_trailing_zeros}
 use borrow.Author.Tests.{ne_eqb}
 use Rattle.rules.specs.Calls.{start_verdict}
-use Rattle.tree.specs.declared.Accepted.{Accepted}
+use Rattle.tree.specs.Contract.{Accepted}
 use Rattle.arguments.specs.Terms.{start_judged}
 use Rattle.tree_scan.specs.Laws.Starts.{admitted_position}
 use Rattle.policy.specs.Contract.{worker_limit}
