@@ -24,11 +24,9 @@ pub struct Stolen {
     pub ordinal: Ordinal,
 }
 
-// What an event did: the phase and the step that it ran, or the trace number of the step that it stole, or its refusal, whose
-// position is always 0.
+// What an event did: the phase and the step that it ran, or the trace number of the step that it stole.
 #[derive(Clone, Copy)]
-pub enum Outcome {
+pub enum Done {
     Ran { phase: Phase, step: Step },
     Stole(TraceNumber),
-    Refused(u8),
 }

@@ -1,10 +1,10 @@
 -- The scans over the array of places and the climb over openers, turn by turn, in the terms of the code: a turn finds the mark
 -- or leaves what is to be found. Then where it stands, and what the stores leave.
 use Rattle.std.specs.Prelude.{Some, None}
-use Rattle.tree.specs.Steps.{MaybeStep, maybe_step}
+use Rattle.tree.specs.Steps.{maybe_step}
 use Prim.Native.Nat.{ℕ, zero, suc, ◌+◌, ◌-◌, ◌≤◌, ◌<◌}
 use Rattle.std.specs.Prelude.{◌≡◌, Bool, true, false, cond, List, length, get_or, set}
-use Rattle.std.proofs.Math.Path.{refl, sym, ap}
+use Rattle.std.proofs.Math.Path.{refl, sym}
 use Rattle.std.proofs.Common.{◌∙◌}
 use Rattle.std.proofs.Math.Option.{Option, none, some, none-ne-some}
 use Rattle.std.proofs.Math.Decide.{dec_le, dec_lt}
@@ -14,7 +14,6 @@ use borrow.Author.Tests.{eq-eqb, ne_eqb}
 use Rattle.rules.specs.Bytes.{find}
 use Rattle.tree.specs.Laws.Counts.{count_low, count_none}
 use Rattle.tree.specs.Laws.Highest.{highest-turn, highest-done, fails_highest, upper_none}
-use Rattle.tree.specs.declared.Step.{Step}
 use Rattle.run_spec.specs.Deques.{marked, newest_mark, oldest_mark, popped, robbed}
 use Rattle.run_spec.specs.Terms.{Climbs}
 

@@ -14,7 +14,7 @@ use Rattle.policy.specs.declared.Setup.{Setup}
 use Rattle.policy.specs.Contract.{most_phases}
 use Rattle.trace.specs.declared.number.TraceNumber.{TraceNumber}
 use Rattle.run_spec.specs.declared.Stolen.{Stolen}
-use Rattle.run_spec.specs.declared.Outcome.TheVariants.{Ran, Stole, Refused}
+use Rattle.run_spec.specs.Outcomes.{Ran, Stole, Refused}
 use Rattle.run_spec.specs.Deques.{unrun_mark, oldest_mark, robbed}
 use Rattle.run_spec.specs.Running.{no_step, run_number, held_next, place_next}
 use Rattle.trace.specs.Contract.{number_by}

@@ -1,7 +1,7 @@
 -- Whether all steps of a block have run, as a loop finds it; what a walk backwards over blocks passes and where it stops; and the
 -- step that a step waits for, by the finish child before it.
 use Rattle.std.specs.Prelude.{Some, None}
-use Rattle.tree.specs.Steps.{MaybeStep, maybe_step}
+use Rattle.tree.specs.Steps.{maybe_step}
 use Rattle.std.specs.Prelude.{ℕ, suc, ◌+◌, ◌-◌, ◌≤◌, ◌<◌, ◌≡◌, true, false, ◌&&◌, ◌||◌, List, length, get_or, eqb, leb}
 use Rattle.std.proofs.Math.Path.{refl}
 use Rattle.std.proofs.Common.{sym, ap, ◌∙◌, true≢false, add-one, arith, eq-eqb, ne_eqb, leb-false}
