@@ -64,17 +64,10 @@ pub struct Totals {
     pub classes: [u64; CLASSES],
 }
 
-// The totals on what a walk comes to, its refusal or 0 and the loads of workers and classes: all 0 beside a refusal.
-pub fn totals_of(number: u8, loads: [u64; WORKERS], classes: [u64; CLASSES]) -> Totals
-    ensures { result ≡ totals_of number loads classes }
+// The totals on the loads of workers and classes that a walk comes to.
+pub fn totals_of(loads: [u64; WORKERS], classes: [u64; CLASSES]) -> Totals
+    ensures { result ≡ totals_of loads classes }
 {
-    if number != 0 {
-        return Totals {
-            loads: [0; WORKERS],
-            heaviest: 0,
-            classes: [0; CLASSES],
-        };
-    }
     let most = heaviest(&loads);
     Totals {
         loads,
