@@ -17,7 +17,7 @@ pub const EVENT: usize = 2;
 pub fn two_bytes(low: u8, high: u8) -> u16
     ensures { result ≡ low + 256 * high }
 {
-    low as u16 + 256 * (high as u16)
+    u16::from_le_bytes([low, high])
 }
 
 // The number of the two bytes at a place.
