@@ -33,6 +33,18 @@ pub struct Setup {
     pub workers: u16,
 }
 
+impl Setup {
+    // What C asks for: a policy and a count of workers, a byte each.
+    pub fn of(policy: u8, workers: u8) -> Setup
+        ensures { result ≡ record { policy = policy; workers = workers } }
+    {
+        Setup {
+            policy,
+            workers: workers as u16,
+        }
+    }
+}
+
 // What running a step does to its worker: it holds a step and pushes one, or it pops.
 #[derive(Clone, Copy)]
 pub enum Running {
