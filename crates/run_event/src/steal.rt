@@ -3,35 +3,40 @@
 ghost use Rattle.std.specs.Prelude.{◌≡◌, ◌+◌, ◌≤◌, ◌<◌, length, set, Some};
 ghost use Rattle.rules.specs.Tree.{kinds, most_steps};
 ghost use Rattle.rules.specs.Scheduling.{most_workers};
+ghost use Rattle.refusals.specs.Numbers.{number_in};
 ghost use Rattle.tree_tables.specs.Terms.{Ends};
 ghost use Rattle.run_spec.specs.Deques.{oldest_mark, robbed};
 ghost use Rattle.run_spec.specs.Stealing.{steal_number, taken_of};
 ghost use Rattle.run_spec.specs.Terms.{Small};
 
 use policy::WORKERS;
+use refusals::Refusal;
 use run_spec::Stolen;
 use tree::{MOST_STEPS, Ordinal, Phase, Step};
 use tree_tables::wide;
 
-// The refusal of a steal in a run of so many workers, but for an empty deque: 8 or 11, or 2 for a tree that is too long; 0 for none.
-pub fn judge_steal(tree: &[u8], held: &[u16; WORKERS], workers: u16, thief: u8, victim: u8) -> u8
-    ensures { result ≡ steal_number workers (kinds tree.now) held.now thief victim }
+// Judges a steal in a run of so many workers, but for an empty deque: refusals 8 and 11, or 2 for a tree that is too long.
+pub fn judge_steal(
+    tree: &[u8],
+    held: &[u16; WORKERS],
+    workers: u16,
+    thief: u8,
+    victim: u8,
+) -> Result<(), Refusal>
+    ensures { number_in result ≡ steal_number workers (kinds tree.now) held.now thief victim }
 {
-    if policy::no_worker(workers, thief) {
-        return 8;
-    }
-    if policy::no_worker(workers, victim) {
-        return 8;
+    if policy::no_worker(workers, thief) || policy::no_worker(workers, victim) {
+        return Err(Refusal::NoSuchWorker);
     }
     let n = tree::steps(tree);
     if MOST_STEPS < n {
-        return 2;
+        return Err(Refusal::TreeLength);
     }
     let t = thief as usize;
     if wide(held[t]) < n {
-        return 11;
+        return Err(Refusal::ThiefBusy);
     }
-    0
+    Ok(())
 }
 
 // The oldest step of the victim's deque leaves it, and is given with its pusher and its ordinal.
