@@ -68,10 +68,7 @@ pub fn walk(
     let mut loads: [u64; WORKERS] = [0; WORKERS];
     loads[0] = sums[n];
     let mut logs = 0;
-    let mut k = 0;
-    while k < events.len() / EVENT {
-        let at = k;
-        k += 1;
+    for at in 0..events.len() / EVENT {
         let event = event_at(events, at);
         let moved = run_event::event_on(
             tree,

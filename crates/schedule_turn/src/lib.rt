@@ -79,11 +79,11 @@ fn run_turn(
     }
     // It has run: what the worker waits for now, if it does, stands below it.
     let step = Step(wide(held[w]));
-    let below = waiting::awaited_before(tree, openers, place, step, seen);
-    awaited[w] = below;
-    if below != NO_STEP {
+    if let Some(below) = waiting::awaited_before(tree, openers, place, step, seen) {
+        awaited[w] = below.0 as u16;
         return Turned { seed, steals, runs };
     }
+    awaited[w] = NO_STEP;
     let outcome = run_event::run_on(tree, ends, openers, place, held, phase, low, setup, worker);
     match outcome {
         Outcome::Ran { phase, step } => {
