@@ -1,27 +1,29 @@
 use Rattle.std.proofs.Common.{◌≡◌, ◌/◌, refl, sym, ◌∙◌, arith, length, get_or}
 use Rattle.rules.specs.Tree.{kinds}
 use Rattle.tree_scan.specs.Laws.Starts.{start-tree-accepts}
+use Rattle.refusals.specs.Laws.Numbers.{number_none}
 use Rattle.trace.specs.Laws.Numbers.{ordinal-kept}
 use Rattle.replay_walk.specs.Laws.Retracing.{tables-filled, label_room_lem, retrace_start, retrace_judged, retrace_end}
 use Rattle.replay_walk.specs.Laws.Turns.{Judged, NumberRead, read_as, two_workers, read_ready, retrace-broken, begin-ready}
 use Rattle.replay_walk.specs.Laws.Turns.{part-movable, retrace-begun}
 use Rattle.replay_walk.proofs.walk.Goals as goal
-use Rattle.replay_walk.proofs.walk.Goals.{Else-refusal-ne0, After-read_steal}
+use Rattle.replay_walk.proofs.walk.Goals.{In_default, After-read_steal}
 
 -- ---- what is so in a turn
 
 -- The record's workers are not refused.
-judged : (c : Else-refusal-ne0)
+judged : (c : In_default)
     → let a = c.args in
     let l = c.loop-at in
     let r = c.record_at-steal.result in
     Judged a.setup.workers a.setup.policy a.tree.now a.trace.now l.at l.labels l.firsts l.bases l.ordinals l.latest l.loads
     r.thief r.victim r.number.0
 judged c =
+    let n = c.in_default.not-Err in
     record {
       so = c.loop-at.invariant;
       entry = c.record_at-steal.ensures;
-      fine = sym c.judge_workers-refusal.ensures ∙ c.if-refusal-ne0.false;
+      fine = sym c.judge_workers-judged.ensures ∙ number_none c.judge_workers-judged.result n;
     }
 
 -- Its number has been read against the victim's latest phase.
@@ -59,51 +61,52 @@ loop-at-init c =
 
 -- ---- a record that is refused
 
-pub returns-then-refusal-ne0 : goal.returns-then-refusal-ne0
-returns-then-refusal-ne0 c =
-    retrace_judged c.loop-at.invariant c.record_at-steal.ensures _ c.judge_workers-refusal.ensures c.if-refusal-ne0.true
-    _ c.refused.ensures
+pub returns-in-Err : goal.returns-in-Err
+returns-in-Err c =
+    let told = rw c.in-Err.is at c.judge_workers-judged.ensures in
+    rw c.at.ensures (retrace_judged c.loop-at.invariant c.record_at-steal.ensures c.in-Err.refusal told)
 
-pub returns-in_default : goal.returns-in_default
-returns-in_default c =
-    let at = goal.at.returns-in_default c in
-    retrace-broken (judged at.Else-refusal-ne0) (read at.After-read_steal) c.in_default.is _ c.refused-in_default.ensures
+pub returns-in_default-read_steal : goal.returns-in_default-read_steal
+returns-in_default-read_steal c =
+    let at = goal.at.returns-in_default-read_steal c in
+    rw c.at-in_default-read_steal.ensures
+    (retrace-broken (judged at.In_default) (read at.After-read_steal) c.in_default-read_steal.is)
 
 -- ---- a record whose number is read
 
 pub bounds-latest-victim : goal.bounds-latest-victim
-bounds-latest-victim c = omega (arith, two_workers (judged (goal.at.bounds-latest-victim c).Else-refusal-ne0))
+bounds-latest-victim c = omega (arith, two_workers (judged (goal.at.bounds-latest-victim c).In_default))
 
 pub read_steal-requires-clause-base : goal.read_steal-requires-clause-base
 read_steal-requires-clause-base c =
-    let ready = read_ready (judged (goal.at.read_steal-requires-clause-base c).Else-refusal-ne0) in
+    let ready = read_ready (judged (goal.at.read_steal-requires-clause-base c).In_default) in
     let from = c.wide.ensures in
     (start-tree-accepts _ _ c.args.tree.now c.requires.start.0, omega (arith, from, ready.0, ready.1), rw from ready.2)
 
 pub read_steal-requires-clause-labels : goal.read_steal-requires-clause-labels
 read_steal-requires-clause-labels c =
-    let ready = read_ready (judged (goal.at.read_steal-requires-clause-labels c).Else-refusal-ne0) in
+    let ready = read_ready (judged (goal.at.read_steal-requires-clause-labels c).In_default) in
     (c.loop-at.invariant.label_room, ready.3)
 
 -- ---- a record that begins a phase
 
 pub begin-requires-clause-phases : goal.begin-requires-clause-phases
 begin-requires-clause-phases c =
-    let j = judged (goal.at.begin-requires-clause-phases c).Else-refusal-ne0 in
+    let j = judged (goal.at.begin-requires-clause-phases c).In_default in
     let ready = read_ready j in
     (ready.0, omega (arith, c.wide.ensures, ready.0, ready.1), (two_workers j).0)
 
 pub begin-requires-clause-step : goal.begin-requires-clause-step
 begin-requires-clause-step c =
     let at = goal.at.begin-requires-clause-step c in
-    let given = begin-ready (judged at.Else-refusal-ne0) (read at.After-read_steal) c.in-Some.is in
+    let given = begin-ready (judged at.In_default) (read at.After-read_steal) c.in-Some.is in
     (omega (arith, given), omega (arith, given, c.requires.openers.0), omega (arith, given))
 
 pub begin-requires-clause-rooms : goal.begin-requires-clause-rooms
 begin-requires-clause-rooms c =
     let at = goal.at.begin-requires-clause-rooms c in
     let now = read at.After-read_steal in
-    let given = begin-ready (judged at.Else-refusal-ne0) now c.in-Some.is in
+    let given = begin-ready (judged at.In_default) now c.in-Some.is in
     let room = c.loop-at.invariant in
     (omega (arith, given, now.kept, room.label_room), room.first_room, room.base_room)
 
@@ -118,13 +121,13 @@ begin-requires-clause-ordinals c =
 
 pub move_part-requires-clause-workers : goal.move_part-requires-clause-workers
 move_part-requires-clause-workers c =
-    let two = two_workers (judged (goal.at.move_part-requires-clause-workers c).Else-refusal-ne0) in
+    let two = two_workers (judged (goal.at.move_part-requires-clause-workers c).In_default) in
     (two.0, two.1, two.2)
 
 pub move_part-requires-clause-movable : goal.move_part-requires-clause-movable
 move_part-requires-clause-movable c =
     let at = goal.at.move_part-requires-clause-movable c in
-    part-movable (judged at.Else-refusal-ne0) (read at.After-read_steal) c.in-Some.is
+    part-movable (judged at.In_default) (read at.After-read_steal) c.in-Some.is
 
 pub loop-at-preserved : goal.loop-at-preserved
 loop-at-preserved c =
@@ -133,7 +136,7 @@ loop-at-preserved c =
     let kept = ordinal-kept c.args.setup.policy c.record_at-steal.result.number.0 c.record_at-steal.ensures.small
     c.decode_number-number.ensures c.ordinal_in.ensures
     in
-    retrace-begun (judged at.Else-refusal-ne0) (read at.After-read_steal) c.in-Some.is c.wide.ensures kept.1
+    retrace-begun (judged at.In_default) (read at.After-read_steal) c.in-Some.is c.wide.ensures kept.1
     _ _ _ _ _ _ stored.labels stored.firsts stored.bases stored.ordinals stored.latest c.move_part.ensures
 
 -- ---- the end

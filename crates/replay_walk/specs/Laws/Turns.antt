@@ -1,8 +1,8 @@
 -- A turn of the loop over the records, where the record's workers are not refused: its number is read against the victim's
 -- latest phase. Either it breaks the rule, or a phase begins and the tables show that.
-use Rattle.std.specs.Prelude.{Some, None}
+use Rattle.std.specs.Prelude.{Some, None, Err}
 use Rattle.tree.specs.Steps.{MaybeStep}
-use Rattle.std.specs.Prelude.{ℕ, ◌+◌, ◌≤◌, ◌<◌, ◌≡◌, refl, Bool, true, false, cond, List, [], drop, get_or, set, replicate}
+use Rattle.std.specs.Prelude.{ℕ, ◌+◌, ◌≤◌, ◌<◌, ◌≡◌, refl, Bool, true, false, cond, List, [], drop, get_or, set}
 use Rattle.std.proofs.Common.{sym, ap, ◌∙◌, add-one, arith}
 use Rattle.std.proofs.Math.Option.{some}
 use Rattle.std.proofs.Math.ListN.{length, length-set}
@@ -36,7 +36,7 @@ use Rattle.trace.specs.declared.number.TraceNumber.{TraceNumber}
 use Rattle.trace.specs.Terms.{RecordAt}
 use Rattle.replay_spec.specs.Workers.{judged_workers}
 use Rattle.replay_spec.proofs.Laws.Workers.{fine_workers, latest_some, latest_next, judged-on}
-use Rattle.replay_walk.specs.declared.Ended.{Ended}
+use Rattle.refusals.specs.declared.Refusal.TheVariants.{NoSuchStep}
 use Rattle.replay_walk.specs.Terms.{Retraced}
 use Rattle.replay_spec.proofs.Laws.Begins.{firsts-next, bases-within, bases-next}
 use Rattle.replay_walk.specs.Laws.Retracing.{split-whole, Retracing, Tables, retrace_stopped}
@@ -131,13 +131,13 @@ module _ {w p : ℕ} {tree trace : List ℕ} {k : ℕ} {labels firsts bases ordi
         r after t.reading
 
     -- It breaks the rule.
-    pub retrace-broken : r ≡ None → (e : Ended) → e ≡ record { number = 15; position = k; phases = 0; loads = replicate most_workers 0 }
-        → Retraced w p tree trace e after firsts
-    retrace-broken lost e is = by (number_allowed p ks phase number) refl
+    pub retrace-broken : r ≡ None → Retraced w p tree trace (Err (record { refusal = NoSuchStep; position = k })) after firsts
+    retrace-broken lost = by (number_allowed p ks phase number) refl
       where
-        by : (b : Bool) → number_allowed p ks phase number ≡ b → Retraced w p tree trace e after firsts
+        by : (b : Bool) → number_allowed p ks phase number ≡ b
+            → Retraced w p tree trace (Err (record { refusal = NoSuchStep; position = k })) after firsts
         by true a = let z : ◌≡◌ {A = ℕ} 0 1 = cc (if-allowed a).0 in absurd (omega arith)
-        by false a = retrace_stopped j.so j.entry 15 (judged ∙ rw a refl) (λ z. omega arith) e is after (t.kept ∙ j.so.label_room)
+        by false a = retrace_stopped j.so j.entry NoSuchStep (judged ∙ rw a refl) after (t.kept ∙ j.so.label_room)
 
     -- It names step s, which can be stolen: a phase begins with it.
     module _ {s : ℕ} (gives : r ≡ Some (record { 0 = s })) where
