@@ -1,15 +1,16 @@
 -- What each call answers, and every field of the state that it hands back: functions of the state, the tree's bytes and the event
 -- alone, for any of them. What an event does to the fields of a state is said in `Moves` of `run_spec`.
-use Rattle.std.specs.Prelude.{ℕ, cond, List, replicate, eqb}
+use Rattle.std.specs.Prelude.{ℕ, cond, List, replicate, eqb, Result, Ok, Err}
 use Rattle.rules.specs.Tree.{most_steps}
 use Rattle.rules.specs.Scheduling.{most_workers}
 use Rattle.rules.specs.Calls.{start_verdict}
+use Rattle.refusals.specs.declared.Refused.{Refused}
+use Rattle.refusals.specs.Numbers.{number_of}
 use Rattle.policy.specs.Contract.{worker_limit}
+use Rattle.run_spec.specs.Outcomes.{Outcome}
 use Rattle.run_spec.specs.Moves.{Fields, Move, fresh, run_move, steal_move, event_move}
 use Rattle.run_spec.specs.Idle.{idle_bits, idle_number, idle_first}
 use Rattle.run_state.specs.declared.RunState.{RunState}
-use Rattle.run_state.specs.declared.Answer.{Answer}
-use Rattle.run_state.specs.declared.Started.{Started}
 use Rattle.run_state.specs.declared.Idle.{Idle}
 
 -- The fields of a state,
@@ -39,6 +40,11 @@ state_of f =
       workers = f.setup.workers;
     }
 
+-- an event's outcome with the next state,
+pub record Answer : Type 0 where
+  pub outcome : Outcome
+  pub state : RunState
+
 -- and the answer of an event that did such a move.
 abbrev pub answer_of : Move → Answer
 answer_of m = record { outcome = m.outcome; state = state_of m.after }
@@ -60,6 +66,11 @@ zeros =
     }
 
 -- Refusals 1 to 5 and 16 with their position, or the first state, which keeps the count for the events.
+pub record Started : Type 0 where
+  pub number : ℕ
+  pub position : ℕ
+  pub state : RunState
+
 unfoldable pub start_answer : ℕ → ℕ → List ℕ → Started
 start_answer w p tree =
     let refusal = start_verdict w p tree in
@@ -68,6 +79,11 @@ start_answer w p tree =
       position = refusal.position;
       state = cond (eqb refusal.number 0) (state_of (fresh (record { policy = p; workers = w }))) zeros;
     }
+
+-- It is answered by the first state or a refusal.
+abbrev pub started_of : Result RunState Refused → Started
+started_of (Ok state) = record { number = 0; position = 0; state = state }
+started_of (Err e) = record { number = number_of e.refusal; position = e.position; state = zeros }
 
 -- ---- events
 
@@ -89,5 +105,4 @@ idle_answer s =
       set = idle_bits s.held 0 (worker_limit s.workers);
       count = idle_number s.held 0 (worker_limit s.workers);
       lowest = idle_first s.held 0 (worker_limit s.workers);
-      state = s;
     }

@@ -1,5 +1,5 @@
 // A run by value, event by event (document 01, "Scheduling"). `start::start` judges policy, worker count and tree and gives the
-// first state; `run`, `steal` and `event` take a state and hand back the next with the event's outcome; `idle` tells the idle workers.
+// first state; `run`, `steal` and `event` take a state on to the next and tell what the event did; `idle` tells the idle workers.
 // Nothing is kept elsewhere: a host may copy a state, keep it or go back to it. Any state and any bytes are safe: a held step
 // beyond the tree is none, a tree with more records than a tree may have is refused with 2, and a count above 16 is 16.
 #![tactic(auto)]
@@ -8,11 +8,13 @@ pub mod start;
 
 ghost use Rattle.std.specs.Prelude.{◌≡◌};
 ghost use Rattle.policy.specs.Contract.{worker_limit};
+ghost use Rattle.run_spec.specs.Outcomes.{outcome_of};
 ghost use Rattle.run_spec.specs.Idle.{idle_bits};
 ghost use Rattle.run_state.specs.Contract.{run_answer, steal_answer, event_answer, idle_answer};
 
 use policy::{Setup, WORKERS};
-use run_spec::Outcome;
+use refusals::Refusal;
+use run_spec::Done;
 use tree::MOST_STEPS;
 use tree_tables::wide;
 
@@ -37,28 +39,12 @@ pub struct RunState {
     pub workers: u16,
 }
 
-// An event's outcome with the next state.
-#[derive(Clone, Copy)]
-pub struct Answer {
-    pub outcome: Outcome,
-    pub state: RunState,
-}
-
-// A start's refusal and position with the first state.
-#[derive(Clone, Copy)]
-pub struct Started {
-    pub number: u8,
-    pub position: usize,
-    pub state: RunState,
-}
-
-// The idle workers as a set, how many they are and the lowest, with the state.
+// The idle workers as a set, how many they are and the lowest.
 #[derive(Clone, Copy)]
 pub struct Idle {
     pub set: u16,
     pub count: u32,
     pub lowest: u32,
-    pub state: RunState,
 }
 
 // The workers that hold no step as a set, of a run of so many workers: worker w is bit w.
@@ -76,79 +62,56 @@ fn idle_set(held: &[u16; WORKERS], workers: u16) -> u16
 }
 
 impl RunState {
-    // A worker runs its step.
-    pub fn run(self, tree: &[u8], worker: u8) -> Answer
-        ensures { result ≡ run_answer self tree.now worker }
+    // A worker runs its step: a refusal leaves the state as it is.
+    pub fn run(&mut self, tree: &[u8], worker: u8) -> Result<Done, Refusal>
+        ensures outcome { outcome_of result ≡ (run_answer self.old tree.now worker).outcome }
+        ensures state { self.new ≡ (run_answer self.old tree.now worker).state }
     {
-        let mut next = self;
-        let mut held = next.held;
-        let phase = next.phase;
-        let low = next.low;
         let setup = Setup {
-            policy: next.policy,
-            workers: next.workers,
+            policy: self.policy,
+            workers: self.workers,
         };
-        let outcome = run_event::run_on(
+        run_event::run_on(
             tree,
             &[],
             &[],
-            &mut next.place,
-            &mut held,
-            &phase,
-            &low,
+            &mut self.place,
+            &mut self.held,
+            &self.phase,
+            &self.low,
             setup,
             worker,
-        );
-        next.held = held;
-        Answer {
-            outcome,
-            state: next,
-        }
+        )
     }
 
-    // The thief takes the oldest step of the victim's deque.
-    pub fn steal(self, tree: &[u8], thief: u8, victim: u8) -> Answer
-        ensures { result ≡ steal_answer self tree.now thief victim }
+    // The thief takes the oldest step of the victim's deque: a refusal leaves the state as it is.
+    pub fn steal(&mut self, tree: &[u8], thief: u8, victim: u8) -> Result<Done, Refusal>
+        ensures outcome { outcome_of result ≡ (steal_answer self.old tree.now thief victim).outcome }
+        ensures state { self.new ≡ (steal_answer self.old tree.now thief victim).state }
     {
-        let mut next = self;
-        let mut held = next.held;
-        let mut phase = next.phase;
-        let mut low = next.low;
-        let mut base = next.base;
-        let steals = next.steals;
         let setup = Setup {
-            policy: next.policy,
-            workers: next.workers,
+            policy: self.policy,
+            workers: self.workers,
         };
-        let moved = run_event::steal_on(
+        run_event::steal_on(
             tree,
             &[],
-            &mut next.place,
-            &mut held,
-            &mut phase,
-            &mut low,
-            &mut base,
-            steals,
+            &mut self.place,
+            &mut self.held,
+            &mut self.phase,
+            &mut self.low,
+            &mut self.base,
+            &mut self.steals,
             setup,
             thief,
             victim,
-        );
-        let outcome = moved.outcome;
-        let count = moved.steals;
-        next.held = held;
-        next.phase = phase;
-        next.low = low;
-        next.base = base;
-        next.steals = count;
-        Answer {
-            outcome,
-            state: next,
-        }
+        )
     }
 
     // An event of two bytes: equal, that worker runs its step; different, the first steals from the second.
-    pub fn event(self, tree: &[u8], first: u8, second: u8) -> Answer
-        ensures { result ≡ event_answer self tree.now first second }
+    pub fn event(&mut self, tree: &[u8], first: u8, second: u8) -> Result<Done, Refusal>
+        ensures outcome { outcome_of result ≡ (event_answer self.old tree.now first second).outcome }
+        ensures state { self.new ≡ (event_answer self.old tree.now first second).state }
     {
         if first == second {
             return self.run(tree, first);
@@ -157,16 +120,14 @@ impl RunState {
     }
 
     // The idle workers: those of the run that hold no step. One that waits is not idle.
-    pub fn idle(self) -> Idle
-        ensures { result ≡ idle_answer self }
+    pub fn idle(&self) -> Idle
+        ensures { result ≡ idle_answer self.now }
     {
-        let held = self.held;
-        let set = idle_set(&held, self.workers);
+        let set = idle_set(&self.held, self.workers);
         Idle {
             set,
             count: u16::count_ones(set),
             lowest: u16::trailing_zeros(set),
-            state: self,
         }
     }
 }

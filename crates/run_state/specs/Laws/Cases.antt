@@ -16,11 +16,9 @@ use Rattle.run_spec.specs.Idle.{idle_bits}
 use Rattle.run_spec.proofs.Laws.Moves.{event_run, event_steal}
 use Rattle.run_spec.proofs.Laws.Idle.{ones-set, lowest_set}
 use Rattle.run_state.specs.declared.RunState.{RunState}
-use Rattle.run_state.specs.declared.Answer.{Answer}
-use Rattle.run_state.specs.declared.Started.{Started}
 use Rattle.run_state.specs.declared.Idle.{Idle}
-use Rattle.run_state.specs.Contract.{fields, state_of, answer_of, zeros, start_answer, run_answer, steal_answer, event_answer}
-use Rattle.run_state.specs.Contract.{idle_answer}
+use Rattle.run_state.specs.Contract.{Answer, Started, fields, state_of, answer_of, zeros, start_answer, run_answer, steal_answer}
+use Rattle.run_state.specs.Contract.{event_answer, idle_answer}
 
 -- ---- events
 
@@ -45,7 +43,7 @@ module _ (s : RunState) (tree : List ℕ) where
 -- ---- the idle workers
 
 pub idle_answers : (s : RunState) (set : ℕ) → set ≡ idle_bits s.held 0 (worker_limit s.workers)
-    → ◌≡◌ {A = Idle} (record { set = set; count = ones set; lowest = count_trailing_zeros 16 set; state = s }) (idle_answer s)
+    → ◌≡◌ {A = Idle} (record { set = set; count = ones set; lowest = count_trailing_zeros 16 set }) (idle_answer s)
 unfolding idle_answer
 idle_answers s set e =
     let c = worker_limit s.workers in
