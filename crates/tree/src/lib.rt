@@ -56,6 +56,7 @@ fn byte(tree: &[u8], i: usize, at: usize) -> u8
 }
 
 // The kind of a step's record, 0 where it is beyond the tree.
+#[tactic(auto, unfolding(rules::specs::Tree::kind_at, rules::specs::Tree::kinds, rules::specs::Tree::kind))]
 pub fn kind(tree: &[u8], step: Step) -> u8
     ensures { result ≡ kind_at (kinds tree.now) step.0 }
 {
@@ -63,6 +64,7 @@ pub fn kind(tree: &[u8], step: Step) -> u8
 }
 
 // The class of a step, 0 where it is beyond the tree.
+#[tactic(auto, unfolding(rules::specs::Tree::classes, rules::specs::Tree::class))]
 pub fn class(tree: &[u8], step: Step) -> u8
     ensures { result ≡ get_or (classes tree.now) step.0 0 }
 {
