@@ -46,6 +46,7 @@ pub fn task_of(tree: &[u8], step: Step) -> Task
 }
 
 // The ordinal of a step in its task.
+#[tactic(auto, unfolding(crate::specs::Contract::task_of))]
 pub fn ordinal_of(tree: &[u8], step: Step) -> Ordinal
     ensures { result.0 ≡ ordinal (kinds tree.now) step.0 }
 {
