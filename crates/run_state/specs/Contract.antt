@@ -7,10 +7,11 @@ use Rattle.rules.specs.Calls.{start_verdict}
 use Rattle.refusals.specs.declared.Refused.{Refused}
 use Rattle.refusals.specs.Numbers.{number_of}
 use Rattle.policy.specs.Contract.{worker_limit}
-use Rattle.run_spec.specs.Outcomes.{Outcome}
+use Rattle.run_spec.specs.Outcomes.{Outcome, outcome_of}
 use Rattle.run_spec.specs.Moves.{Fields, Move, fresh, run_move, steal_move, event_move}
 use Rattle.run_spec.specs.Idle.{idle_bits, idle_number, idle_first}
 use Rattle.run_state.specs.declared.RunState.{RunState}
+use Rattle.run_state.specs.declared.Answer.{Answer}
 use Rattle.run_state.specs.declared.Idle.{Idle}
 
 -- The fields of a state,
@@ -41,13 +42,17 @@ state_of f =
     }
 
 -- an event's outcome with the next state,
-pub record Answer : Type 0 where
+pub record Answered : Type 0 where
   pub outcome : Outcome
   pub state : RunState
 
--- and the answer of an event that did such a move.
-abbrev pub answer_of : Move → Answer
+-- that of an event that did such a move,
+abbrev pub answer_of : Move → Answered
 answer_of m = record { outcome = m.outcome; state = state_of m.after }
+
+-- and that which a call answers, its refusal by the number.
+abbrev pub answered : Answer → Answered
+answered a = record { outcome = outcome_of a.outcome; state = a.state }
 
 -- ---- the start
 
@@ -87,13 +92,13 @@ started_of (Err e) = record { number = number_of e.refusal; position = e.positio
 
 -- ---- events
 
-unfoldable pub run_answer : RunState → List ℕ → ℕ → Answer
+unfoldable pub run_answer : RunState → List ℕ → ℕ → Answered
 run_answer s tree w = answer_of (run_move (fields s) tree w)
 
-unfoldable pub steal_answer : RunState → List ℕ → ℕ → ℕ → Answer
+unfoldable pub steal_answer : RunState → List ℕ → ℕ → ℕ → Answered
 steal_answer s tree t v = answer_of (steal_move (fields s) tree t v)
 
-unfoldable pub event_answer : RunState → List ℕ → ℕ → ℕ → Answer
+unfoldable pub event_answer : RunState → List ℕ → ℕ → ℕ → Answered
 event_answer s tree a b = answer_of (event_move (fields s) tree a b)
 
 -- ---- the idle workers
@@ -105,4 +110,5 @@ idle_answer s =
       set = idle_bits s.held 0 (worker_limit s.workers);
       count = idle_number s.held 0 (worker_limit s.workers);
       lowest = idle_first s.held 0 (worker_limit s.workers);
+      state = s;
     }

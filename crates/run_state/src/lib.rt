@@ -1,5 +1,5 @@
 // A run by value, event by event (document 01, "Scheduling"). `start::start` judges policy, worker count and tree and gives the
-// first state; `run`, `steal` and `event` take a state on to the next and tell what the event did; `idle` tells the idle workers.
+// first state; `run`, `steal` and `event` take a state and hand back the next with the event's outcome; `idle` tells the idle workers.
 // Nothing is kept elsewhere: a host may copy a state, keep it or go back to it. Any state and any bytes are safe: a held step
 // beyond the tree is none, a tree with more records than a tree may have is refused with 2, and a count above 16 is 16.
 #![tactic(auto)]
@@ -8,9 +8,8 @@ pub mod start;
 
 ghost use Rattle.std.specs.Prelude.{◌≡◌};
 ghost use Rattle.policy.specs.Contract.{worker_limit};
-ghost use Rattle.run_spec.specs.Outcomes.{outcome_of};
 ghost use Rattle.run_spec.specs.Idle.{idle_bits};
-ghost use Rattle.run_state.specs.Contract.{run_answer, steal_answer, event_answer, idle_answer};
+ghost use Rattle.run_state.specs.Contract.{answered, run_answer, steal_answer, event_answer, idle_answer};
 
 use policy::{Setup, WORKERS};
 use refusals::Refusal;
@@ -39,12 +38,20 @@ pub struct RunState {
     pub workers: u16,
 }
 
-// The idle workers as a set, how many they are and the lowest.
+// An event's outcome with the next state, which beside a refusal is the very state given.
+#[derive(Clone, Copy)]
+pub struct Answer {
+    pub outcome: Result<Done, Refusal>,
+    pub state: RunState,
+}
+
+// The idle workers as a set, how many they are and the lowest, with the state.
 #[derive(Clone, Copy)]
 pub struct Idle {
     pub set: u16,
     pub count: u32,
     pub lowest: u32,
+    pub state: RunState,
 }
 
 // The workers that hold no step as a set, of a run of so many workers: worker w is bit w.
@@ -62,56 +69,61 @@ fn idle_set(held: &[u16; WORKERS], workers: u16) -> u16
 }
 
 impl RunState {
-    // A worker runs its step: a refusal leaves the state as it is.
-    pub fn run(&mut self, tree: &[u8], worker: u8) -> Result<Done, Refusal>
-        ensures outcome { outcome_of result ≡ (run_answer self.old tree.now worker).outcome }
-        ensures state { self.new ≡ (run_answer self.old tree.now worker).state }
+    // What the run was set up with.
+    fn setup(&self) -> Setup
+        ensures { result ≡ record { policy = self.now.policy; workers = self.now.workers } }
     {
-        let setup = Setup {
+        Setup {
             policy: self.policy,
             workers: self.workers,
-        };
-        run_event::run_on(
-            tree,
-            &[],
-            &[],
-            &mut self.place,
-            &mut self.held,
-            &self.phase,
-            &self.low,
-            setup,
-            worker,
-        )
+        }
     }
 
-    // The thief takes the oldest step of the victim's deque: a refusal leaves the state as it is.
-    pub fn steal(&mut self, tree: &[u8], thief: u8, victim: u8) -> Result<Done, Refusal>
-        ensures outcome { outcome_of result ≡ (steal_answer self.old tree.now thief victim).outcome }
-        ensures state { self.new ≡ (steal_answer self.old tree.now thief victim).state }
+    // A worker runs its step.
+    pub fn run(self, tree: &[u8], worker: u8) -> Answer
+        ensures { answered result ≡ run_answer self tree.now worker }
     {
-        let setup = Setup {
-            policy: self.policy,
-            workers: self.workers,
-        };
-        run_event::steal_on(
+        let mut state = self;
+        let setup = state.setup();
+        let outcome = run_event::run_on(
             tree,
             &[],
-            &mut self.place,
-            &mut self.held,
-            &mut self.phase,
-            &mut self.low,
-            &mut self.base,
-            &mut self.steals,
+            &[],
+            &mut state.place,
+            &mut state.held,
+            &state.phase,
+            &state.low,
+            setup,
+            worker,
+        );
+        Answer { outcome, state }
+    }
+
+    // The thief takes the oldest step of the victim's deque.
+    pub fn steal(self, tree: &[u8], thief: u8, victim: u8) -> Answer
+        ensures { answered result ≡ steal_answer self tree.now thief victim }
+    {
+        let mut state = self;
+        let setup = state.setup();
+        let outcome = run_event::steal_on(
+            tree,
+            &[],
+            &mut state.place,
+            &mut state.held,
+            &mut state.phase,
+            &mut state.low,
+            &mut state.base,
+            &mut state.steals,
             setup,
             thief,
             victim,
-        )
+        );
+        Answer { outcome, state }
     }
 
     // An event of two bytes: equal, that worker runs its step; different, the first steals from the second.
-    pub fn event(&mut self, tree: &[u8], first: u8, second: u8) -> Result<Done, Refusal>
-        ensures outcome { outcome_of result ≡ (event_answer self.old tree.now first second).outcome }
-        ensures state { self.new ≡ (event_answer self.old tree.now first second).state }
+    pub fn event(self, tree: &[u8], first: u8, second: u8) -> Answer
+        ensures { answered result ≡ event_answer self tree.now first second }
     {
         if first == second {
             return self.run(tree, first);
@@ -120,14 +132,15 @@ impl RunState {
     }
 
     // The idle workers: those of the run that hold no step. One that waits is not idle.
-    pub fn idle(&self) -> Idle
-        ensures { result ≡ idle_answer self.now }
+    pub fn idle(self) -> Idle
+        ensures { result ≡ idle_answer self }
     {
         let set = idle_set(&self.held, self.workers);
         Idle {
             set,
             count: u16::count_ones(set),
             lowest: u16::trailing_zeros(set),
+            state: self,
         }
     }
 }

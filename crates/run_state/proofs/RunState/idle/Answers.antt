@@ -4,4 +4,4 @@ use Rattle.run_state.specs.Laws.Cases.{idle_answers}
 use Rattle.run_state.proofs.RunState.idle.Goals as goal
 
 pub returns : goal.returns
-returns c = idle_answers c.args.self.now c.idle_set-set.result c.idle_set-set.ensures
+returns c = idle_answers c.args.self c.idle_set-set.result c.idle_set-set.ensures
