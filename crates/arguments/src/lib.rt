@@ -26,7 +26,7 @@ pub fn judge_start(tree: &[u8], setup: Setup) -> Result<usize, Refused>
     }
     let workers = wide(setup.workers);
     if workers == 0 || WORKERS < workers {
-        return Err(Refusal::WorkerCount.into());
+        return Err(Refusal::Count.into());
     }
     accept(tree)
 }
@@ -37,10 +37,10 @@ fn judge_call(steps: usize, whole: bool, short: bool) -> Result<usize, Refused>
     ensures { accepted_of result ≡ judged (record { number = 0; position = 0; steps = steps }) whole short }
 {
     if !whole {
-        return Err(Refusal::Records.into());
+        return Err(Refusal::InputLength.into());
     }
     if short {
-        return Err(Refusal::ShortOutput.into());
+        return Err(Refusal::OutputLength.into());
     }
     Ok(steps)
 }

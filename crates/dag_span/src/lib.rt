@@ -56,7 +56,7 @@ pub fn span(tree: &[u8], chain: &mut [u8]) -> Result<Spanned, Refused>
 {
     let steps = tree::validation::accept(tree)?;
     if chain.len() < 2 * steps {
-        return Err(Refusal::ShortOutput.into());
+        return Err(Refusal::OutputLength.into());
     }
     Ok(measure(tree, chain))
 }

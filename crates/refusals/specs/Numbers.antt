@@ -2,9 +2,9 @@
 use Rattle.std.specs.Prelude.{ℕ, Result, Ok, Err}
 use Rattle.rules.specs.Bytes.{Verdict}
 use Rattle.refusals.specs.declared.Refusal.{Refusal}
-use Rattle.refusals.specs.declared.Refusal.TheVariants.{Policy, TreeLength, TreeRecord, TooDeep, RootEnd, Records, ShortOutput}
-use Rattle.refusals.specs.declared.Refusal.TheVariants.{NoSuchWorker, Idle, Waits, ThiefBusy, EmptyDeque, SameWorker, NoPhase}
-use Rattle.refusals.specs.declared.Refusal.TheVariants.{NoSuchStep, WorkerCount, Full}
+use Rattle.refusals.specs.declared.Refusal.TheVariants.{Policy, TreeLength, TreeRecord, OpenTasks, Root, InputLength, OutputLength}
+use Rattle.refusals.specs.declared.Refusal.TheVariants.{Worker, Idle, Waits, Thief, Deque, SameWorker, NoPhase}
+use Rattle.refusals.specs.declared.Refusal.TheVariants.{Number, Count, Full}
 use Rattle.refusals.specs.declared.Refused.{Refused}
 
 -- A refusal's number.
@@ -12,19 +12,19 @@ abbrev pub number_of : Refusal → ℕ
 number_of Policy = 1
 number_of TreeLength = 2
 number_of TreeRecord = 3
-number_of TooDeep = 4
-number_of RootEnd = 5
-number_of Records = 6
-number_of ShortOutput = 7
-number_of NoSuchWorker = 8
+number_of OpenTasks = 4
+number_of Root = 5
+number_of InputLength = 6
+number_of OutputLength = 7
+number_of Worker = 8
 number_of Idle = 9
 number_of Waits = 10
-number_of ThiefBusy = 11
-number_of EmptyDeque = 12
+number_of Thief = 11
+number_of Deque = 12
 number_of SameWorker = 13
 number_of NoPhase = 14
-number_of NoSuchStep = 15
-number_of WorkerCount = 16
+number_of Number = 15
+number_of Count = 16
 number_of Full = 17
 
 -- The number of an answer that may be a refusal, 0 for none,

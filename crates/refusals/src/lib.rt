@@ -9,37 +9,37 @@ ghost use Rattle.refusals.specs.Numbers.{number_of};
 pub enum Refusal {
     // the policy is neither 1 nor 2
     Policy = 1,
-    // the tree is empty, not whole records, or too long
+    // the tree is empty, not whole records, or longer than 32,760 bytes
     TreeLength = 2,
-    // a tree record has another kind, a class above 15, or a byte 2 or 3 that is not 0
+    // a tree record has another kind, a class above 15, or a non-zero byte 2 or 3
     TreeRecord = 3,
     // a tree record opens a task while 64 are open
-    TooDeep = 4,
-    // a record follows the root's end, or the root is still open at the end
-    RootEnd = 5,
+    OpenTasks = 4,
+    // a record follows the root's end; or the root is still open at the end
+    Root = 5,
     // the events or the trace are not whole records or too many
-    Records = 6,
-    // a lent output is short
-    ShortOutput = 7,
+    InputLength = 6,
+    // a lent output is short: log or run list 4 n bytes, trace 2 (n - 1), events 3 n - 1, chain 2 n
+    OutputLength = 7,
     // a record names a worker at or above the run's count
-    NoSuchWorker = 8,
+    Worker = 8,
     // a run event names an idle worker
     Idle = 9,
     // a run event names a worker that waits
     Waits = 10,
     // a steal's thief holds a step
-    ThiefBusy = 11,
+    Thief = 11,
     // a steal's victim has an empty deque
-    EmptyDeque = 12,
+    Deque = 12,
     // in a trace, thief and victim are equal
     SameWorker = 13,
     // in a trace, the victim has had no phase
     NoPhase = 14,
-    // in a trace, the number names no step that can be stolen
-    NoSuchStep = 15,
+    // in a trace, the number breaks the rule of "Trace"
+    Number = 15,
     // the count of workers is outside 1 to 16
-    WorkerCount = 16,
-    // a histogram has as many traces as it takes
+    Count = 16,
+    // 65,535 traces have been added to the histogram
     Full = 17,
 }
 

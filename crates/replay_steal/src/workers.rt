@@ -19,10 +19,10 @@ pub fn judge_workers(
     ensures { number_in result ≡ judged_workers workers latest.now thief victim }
 {
     if no_worker(workers, thief) {
-        return Err(Refusal::NoSuchWorker);
+        return Err(Refusal::Worker);
     }
     if no_worker(workers, victim) {
-        return Err(Refusal::NoSuchWorker);
+        return Err(Refusal::Worker);
     }
     if thief == victim {
         return Err(Refusal::SameWorker);

@@ -75,7 +75,7 @@ pub fn walk(
         let Some(step) = replay_steal::read_steal(
             tree, ends, openers, labels, &bases, &ordinals, phase, number,
         ) else {
-            return Err(Refusal::NoSuchStep.at(at));
+            return Err(Refusal::Number.at(at));
         };
         replay_steal::phase::begin(
             openers,

@@ -78,7 +78,7 @@ pub fn steal_on(
     let from = Step(wide(low[v]));
     let ordinal = Ordinal(wide(base[v]));
     let taken = steal::take_step(tree, ends, place, setup.policy, victim, from, ordinal);
-    let stolen = taken.ok_or(Refusal::EmptyDeque)?;
+    let stolen = taken.ok_or(Refusal::Deque)?;
     *steals = *steals % MOST_PHASES as u16 + 1;
     steal::settle(
         held,

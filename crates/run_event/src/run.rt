@@ -30,7 +30,7 @@ pub fn judge_run(
     ensures { number_in result ≡ run_number workers (kinds tree.now) place.now held.now worker }
 {
     if policy::no_worker(workers, worker) {
-        return Err(Refusal::NoSuchWorker);
+        return Err(Refusal::Worker);
     }
     let n = tree::steps(tree);
     if MOST_STEPS < n {

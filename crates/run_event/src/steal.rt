@@ -26,7 +26,7 @@ pub fn judge_steal(
     ensures { number_in result ≡ steal_number workers (kinds tree.now) held.now thief victim }
 {
     if policy::no_worker(workers, thief) || policy::no_worker(workers, victim) {
-        return Err(Refusal::NoSuchWorker);
+        return Err(Refusal::Worker);
     }
     let n = tree::steps(tree);
     if MOST_STEPS < n {
@@ -34,7 +34,7 @@ pub fn judge_steal(
     }
     let t = thief as usize;
     if wide(held[t]) < n {
-        return Err(Refusal::ThiefBusy);
+        return Err(Refusal::Thief);
     }
     Ok(())
 }

@@ -59,10 +59,10 @@ fn judge_record(tree: &[u8], i: usize, depth: usize) -> Result<(), Refusal>
         if tree[TREE_RECORD * i] == END {
             return Ok(());
         }
-        return Err(Refusal::TooDeep);
+        return Err(Refusal::OpenTasks);
     }
     if depth == 0 {
-        return Err(Refusal::RootEnd);
+        return Err(Refusal::Root);
     }
     Ok(())
 }
@@ -87,7 +87,7 @@ pub fn accept(tree: &[u8]) -> Result<usize, Refused>
         }
     }
     if depth != 0 {
-        return Err(Refusal::RootEnd.at(n));
+        return Err(Refusal::Root.at(n));
     }
     Ok(n)
 }

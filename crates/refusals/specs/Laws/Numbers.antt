@@ -2,9 +2,9 @@
 use Rattle.std.specs.Prelude.{◌≡◌, ◌<◌, refl, Result, Ok, Err}
 use Rattle.std.proofs.Common.{arith}
 use Rattle.refusals.specs.declared.Refusal.{Refusal}
-use Rattle.refusals.specs.declared.Refusal.TheVariants.{Policy, TreeLength, TreeRecord, TooDeep, RootEnd, Records, ShortOutput}
-use Rattle.refusals.specs.declared.Refusal.TheVariants.{NoSuchWorker, Idle, Waits, ThiefBusy, EmptyDeque, SameWorker, NoPhase}
-use Rattle.refusals.specs.declared.Refusal.TheVariants.{NoSuchStep, WorkerCount, Full}
+use Rattle.refusals.specs.declared.Refusal.TheVariants.{Policy, TreeLength, TreeRecord, OpenTasks, Root, InputLength, OutputLength}
+use Rattle.refusals.specs.declared.Refusal.TheVariants.{Worker, Idle, Waits, Thief, Deque, SameWorker, NoPhase}
+use Rattle.refusals.specs.declared.Refusal.TheVariants.{Number, Count, Full}
 use Rattle.refusals.specs.declared.Refused.{Refused}
 use Rattle.refusals.specs.Numbers.{number_of, number_in, verdict_in}
 
@@ -13,19 +13,19 @@ pub number-some : (e : Refusal) → 0 < number_of e
 number-some Policy = omega arith
 number-some TreeLength = omega arith
 number-some TreeRecord = omega arith
-number-some TooDeep = omega arith
-number-some RootEnd = omega arith
-number-some Records = omega arith
-number-some ShortOutput = omega arith
-number-some NoSuchWorker = omega arith
+number-some OpenTasks = omega arith
+number-some Root = omega arith
+number-some InputLength = omega arith
+number-some OutputLength = omega arith
+number-some Worker = omega arith
 number-some Idle = omega arith
 number-some Waits = omega arith
-number-some ThiefBusy = omega arith
-number-some EmptyDeque = omega arith
+number-some Thief = omega arith
+number-some Deque = omega arith
 number-some SameWorker = omega arith
 number-some NoPhase = omega arith
-number-some NoSuchStep = omega arith
-number-some WorkerCount = omega arith
+number-some Number = omega arith
+number-some Count = omega arith
 number-some Full = omega arith
 
 module _ {T : Type 0} where

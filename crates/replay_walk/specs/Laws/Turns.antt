@@ -36,7 +36,7 @@ use Rattle.trace.specs.declared.number.TraceNumber.{TraceNumber}
 use Rattle.trace.specs.Terms.{RecordAt}
 use Rattle.replay_spec.specs.Workers.{judged_workers}
 use Rattle.replay_spec.proofs.Laws.Workers.{fine_workers, latest_some, latest_next, judged-on}
-use Rattle.refusals.specs.declared.Refusal.TheVariants.{NoSuchStep}
+use Rattle.refusals.specs.declared.Refusal.TheVariants.{Number}
 use Rattle.replay_walk.specs.Terms.{Retraced}
 use Rattle.replay_spec.proofs.Laws.Begins.{firsts-next, bases-within, bases-next}
 use Rattle.replay_walk.specs.Laws.Retracing.{split-whole, Retracing, Tables, retrace_stopped}
@@ -131,13 +131,13 @@ module _ {w p : ℕ} {tree trace : List ℕ} {k : ℕ} {labels firsts bases ordi
         r after t.reading
 
     -- It breaks the rule.
-    pub retrace-broken : r ≡ None → Retraced w p tree trace (Err (record { refusal = NoSuchStep; position = k })) after firsts
+    pub retrace-broken : r ≡ None → Retraced w p tree trace (Err (record { refusal = Number; position = k })) after firsts
     retrace-broken lost = by (number_allowed p ks phase number) refl
       where
         by : (b : Bool) → number_allowed p ks phase number ≡ b
-            → Retraced w p tree trace (Err (record { refusal = NoSuchStep; position = k })) after firsts
+            → Retraced w p tree trace (Err (record { refusal = Number; position = k })) after firsts
         by true a = let z : ◌≡◌ {A = ℕ} 0 1 = cc (if-allowed a).0 in absurd (omega arith)
-        by false a = retrace_stopped j.so j.entry NoSuchStep (judged ∙ rw a refl) after (t.kept ∙ j.so.label_room)
+        by false a = retrace_stopped j.so j.entry Number (judged ∙ rw a refl) after (t.kept ∙ j.so.label_room)
 
     -- It names step s, which can be stolen: a phase begins with it.
     module _ {s : ℕ} (gives : r ≡ Some (record { 0 = s })) where

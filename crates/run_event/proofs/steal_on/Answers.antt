@@ -4,7 +4,7 @@ use Rattle.std.proofs.Common.{◌≡◌, ◌≤◌, ◌<◌, length, refl, arith
 use Rattle.std.specs.Prelude.{Some, None}
 use Rattle.std.proofs.lemmas.Result.{err_from_is_err_and}
 use Rattle.rules.specs.Tree.{kinds}
-use Rattle.refusals.specs.declared.Refusal.TheVariants.{EmptyDeque}
+use Rattle.refusals.specs.declared.Refusal.TheVariants.{Deque}
 use Rattle.refusals.specs.Laws.Numbers.{number-some}
 use Rattle.policy.proofs.Laws.Workers.{limit-below}
 use Rattle.run_spec.specs.Moves.{Fields, fields_of}
@@ -50,7 +50,7 @@ returns-in_err-stolen c =
     let a = c.args in
     let took = c.take_step-taken in
     let none : took.result ≡ None = grind arith in
-    let empty : c.in_err-stolen.field-0.0 ≡ EmptyDeque = grind arith in
+    let empty : c.in_err-stolen.field-0.0 ≡ Deque = grind arith in
     let p = err_from_is_err_and c.from_residual-in_err-stolen.result c.from_residual-in_err-stolen.ensures.1 in
     rw (p.1, p.2, empty)
     (steal-empty (lent (goal.at.returns-in_err-stolen c).Start) a.tree.now a.thief a.victim _ c.in_ok-judge_steal.ensures refl
