@@ -106,9 +106,6 @@ module _ (openers place : List ℕ) (w low end : ℕ) (climbs : Climbs openers p
     turned-to : newest_mark place w low (suc q) ≡ newest_mark place w low end
     turned-to = rw e (climb_turn same)
 
-    pub climb-less : q < j
-    climb-less = rw e climb_before
-
     pub climb-below : q < low → None ≡ maybe_step (newest_mark place w low end)
     climb-below l = newest_end place w low end (suc q) l turned-to
 
