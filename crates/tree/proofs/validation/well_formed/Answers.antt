@@ -19,9 +19,6 @@ pub returns-then-kind-gt-END : goal.returns-then-kind-gt-END
 returns-then-kind-gt-END c =
     sym (well_formed-at c.args.tree.now c.args.i c.requires ∙ formed_other _ _ _ _ (λ j l u e. absurd (omega arith)))
 
-pub overflow_mul-i : goal.overflow_mul-i
-overflow_mul-i c = omega (arith, length-kinds c.args.tree.now)
-
 pub word-requires : goal.word-requires
 word-requires c = omega (arith, length-kinds c.args.tree.now)
 

@@ -27,9 +27,6 @@ returns-then-kind-ne-FINISH c =
     let o = opener (goal.at.returns-then-kind-ne-FINISH c).After-wide-opener in
     finish_other (kinds c.args.tree.now) c.wide-opener.result c.args.step.0 o (λ e. c.if-kind-ne-FINISH.true (c.kind-2.ensures ∙ e))
 
-pub overflow_add-result : goal.overflow_add-result
-overflow_add-result c = omega (arith, (opener (goal.at.overflow_add-result c).After-wide-opener).before)
-
 pub returns : goal.returns
 returns c =
     let o = opener (goal.at.returns c).After-wide-opener in
