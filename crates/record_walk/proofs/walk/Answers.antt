@@ -81,16 +81,19 @@ overflow_add-logs c = omega (arith, ran-fits (turn (goal.at.overflow_add-logs c)
 
 -- It has stolen one: the record has room, and it names two of the workers.
 pub bounds-held-event : goal.bounds-held-event
-bounds-held-event c = omega (arith, stole-fits (turn (goal.at.bounds-held-event c).After-event_on-judged) (did c.in-Ok.is c.in-Stole.is) _ refl)
+bounds-held-event c =
+    let at = (goal.at.bounds-held-event c).After-event_on-judged in
+    omega (arith, stole-fits (turn at) (did c.in-Ok.is c.in-Stole.is) _ refl)
 
 pub trace_steal-requires-clause-room : goal.trace_steal-requires-clause-room
 trace_steal-requires-clause-room c =
-    let fits = stole-fits (turn (goal.at.trace_steal-requires-clause-room c).After-event_on-judged) (did c.in-Ok.is c.in-Stole.is) _ refl in
-    rw c.wide-before.ensures fits.0
+    let at = (goal.at.trace_steal-requires-clause-room c).After-event_on-judged in
+    rw c.wide-before.ensures (stole-fits (turn at) (did c.in-Ok.is c.in-Stole.is) _ refl).0
 
 pub trace_steal-requires-clause-workers : goal.trace_steal-requires-clause-workers
 trace_steal-requires-clause-workers c =
-    let fits = stole-fits (turn (goal.at.trace_steal-requires-clause-workers c).After-event_on-judged) (did c.in-Ok.is c.in-Stole.is) _ refl in
+    let at = (goal.at.trace_steal-requires-clause-workers c).After-event_on-judged in
+    let fits = stole-fits (turn at) (did c.in-Ok.is c.in-Stole.is) _ refl in
     (fits.1, fits.2, fits.3)
 
 pub trace_steal-requires-clause-movable : goal.trace_steal-requires-clause-movable
@@ -111,8 +114,8 @@ loop-at-preserved c =
       | in-Stole w ↦
           let traced = w.trace_steal.ensures in
           rw (w.log-is, w.trace-is, w.loads-is, w.logs-is)
-          (stole-turn (turn at) (did c.in-Ok.is w.in-Stole.is) w.wide.result w.wide.ensures (weighed at) _ (rw c.wide-before.ensures at traced.trace) _
-          traced.loads)
+          (stole-turn (turn at) (did c.in-Ok.is w.in-Stole.is) w.wide.result w.wide.ensures (weighed at)
+          _ (rw c.wide-before.ensures at traced.trace) _ traced.loads)
     ]
 
 -- ---- the end

@@ -10,14 +10,18 @@ returns-in_err-judge_schedule c =
     let a = c.args in
     let p = err_from_is_err_and c.from_residual.result c.from_residual.ensures.1 in
     let e = c.in_err-judge_schedule.field-0.0 in
-    let so = refusal_meets _ _ a.tree.now a.seed a.events.now _ c.in_err-judge_schedule.ensures (λ z. omega (arith, number-some e.refusal)) in
+    let some = number-some e.refusal in
+    let so = refusal_meets _ _ a.tree.now a.seed a.events.now _ c.in_err-judge_schedule.ensures (λ z. omega (arith, some)) in
     record { answers = rw (p.1, p.2) so.0; events = so.1 }
 
 pub make-requires : goal.make-requires
 make-requires c =
     let a = c.args in
     let is = c.in_ok-judge_schedule.ensures in
-    record { accepted = starts _ _ a.tree.now a.seed a.events.now _ is refl; events_room = room _ _ a.tree.now a.seed a.events.now _ is refl }
+    record {
+      accepted = starts _ _ a.tree.now a.seed a.events.now _ is refl;
+      events_room = room _ _ a.tree.now a.seed a.events.now _ is refl;
+    }
 
 pub returns : goal.returns
 returns c =
