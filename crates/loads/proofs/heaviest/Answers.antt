@@ -2,7 +2,6 @@ use Rattle.std.proofs.Common.{arith}
 use Rattle.loads.proofs.Laws.Heaviest.{leads_done}
 use Rattle.loads.proofs.heaviest.Goals as goal
 
--- At the end all are looked at.
 pub returns : goal.returns
 returns c =
     let loop = c.loop-w in
