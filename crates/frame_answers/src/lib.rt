@@ -11,6 +11,7 @@ ghost use Rattle.schedule.specs.Contract.{answers_of as scheduled_of};
 ghost use Rattle.frame_answers.specs.Contract.{flat_start, flat_outcome, flat_event, flat_idle, flat_record, flat_replay};
 ghost use Rattle.frame_answers.specs.Contract.{flat_schedule};
 
+use loads::Totals;
 use policy::WORKERS;
 use record::Recorded;
 use refusals::{Refusal, Refused};
@@ -184,16 +185,21 @@ impl From<Result<Recorded, Refused>> for FrameRecord {
                     class_loads,
                 }
             }
-            Err(refused) => FrameRecord {
-                number: refused.refusal.number() as usize,
-                position: refused.position,
-                logs: 0,
-                steals: 0,
-                finished: 0,
-                loads: [0; WORKERS],
-                heaviest: 0,
-                class_loads: [0; CLASSES],
-            },
+            Err(refused) => {
+                let none = Totals::none();
+                let loads = none.loads;
+                let class_loads = none.classes;
+                FrameRecord {
+                    number: refused.refusal.number() as usize,
+                    position: refused.position,
+                    logs: 0,
+                    steals: 0,
+                    finished: 0,
+                    loads,
+                    heaviest: none.heaviest,
+                    class_loads,
+                }
+            }
         }
     }
 }
@@ -228,14 +234,19 @@ impl From<Result<Replayed, Refused>> for FrameReplay {
                     class_loads,
                 }
             }
-            Err(refused) => FrameReplay {
-                number: refused.refusal.number() as usize,
-                position: refused.position,
-                phases: 0,
-                loads: [0; WORKERS],
-                heaviest: 0,
-                class_loads: [0; CLASSES],
-            },
+            Err(refused) => {
+                let none = Totals::none();
+                let loads = none.loads;
+                let class_loads = none.classes;
+                FrameReplay {
+                    number: refused.refusal.number() as usize,
+                    position: refused.position,
+                    phases: 0,
+                    loads,
+                    heaviest: none.heaviest,
+                    class_loads,
+                }
+            }
         }
     }
 }

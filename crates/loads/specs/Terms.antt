@@ -1,7 +1,8 @@
 -- The weight that a steal moves, what it leaves in the loads, what is so of all loads together, and the totals that a call answers.
-use Rattle.std.specs.Prelude.{ℕ, ◌+◌, ◌-◌, ◌≤◌, ◌<◌, ◌≡◌, List, length, get_or, set}
+use Rattle.std.specs.Prelude.{ℕ, ◌+◌, ◌-◌, ◌≤◌, ◌<◌, ◌≡◌, List, length, get_or, set, replicate}
 use Rattle.rules.specs.Bytes.{sum}
-use Rattle.rules.specs.Scheduling.{Phase}
+use Rattle.rules.specs.Tree.{class_count}
+use Rattle.rules.specs.Scheduling.{Phase, most_workers}
 use Rattle.rules.specs.Traces.{phase_load, heaviest}
 use Rattle.tree_tables.specs.Terms.{weight_before}
 use Rattle.loads.specs.declared.Totals.{Totals}
@@ -31,3 +32,7 @@ Whole ks phs = (ws : List ℕ) → sum (phase_load ks ws) phs ≡ weight_before 
 -- The totals on the loads of workers and classes that a walk comes to.
 unfoldable pub totals_of : List ℕ → List ℕ → Totals
 totals_of ls by_class = record { loads = ls; heaviest = heaviest ls; classes = by_class }
+
+-- "A refused call returns the number and the position, all other results 0."
+abbrev pub no_totals : Totals
+no_totals = record { loads = replicate most_workers 0; heaviest = 0; classes = replicate class_count 0 }

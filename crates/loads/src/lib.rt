@@ -6,7 +6,7 @@
 ghost use Rattle.std.specs.Prelude.{◌≡◌, ◌+◌, ◌≤◌, ◌<◌, length, get_or};
 ghost use Rattle.rules.specs.Scheduling.{most_workers};
 ghost use Rattle.rules.specs.Traces.{heaviest as heaviest_of};
-ghost use Rattle.loads.specs.Terms.{load_moved, weight_between, Movable, totals_of};
+ghost use Rattle.loads.specs.Terms.{load_moved, weight_between, Movable, totals_of, no_totals};
 
 use policy::WORKERS;
 use tree::{CLASSES, Step};
@@ -62,6 +62,19 @@ pub struct Totals {
     pub loads: [u64; WORKERS],
     pub heaviest: usize,
     pub classes: [u64; CLASSES],
+}
+
+impl Totals {
+    // The totals beside a refusal: all 0.
+    pub fn none() -> Totals
+        ensures { result ≡ no_totals }
+    {
+        Totals {
+            loads: [0; WORKERS],
+            heaviest: 0,
+            classes: [0; CLASSES],
+        }
+    }
 }
 
 // The totals on the loads of workers and classes that a walk comes to.
