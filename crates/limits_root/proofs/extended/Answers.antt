@@ -1,6 +1,5 @@
 -- The test decides whether the rest has what a digit 1 takes.
-use Rattle.std.proofs.Common.{sym, ◌∙◌, rules}
-use borrow.Author.Tests.{leb-false}
+use Rattle.std.proofs.Common.{sym, ◌∙◌, rules, leb-false}
 use Rattle.limits_root.specs.Terms.{value, number}
 use Rattle.limits_root.specs.Laws.{digit_0, digit_1}
 use Rattle.limits_root.proofs.extended.Goals as goal

@@ -1,4 +1,5 @@
--- `oldest` finds the deque's lowest pusher, which stands before `end` and so in the array; its mark is taken away and nothing else changes.
+-- `oldest` finds the deque's lowest pusher, which stands before `end` and so in the array; its mark is taken away and nothing else
+-- changes.
 use Rattle.std.proofs.Common.{refl, arith}
 use Rattle.tree.specs.Laws.Steps.{found_at, found_nothing}
 use Rattle.run_spec.proofs.Laws.Marks.{oldest_before, robbed-at, robbed-nothing}
