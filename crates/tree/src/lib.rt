@@ -17,7 +17,7 @@ pub struct Step(pub usize);
 pub struct Ordinal(pub usize);
 
 // The number of a phase.
-#[derive(Clone, Copy)]
+#[derive(Clone, Copy, PartialEq, Eq)]
 pub struct Phase(pub usize);
 
 // Bytes of a record.

@@ -12,4 +12,4 @@ claim-found-requires-clause-step c =
     (free_past _ _ c.requires.phase.1 (omega arith) c.if-labels-at.false, pre.0, pre.1, pre.2)
 
 pub returns : goal.returns
-returns c = take_claimed (omega arith) c.if-labels-at.false _ _ c.claim-found.ensures
+returns c = rw c.eq.ensures (take_claimed (omega arith) c.if-labels-at.false _ _ c.claim-found.ensures)
