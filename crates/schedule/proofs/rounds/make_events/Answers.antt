@@ -2,16 +2,13 @@
 use Rattle.std.proofs.Common.{refl, arith}
 use Rattle.run_spec.proofs.Laws.Moves.{fresh_arrays}
 use Rattle.schedule_turn.proofs.Laws.Listing.{few_events}
-use Rattle.schedule.specs.Laws.Rounding.{making_begins, making_standing, making-falls, making-goes-on, making_ends}
+use Rattle.schedule.specs.Laws.Rounding.{making_begins, making-falls, making-goes-on, making_ends}
 use Rattle.schedule.proofs.rounds.make_events.Goals as goal
 
 pub loop-turned-init : goal.loop-turned-init
 loop-turned-init c =
     let a = c.args in
     (refl, making_begins a.setup a.tree.now a.events.now a.seed c.requires.accepted c.requires.events_room _ (fresh_arrays a.setup))
-
-pub round-turned-requires-clause-standing : goal.round-turned-requires-clause-standing
-round-turned-requires-clause-standing c = making_standing c.loop-turned.invariant.1
 
 pub loop-turned-smaller : goal.loop-turned-smaller
 loop-turned-smaller c = omega (arith, making-falls c.loop-turned.invariant.1 (omega arith) c.round-turned.ensures)
