@@ -13,6 +13,7 @@ use tree::{CLASSES, Step};
 use tree_tables::wide;
 
 // Some weight leaves the victim's load for the thief's.
+#[tactic(auto, unfolding(crate::specs::Terms::load_moved))]
 fn move_load(loads: &mut [u64; WORKERS], thief: usize, victim: usize, weight: u64)
     requires workers { (thief < most_workers) × (victim < most_workers) × (thief ≡ victim → ⊥) }
     requires fits { (weight ≤ get_or loads.old victim 0) × (get_or loads.old thief 0 + weight < 18446744073709551616) }
@@ -23,6 +24,7 @@ fn move_load(loads: &mut [u64; WORKERS], thief: usize, victim: usize, weight: u6
 }
 
 // A step is stolen: all from it to the end of its task, by the tree's tables, goes to the thief's load.
+#[tactic(auto, unfolding(crate::specs::Terms::weight_between))]
 pub fn move_part(
     ends: &[u16],
     sums: &[u64],

@@ -12,6 +12,7 @@ use run_spec::NO_STEP;
 use tree::MOST_STEPS;
 
 // Worker 0 holds step 0 and that begins phase 0; the others are idle.
+#[tactic(auto, unfolding(run_spec::specs::Moves::fresh))]
 fn first_state(setup: Setup) -> RunState
     ensures { result ≡ state_of (fresh setup) }
 {

@@ -26,6 +26,7 @@ pub struct Turned {
 }
 
 // How long a worker's deque is once it has run a step: an end takes one, where there is one, and an opening step pushes one.
+#[tactic(auto, unfolding(crate::specs::Terms::size_after, rules::specs::Tree::is_end))]
 fn size_after(tree: &[u8], step: Step, size: u16) -> u16
     requires { (step.0 < length (kinds tree.now)) × (size < 65535) }
     ensures { result ≡ size_after (kinds tree.now) step.0 size }

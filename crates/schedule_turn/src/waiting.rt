@@ -35,6 +35,7 @@ pub fn awaited_before(
 }
 
 // Whether this is a step, and has not run.
+#[tactic(auto, unfolding(crate::specs::Terms::unrun_still, run_spec::specs::Deques::marked))]
 pub fn unrun_still(place: &[u8; MOST_STEPS], step: Step) -> bool
     ensures { result ≡ unrun_still place.now step.0 }
 {
