@@ -11,7 +11,7 @@ use histogram_bucket::BUCKETS;
 use tree::Step;
 
 // Counts one more load in its bucket.
-#[tactic(auto, using(histogram_limits::proofs::Laws::Buckets::place_within), unfolding(rules_histogram::specs::Histograms::add_load, rules_histogram::specs::Histograms::wrapping),)]
+#[tactic(auto, using(histogram_limits::proofs::Laws::Buckets::place_within))]
 fn add_load(counts: &mut [u32; BUCKETS], load: u64)
     ensures { counts.new ≡ add_load wrapping counts.old load }
 {
