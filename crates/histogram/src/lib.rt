@@ -25,6 +25,7 @@ pub struct Histogram {
 
 impl Histogram {
     // A histogram that no trace has been added to.
+    #[tactic(auto, unfolding(rules_histogram::specs::Histograms::empty))]
     pub fn start() -> Histogram
         ensures { result ≡ stored empty }
     {
