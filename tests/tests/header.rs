@@ -23,6 +23,8 @@ use library::{
 
 const HEADER: &str = "include/frame.h";
 const RUST: &str = "tests/tests/library/mod.rs";
+/// The refusals by name and number.
+const REFUSALS: &str = "crates/refusals/src/lib.rt";
 /// The crates whose functions the library exports.
 const SOURCES: [&str; 6] = [
     "crates/frame_run/src/lib.rt",
@@ -362,6 +364,26 @@ fn header_refusals() -> Vec<(usize, String, String)> {
         (number, name.to_owned(), rest.trim_end_matches(" */").to_owned())
     };
     text(HEADER).lines().filter(|line| line.trim_start().starts_with("FRAME_REFUSED_")).map(refusal).collect()
+}
+
+/// The refusals of the sources: number, name as the header would have it, and condition.
+fn source_refusals() -> Vec<(usize, String, String)> {
+    let whole = text(REFUSALS);
+    let block = whole.split_once("pub enum Refusal {").expect("the refusals are there").1.split_once('}').expect("they end").0;
+    let lines: Vec<&str> = block.lines().map(str::trim).filter(|line| !line.is_empty()).collect();
+    let refusal = |pair: &[&str]| {
+        let condition = pair[0].strip_prefix("// ").expect("a refusal has a condition");
+        let (name, number) = pair[1].trim_end_matches(',').split_once(" = ").expect("a refusal has a number");
+        let parts = name.chars().flat_map(|c| c.is_uppercase().then_some('_').into_iter().chain(c.to_uppercase()));
+        let name: String = "FRAME_REFUSED".chars().chain(parts).collect();
+        (number.parse().expect("it is a number"), name, condition.to_owned())
+    };
+    lines.chunks(2).map(refusal).collect()
+}
+
+#[test]
+fn the_refusals_of_the_sources() {
+    assert_eq!(source_refusals(), header_refusals());
 }
 
 #[test]

@@ -13,8 +13,7 @@ use Rattle.rules.specs.Calls.{short_outputs, short_list, Recorded, record_call, 
 use Rattle.run_invariant.specs.Invariant.{log_of, self}
 use Rattle.run_state.specs.declared.RunState.{RunState}
 use Rattle.run_spec.specs.declared.Event.{Event}
-use Rattle.run_spec.specs.declared.Outcome.{Outcome}
-use Rattle.run_spec.specs.declared.Outcome.TheVariants.{Ran, Stole, Refused}
+use Rattle.run_spec.specs.Outcomes.{Outcome, Ran, Stole, Refused}
 use Rattle.run_state.specs.Contract.{start_answer, event_answer}
 
 -- ---- the live run, by the calls of single events

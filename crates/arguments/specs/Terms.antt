@@ -5,7 +5,7 @@ use Rattle.rules.specs.Bytes.{whole_records, Verdict, refused_if, first_refused}
 use Rattle.rules.specs.Tree.{kinds}
 use Rattle.rules.specs.Calls.{most_events, most_trace_records, start_verdict}
 use Rattle.rules_schedule.specs.Schedules.{most_made}
-use Rattle.tree.specs.declared.Accepted.{Accepted}
+use Rattle.tree.specs.Contract.{Accepted}
 
 -- The refusal and position of a policy, a worker count and a tree, or the tree's count of steps; what is not answered is 0.
 unfoldable pub start_judged : ℕ → ℕ → List ℕ → Accepted

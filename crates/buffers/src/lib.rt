@@ -17,10 +17,11 @@ pub const EVENT: usize = 2;
 pub fn two_bytes(low: u8, high: u8) -> u16
     ensures { result ≡ low + 256 * high }
 {
-    low as u16 + 256 * (high as u16)
+    u16::from_le_bytes([low, high])
 }
 
 // The number of the two bytes at a place.
+#[tactic(auto, unfolding(crate::specs::Terms::number_at))]
 pub fn number_at(bytes: &[u8], at: usize) -> usize
     requires { at + 2 ≤ length bytes.now }
     ensures { result ≡ number_at bytes.now at }
@@ -29,6 +30,7 @@ pub fn number_at(bytes: &[u8], at: usize) -> usize
 }
 
 // Whether bytes are whole records of a width, and not too many.
+#[tactic(auto, unfolding(rules::specs::Bytes::whole_records))]
 pub fn whole_records(bytes: &[u8], width: usize, most: usize) -> bool
     requires { 1 ≤ width }
     ensures { result ≡ whole_records width most bytes.now }
@@ -40,6 +42,7 @@ pub fn whole_records(bytes: &[u8], width: usize, most: usize) -> bool
 }
 
 // Stores record k: two bytes and a number of two bytes.
+#[tactic(auto, unfolding(crate::specs::Terms::record_put))]
 pub fn put_record(bytes: &mut [u8], k: usize, first: u8, second: u8, number: usize)
     requires { 4 * k + 4 ≤ length bytes.old }
     ensures { bytes.new ≡ record_put bytes.old k first second number }
@@ -52,6 +55,7 @@ pub fn put_record(bytes: &mut [u8], k: usize, first: u8, second: u8, number: usi
 }
 
 // Stores event k.
+#[tactic(auto, unfolding(crate::specs::Terms::event_put))]
 pub fn put_event(bytes: &mut [u8], k: usize, first: u8, second: u8)
     requires { 2 * k + 2 ≤ length bytes.old }
     ensures { bytes.new ≡ event_put bytes.old k first second }
@@ -66,9 +70,5 @@ pub fn copy_out(from: &[u8], count: usize, to: &mut [u8])
     requires { (count ≤ length from.now) × (count ≤ length to.old) }
     ensures { to.new ≡ written (take count from.now) to.old }
 {
-    let mut i = 0;
-    while i < count {
-        to[i] = from[i];
-        i += 1;
-    }
+    to[..count].copy_from_slice(&from[..count]);
 }

@@ -13,6 +13,7 @@ ghost use Rattle.tree_tables.specs.Terms.{Ends, Openers};
 use tree::{END, FINISH, Step, kind, steps, weight};
 
 // What an opening step lasts: the rest of its task waits for a finish child, and goes on beside an async child.
+#[tactic(auto, unfolding(dag_chain::specs::Terms::joined, rules::specs::Tree::is_finish))]
 fn joined(kind: u8, own: u32, child: u64, rest: u64) -> u64
     requires child_le_longest { child ≤ longest }
     requires rest_le_longest { rest ≤ longest }

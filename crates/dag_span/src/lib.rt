@@ -2,35 +2,21 @@
 // where it is lent. Nothing is refused once the first step is written.
 #![tactic(auto)]
 
-ghost use Rattle.std.specs.Prelude.{◌≡◌, ◌*◌, ◌≤◌, length};
+ghost use Rattle.std.specs.Prelude.{◌≡◌, ◌*◌, ◌≤◌, length, Ok};
 ghost use Rattle.rules.specs.Tree.{kinds, weights, tree_verdict};
 ghost use Rattle.rules_dag.specs.Spans.{work as work_of, span_call};
-ghost use Rattle.dag_span.specs.Contract.{answers};
-ghost use Rattle.dag_span.specs.Terms.{Measured, refusal};
+ghost use Rattle.dag_span.specs.Contract.{answers_of, answers};
+ghost use Rattle.dag_span.specs.Terms.{Measured};
 
+use refusals::{Refusal, Refused};
 use tree::{MOST_STEPS, Step, steps, weight};
 
-// What a call answers: its refusal and position, or the work, the span and how many steps the chain has.
+// What an accepted call answers: the work, the span and how many steps the chain has.
 #[derive(Clone, Copy)]
 pub struct Spanned {
-    pub number: u8,
-    pub position: usize,
     pub work: u64,
     pub span: u64,
     pub length: usize,
-}
-
-// A refusal, with no other answer.
-fn refused(number: u8, position: usize) -> Spanned
-    ensures { result ≡ refusal number position }
-{
-    Spanned {
-        number,
-        position,
-        work: 0,
-        span: 0,
-        length: 0,
-    }
 }
 
 // What all steps of an accepted tree weigh.
@@ -38,12 +24,9 @@ fn work(tree: &[u8]) -> u64
     requires { (tree_verdict tree.now).number ≡ 0 }
     ensures { result ≡ work_of (weights tree.now) }
 {
-    let n = steps(tree);
-    let mut j = 0;
     let mut total: u64 = 0;
-    while j < n {
+    for j in 0..steps(tree) {
         total += weight(tree, Step(j)) as u64;
-        j += 1;
     }
     total
 }
@@ -52,7 +35,7 @@ fn work(tree: &[u8]) -> u64
 fn measure(tree: &[u8], chain: &mut [u8]) -> Spanned
     requires accepted { (tree_verdict tree.now).number ≡ 0 }
     requires chain_room { 2 * length (kinds tree.now) ≤ length chain.old }
-    ensures { Measured tree.now chain.old result chain.new }
+    ensures { Measured tree.now chain.old (answers_of (Ok result)) chain.new }
 {
     let mut ends: [u16; MOST_STEPS] = [0; MOST_STEPS];
     let mut openers: [u16; MOST_STEPS] = [0; MOST_STEPS];
@@ -60,8 +43,6 @@ fn measure(tree: &[u8], chain: &mut [u8]) -> Spanned
     dag_lasting::fill(tree, &mut lasting, &mut ends, &mut openers);
     let length = dag_walk::walk(tree, &ends, &openers, &lasting, chain);
     Spanned {
-        number: 0,
-        position: 0,
         work: work(tree),
         span: lasting[0],
         length,
@@ -69,16 +50,13 @@ fn measure(tree: &[u8], chain: &mut [u8]) -> Spanned
 }
 
 // Work and span of a tree: refusals 2 to 5 and 7, or the answers, with the chain at the front of the lent buffer.
-pub fn span(tree: &[u8], chain: &mut [u8]) -> Spanned
-    ensures answers { result ≡ answers (span_call tree.now chain.old) }
+pub fn span(tree: &[u8], chain: &mut [u8]) -> Result<Spanned, Refused>
+    ensures answers { answers_of result ≡ answers (span_call tree.now chain.old) }
     ensures chain { chain.new ≡ (span_call tree.now chain.old).chain }
 {
-    let admitted = tree::validation::accept(tree);
-    if admitted.number != 0 {
-        return refused(admitted.number, admitted.position);
+    let steps = tree::validation::accept(tree)?;
+    if chain.len() < 2 * steps {
+        return Err(Refusal::OutputLength.into());
     }
-    if chain.len() < 2 * admitted.steps {
-        return refused(7, 0);
-    }
-    measure(tree, chain)
+    Ok(measure(tree, chain))
 }

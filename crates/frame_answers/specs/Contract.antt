@@ -1,14 +1,12 @@
 -- The library's answers as C's flat structs of numbers.
 use Rattle.std.specs.Prelude.{cond}
-use Rattle.run_spec.specs.declared.Outcome.{Outcome}
-use Rattle.run_spec.specs.declared.Outcome.TheVariants.{Ran, Stole, Refused}
-use Rattle.run_state.specs.declared.Answer.{Answer}
-use Rattle.run_state.specs.declared.Started.{Started}
+use Rattle.run_spec.specs.Outcomes.{Outcome, Ran, Stole, Refused}
+use Rattle.run_state.specs.Contract.{Answered, Started}
 use Rattle.run_state.specs.declared.Idle.{Idle}
 use Rattle.trace.specs.Contract.{number_value}
-use Rattle.record.specs.declared.answer.Recorded.{Recorded}
-use Rattle.replay.specs.declared.answer.Replayed.{Replayed}
-use Rattle.schedule.specs.declared.Scheduled.{Scheduled}
+use Rattle.record.specs.Contract.{Answers as Recorded}
+use Rattle.replay.specs.Contract.{Answers as Replayed}
+use Rattle.schedule.specs.Contract.{Answers as Scheduled}
 use Rattle.frame_answers.specs.declared.FrameStart.{FrameStart}
 use Rattle.frame_answers.specs.declared.FrameOutcome.{FrameOutcome}
 use Rattle.frame_answers.specs.declared.FrameEvent.{FrameEvent}
@@ -28,7 +26,7 @@ flat_outcome (Stole number) = record { number = 0; position = 0; what = 2; phase
 flat_outcome (Refused number) = record { number = number; position = 0; what = 0; phase = 0; step = 0; trace = 0 }
 
 -- An event by value: its outcome, and the next state.
-abbrev pub flat_event : Answer → FrameEvent
+abbrev pub flat_event : Answered → FrameEvent
 flat_event a = record { outcome = flat_outcome a.outcome; state = a.state }
 
 -- The idle workers; the state that they are told with is left out.

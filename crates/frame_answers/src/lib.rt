@@ -1,19 +1,24 @@
-// The library's answers as C's flat structs of numbers: each function takes an answer by value and writes its parts into the
-// fields of a struct. Most wrong answers of a function for C are of a field, so this is apart from the calls, which are dear to
-// prove.
+// The library's answers as C's flat structs of numbers: each `from` takes an answer by value and writes its parts into the fields of a
+// struct. Most wrong answers of a function for C are of a field, so this is apart from the calls, which are dear to prove.
 #![tactic(auto)]
 
 ghost use Rattle.std.specs.Prelude.{◌≡◌};
+ghost use Rattle.run_spec.specs.Outcomes.{outcome_of};
+ghost use Rattle.run_state.specs.Contract.{zeros, started_of, answered};
+ghost use Rattle.record.specs.Contract.{answers_of as recorded_of};
+ghost use Rattle.replay.specs.Contract.{answers_of as replayed_of};
+ghost use Rattle.schedule.specs.Contract.{answers_of as scheduled_of};
 ghost use Rattle.frame_answers.specs.Contract.{flat_start, flat_outcome, flat_event, flat_idle, flat_record, flat_replay};
 ghost use Rattle.frame_answers.specs.Contract.{flat_schedule};
 
+use loads::Totals;
 use policy::WORKERS;
-use record::answer::Recorded;
-use replay::answer::Replayed;
-use run_spec::Outcome;
-use run_state::{Answer, Idle, RunState, Started};
-use schedule::Scheduled;
-use tree::CLASSES;
+use record::Recorded;
+use refusals::{Refusal, Refused};
+use replay::Replayed;
+use run_spec::Done;
+use run_state::{Answer, Idle, RunState};
+use tree::{CLASSES, MOST_STEPS};
 
 // A start's refusal and position, or the first state. The state beside a refusal is all 0.
 #[repr(C)]
@@ -24,15 +29,38 @@ pub struct FrameStart {
     pub state: RunState,
 }
 
-// A start's answer for C.
-pub fn flat_start(started: Started) -> FrameStart
-    ensures { result ≡ flat_start started }
+// The state beside a refusal.
+fn no_state() -> RunState
+    ensures { result ≡ zeros }
 {
-    let state = started.state;
-    FrameStart {
-        number: started.number as usize,
-        position: started.position,
-        state,
+    RunState {
+        place: [0; MOST_STEPS],
+        policy: 0,
+        held: [0; WORKERS],
+        phase: [0; WORKERS],
+        low: [0; WORKERS],
+        base: [0; WORKERS],
+        steals: 0,
+        workers: 0,
+    }
+}
+
+impl From<Result<RunState, Refused>> for FrameStart {
+    ghost from_gives = { λ r e. e ≡ flat_start (started_of r) };
+
+    fn from(started: Result<RunState, Refused>) -> FrameStart {
+        match started {
+            Ok(state) => FrameStart {
+                number: 0,
+                position: 0,
+                state,
+            },
+            Err(refused) => FrameStart {
+                number: refused.refusal.number() as usize,
+                position: refused.position,
+                state: no_state(),
+            },
+        }
     }
 }
 
@@ -49,35 +77,36 @@ pub struct FrameOutcome {
     pub trace: usize,
 }
 
-// An outcome for C.
-pub fn flat_outcome(outcome: Outcome) -> FrameOutcome
-    ensures { result ≡ flat_outcome outcome }
-{
-    match outcome {
-        Outcome::Ran { phase, step } => FrameOutcome {
-            number: 0,
-            position: 0,
-            what: 1,
-            phase: phase.0,
-            step: step.0,
-            trace: 0,
-        },
-        Outcome::Stole(number) => FrameOutcome {
-            number: 0,
-            position: 0,
-            what: 2,
-            phase: 0,
-            step: 0,
-            trace: trace::number::encode_number(number).0,
-        },
-        Outcome::Refused(number) => FrameOutcome {
-            number: number as usize,
-            position: 0,
-            what: 0,
-            phase: 0,
-            step: 0,
-            trace: 0,
-        },
+impl From<Result<Done, Refusal>> for FrameOutcome {
+    ghost from_gives = { λ r e. e ≡ flat_outcome (outcome_of r) };
+
+    fn from(outcome: Result<Done, Refusal>) -> FrameOutcome {
+        match outcome {
+            Ok(Done::Ran { phase, step }) => FrameOutcome {
+                number: 0,
+                position: 0,
+                what: 1,
+                phase: phase.0,
+                step: step.0,
+                trace: 0,
+            },
+            Ok(Done::Stole(number)) => FrameOutcome {
+                number: 0,
+                position: 0,
+                what: 2,
+                phase: 0,
+                step: 0,
+                trace: trace::number::encode_number(number).0,
+            },
+            Err(refusal) => FrameOutcome {
+                number: refusal.number() as usize,
+                position: 0,
+                what: 0,
+                phase: 0,
+                step: 0,
+                trace: 0,
+            },
+        }
     }
 }
 
@@ -89,15 +118,15 @@ pub struct FrameEvent {
     pub state: RunState,
 }
 
-// An event's answer for C.
-pub fn flat_event(answer: Answer) -> FrameEvent
-    ensures { result ≡ flat_event answer }
-{
-    let outcome = answer.outcome;
-    let state = answer.state;
-    FrameEvent {
-        outcome: flat_outcome(outcome),
-        state,
+impl From<Answer> for FrameEvent {
+    ghost from_gives = { λ a e. e ≡ flat_event (answered a) };
+
+    fn from(answer: Answer) -> FrameEvent {
+        let state = answer.state;
+        FrameEvent {
+            outcome: answer.outcome.into(),
+            state,
+        }
     }
 }
 
@@ -110,14 +139,15 @@ pub struct FrameIdle {
     pub lowest: usize,
 }
 
-// The idle workers for C, without the state that they are told with.
-pub fn flat_idle(idle: Idle) -> FrameIdle
-    ensures { result ≡ flat_idle idle }
-{
-    FrameIdle {
-        set: idle.set as usize,
-        count: idle.count as usize,
-        lowest: idle.lowest as usize,
+impl From<Idle> for FrameIdle {
+    ghost from_gives = { λ i e. e ≡ flat_idle i };
+
+    fn from(idle: Idle) -> FrameIdle {
+        FrameIdle {
+            set: idle.set as usize,
+            count: idle.count as usize,
+            lowest: idle.lowest as usize,
+        }
     }
 }
 
@@ -136,21 +166,41 @@ pub struct FrameRecord {
     pub class_loads: [u64; CLASSES],
 }
 
-// A recording's answer for C.
-pub fn flat_record(recorded: Recorded) -> FrameRecord
-    ensures { result ≡ flat_record recorded }
-{
-    let loads = recorded.loads;
-    let class_loads = recorded.classes;
-    FrameRecord {
-        number: recorded.number as usize,
-        position: recorded.position,
-        logs: recorded.logs,
-        steals: recorded.steals,
-        finished: recorded.finished as usize,
-        loads,
-        heaviest: recorded.heaviest,
-        class_loads,
+impl From<Result<Recorded, Refused>> for FrameRecord {
+    ghost from_gives = { λ r e. e ≡ flat_record (recorded_of r) };
+
+    fn from(recorded: Result<Recorded, Refused>) -> FrameRecord {
+        match recorded {
+            Ok(recorded) => {
+                let loads = recorded.totals.loads;
+                let class_loads = recorded.totals.classes;
+                FrameRecord {
+                    number: 0,
+                    position: 0,
+                    logs: recorded.logs,
+                    steals: recorded.steals,
+                    finished: recorded.finished as usize,
+                    loads,
+                    heaviest: recorded.totals.heaviest,
+                    class_loads,
+                }
+            }
+            Err(refused) => {
+                let none = Totals::none();
+                let loads = none.loads;
+                let class_loads = none.classes;
+                FrameRecord {
+                    number: refused.refusal.number() as usize,
+                    position: refused.position,
+                    logs: 0,
+                    steals: 0,
+                    finished: 0,
+                    loads,
+                    heaviest: none.heaviest,
+                    class_loads,
+                }
+            }
+        }
     }
 }
 
@@ -167,19 +217,37 @@ pub struct FrameReplay {
     pub class_loads: [u64; CLASSES],
 }
 
-// A replay's answer for C.
-pub fn flat_replay(replayed: Replayed) -> FrameReplay
-    ensures { result ≡ flat_replay replayed }
-{
-    let loads = replayed.loads;
-    let class_loads = replayed.classes;
-    FrameReplay {
-        number: replayed.number as usize,
-        position: replayed.position,
-        phases: replayed.phases,
-        loads,
-        heaviest: replayed.heaviest,
-        class_loads,
+impl From<Result<Replayed, Refused>> for FrameReplay {
+    ghost from_gives = { λ r e. e ≡ flat_replay (replayed_of r) };
+
+    fn from(replayed: Result<Replayed, Refused>) -> FrameReplay {
+        match replayed {
+            Ok(replayed) => {
+                let loads = replayed.loads;
+                let class_loads = replayed.classes;
+                FrameReplay {
+                    number: 0,
+                    position: 0,
+                    phases: replayed.phases,
+                    loads,
+                    heaviest: replayed.heaviest,
+                    class_loads,
+                }
+            }
+            Err(refused) => {
+                let none = Totals::none();
+                let loads = none.loads;
+                let class_loads = none.classes;
+                FrameReplay {
+                    number: refused.refusal.number() as usize,
+                    position: refused.position,
+                    phases: 0,
+                    loads,
+                    heaviest: none.heaviest,
+                    class_loads,
+                }
+            }
+        }
     }
 }
 
@@ -192,13 +260,21 @@ pub struct FrameSchedule {
     pub events: usize,
 }
 
-// A schedule's answer for C.
-pub fn flat_schedule(scheduled: Scheduled) -> FrameSchedule
-    ensures { result ≡ flat_schedule scheduled }
-{
-    FrameSchedule {
-        number: scheduled.number as usize,
-        position: scheduled.position,
-        events: scheduled.events,
+impl From<Result<usize, Refused>> for FrameSchedule {
+    ghost from_gives = { λ r e. e ≡ flat_schedule (scheduled_of r) };
+
+    fn from(scheduled: Result<usize, Refused>) -> FrameSchedule {
+        match scheduled {
+            Ok(events) => FrameSchedule {
+                number: 0,
+                position: 0,
+                events,
+            },
+            Err(refused) => FrameSchedule {
+                number: refused.refusal.number() as usize,
+                position: refused.position,
+                events: 0,
+            },
+        }
     }
 }

@@ -1,5 +1,5 @@
 -- The answer as C's struct.
-use Rattle.histogram.specs.declared.Added.{Added}
+use Rattle.histogram.specs.Contract.{Added}
 use Rattle.frame_answers.specs.Contract.{flat_replay}
 use Rattle.frame_histogram.specs.declared.FrameAdded.{FrameAdded}
 

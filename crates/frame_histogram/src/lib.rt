@@ -43,15 +43,10 @@ pub extern "C" fn frame_histogram_add(
     ensures list { let call = add_call wrapping workers policy tree.now trace.now list.old (given histogram) in
         list.new ≡ call.replayed.list }
 {
-    let setup = Setup {
-        policy,
-        workers: workers as u16,
-    };
-    let added = histogram.add(tree, setup, trace, list);
-    let replayed = added.replayed;
-    let next = added.histogram;
+    let mut next = histogram;
+    let replayed = next.add(tree, Setup::of(policy, workers), trace, list);
     FrameAdded {
-        replay: frame_answers::flat_replay(replayed),
+        replay: replayed.into(),
         histogram: next,
     }
 }

@@ -15,11 +15,7 @@ use run_state::RunState;
 pub extern "C" fn frame_start(tree: &[u8], policy: u8, workers: u8) -> FrameStart
     ensures { result ≡ flat_start (start_answer workers policy tree.now) }
 {
-    let setup = Setup {
-        policy,
-        workers: workers as u16,
-    };
-    frame_answers::flat_start(run_state::start::start(tree, setup))
+    run_state::start::start(tree, Setup::of(policy, workers)).into()
 }
 
 // One event: with equal bytes that worker runs its step, with different ones the first steals from the second.
@@ -27,7 +23,7 @@ pub extern "C" fn frame_start(tree: &[u8], policy: u8, workers: u8) -> FrameStar
 pub extern "C" fn frame_event(state: RunState, tree: &[u8], first: u8, second: u8) -> FrameEvent
     ensures { result ≡ flat_event (event_answer state tree.now first second) }
 {
-    frame_answers::flat_event(state.event(tree, first, second))
+    state.event(tree, first, second).into()
 }
 
 // One event on a state that the host lends: it is the next state then, and after a refusal it is as it was.
@@ -43,9 +39,9 @@ pub extern "C" fn frame_event_in_place(
     ensures state { let answer = event_answer state.old tree.now first second in
         state.new ≡ answer.state }
 {
-    let a = RunState::event(*state, tree, first, second);
-    *state = a.state;
-    frame_answers::flat_outcome(a.outcome)
+    let answer = RunState::event(*state, tree, first, second);
+    *state = answer.state;
+    answer.outcome.into()
 }
 
 // Which workers are idle in a state.
@@ -53,5 +49,5 @@ pub extern "C" fn frame_event_in_place(
 pub extern "C" fn frame_idle(state: RunState) -> FrameIdle
     ensures { result ≡ flat_idle (idle_answer state) }
 {
-    frame_answers::flat_idle(state.idle())
+    state.idle().into()
 }

@@ -25,9 +25,5 @@ pub extern "C" fn frame_schedule(
     ensures events { let call = schedule_call workers policy tree.now seed events.old in
         events.new ≡ call.events }
 {
-    let setup = Setup {
-        policy,
-        workers: workers as u16,
-    };
-    frame_answers::flat_schedule(schedule::schedule(tree, setup, seed, events))
+    schedule::schedule(tree, Setup::of(policy, workers), seed, events).into()
 }

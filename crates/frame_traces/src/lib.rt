@@ -29,11 +29,8 @@ pub extern "C" fn frame_record(
     ensures trace { let call = record_call workers policy tree.now events.now log.old trace.old in
         trace.new ≡ call.trace }
 {
-    let setup = Setup {
-        policy,
-        workers: workers as u16,
-    };
-    frame_answers::flat_record(record::record(tree, setup, events, log, trace))
+    let setup = Setup::of(policy, workers);
+    record::record(tree, setup, events, log, trace).into()
 }
 
 // Replays a trace: the run list stands at the front of the lent buffer then, and beyond it its old bytes. A refusal changes no
@@ -51,9 +48,6 @@ pub extern "C" fn frame_replay(
     ensures list { let call = replay_call workers policy tree.now trace.now list.old in
         list.new ≡ call.list }
 {
-    let setup = Setup {
-        policy,
-        workers: workers as u16,
-    };
-    frame_answers::flat_replay(replay::replay(tree, setup, trace, list))
+    let setup = Setup::of(policy, workers);
+    replay::replay(tree, setup, trace, list).into()
 }

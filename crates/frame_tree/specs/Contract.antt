@@ -1,9 +1,9 @@
 -- The answers about a tree as C's flat structs of numbers.
+use Rattle.std.specs.Prelude.{Some, None}
+use Rattle.tree.specs.Steps.{MaybeStep}
 use Rattle.std.specs.Prelude.{ℕ}
-use Rattle.tree.specs.declared.Accepted.{Accepted}
+use Rattle.tree.specs.Contract.{Accepted}
 use Rattle.tree_scan.specs.declared.Task.{Task}
-use Rattle.tree_scan.specs.declared.FinishChild.{FinishChild}
-use Rattle.tree_scan.specs.declared.FinishChild.TheVariants.{From, Nothing}
 use Rattle.policy.specs.declared.Running.{Running}
 use Rattle.policy.specs.declared.Running.TheVariants.{Opens, Ends}
 use Rattle.frame_tree.specs.declared.FrameTree.{FrameTree}
@@ -19,9 +19,9 @@ abbrev pub flat_task : Task → FrameTask
 flat_task t = record { first = t.first.0; ordinal = t.ordinal.0 }
 
 -- A child's first step is never 0, so 0 says that there is none.
-abbrev pub flat_child : FinishChild → ℕ
-flat_child (From first) = first.0
-flat_child Nothing = 0
+abbrev pub flat_child : MaybeStep → ℕ
+flat_child (Some first) = first.0
+flat_child None = 0
 
 -- What is held and pushed, with a 1 before; an end is all 0.
 abbrev pub flat_running : Running → FrameRunning

@@ -4,12 +4,16 @@
 
 ghost use Rattle.std.specs.Prelude.{◌≡◌, get_or};
 ghost use Rattle.rules.specs.Tree.{kinds, classes, weights, kind_at, cont, finish_before};
-ghost use Rattle.tree.specs.Contract.{acceptance};
+ghost use Rattle.tree.specs.Contract.{accepted_of, acceptance};
 ghost use Rattle.policy.specs.Contract.{running_of};
-ghost use Rattle.tree_scan.specs.Contract.{task_of, child_of};
+ghost use Rattle.tree.specs.Steps.{maybe_step};
+ghost use Rattle.tree_scan.specs.Contract.{task_of};
 ghost use Rattle.frame_tree.specs.Contract.{flat_tree, flat_task, flat_child, flat_running};
 
+use policy::Running;
+use refusals::Refused;
 use tree::Step;
+use tree_scan::Task;
 
 // A tree's refusal and position, or its count of steps. What is not answered is 0.
 #[repr(C)]
@@ -20,17 +24,31 @@ pub struct FrameTree {
     pub steps: usize,
 }
 
+impl From<Result<usize, Refused>> for FrameTree {
+    ghost from_gives = { λ r e. e ≡ flat_tree (accepted_of r) };
+
+    fn from(accepted: Result<usize, Refused>) -> FrameTree {
+        match accepted {
+            Ok(steps) => FrameTree {
+                number: 0,
+                position: 0,
+                steps,
+            },
+            Err(refused) => FrameTree {
+                number: refused.refusal.number() as usize,
+                position: refused.position,
+                steps: 0,
+            },
+        }
+    }
+}
+
 // Whether bytes are a tree.
 #[unsafe(no_mangle)]
 pub extern "C" fn frame_tree(tree: &[u8]) -> FrameTree
     ensures { result ≡ flat_tree (acceptance tree.now) }
 {
-    let a = tree::validation::accept(tree);
-    FrameTree {
-        number: a.number as usize,
-        position: a.position,
-        steps: a.steps,
-    }
+    tree::validation::accept(tree).into()
 }
 
 // The kind of a step's record, 0 for a step beyond the tree.
@@ -74,26 +92,33 @@ pub struct FrameTask {
     pub ordinal: usize,
 }
 
+impl From<Task> for FrameTask {
+    ghost from_gives = { λ t e. e ≡ flat_task t };
+
+    fn from(task: Task) -> FrameTask {
+        FrameTask {
+            first: task.first.0,
+            ordinal: task.ordinal.0,
+        }
+    }
+}
+
 // The task that a step belongs to.
 #[unsafe(no_mangle)]
 pub extern "C" fn frame_task(tree: &[u8], step: usize) -> FrameTask
     ensures { result ≡ flat_task (task_of (kinds tree.now) step) }
 {
-    let task = tree_scan::task_of(tree, Step(step));
-    FrameTask {
-        first: task.first.0,
-        ordinal: task.ordinal.0,
-    }
+    tree_scan::task_of(tree, Step(step)).into()
 }
 
 // The first step of the finish child whose end stands just before a step, 0 for none.
 #[unsafe(no_mangle)]
 pub extern "C" fn frame_finish_before(tree: &[u8], step: usize) -> usize
-    ensures { result ≡ flat_child (child_of (finish_before (kinds tree.now) step)) }
+    ensures { result ≡ flat_child (maybe_step (finish_before (kinds tree.now) step)) }
 {
     match tree_scan::children::finish_before(tree, Step(step)) {
-        tree_scan::FinishChild::From(first) => first.0,
-        tree_scan::FinishChild::Nothing => 0,
+        Some(first) => first.0,
+        None => 0,
     }
 }
 
@@ -107,21 +132,29 @@ pub struct FrameRunning {
     pub push: usize,
 }
 
+impl From<Running> for FrameRunning {
+    ghost from_gives = { λ r e. e ≡ flat_running r };
+
+    fn from(running: Running) -> FrameRunning {
+        match running {
+            Running::Opens { hold, push } => FrameRunning {
+                opens: 1,
+                hold: hold.0,
+                push: push.0,
+            },
+            Running::Ends => FrameRunning {
+                opens: 0,
+                hold: 0,
+                push: 0,
+            },
+        }
+    }
+}
+
 // What running a step does under a policy.
 #[unsafe(no_mangle)]
 pub extern "C" fn frame_running(tree: &[u8], policy: u8, step: usize) -> FrameRunning
     ensures { result ≡ flat_running (running_of policy (kinds tree.now) step) }
 {
-    match policy::running_of(tree, policy, Step(step)) {
-        policy::Running::Opens { hold, push } => FrameRunning {
-            opens: 1,
-            hold: hold.0,
-            push: push.0,
-        },
-        policy::Running::Ends => FrameRunning {
-            opens: 0,
-            hold: 0,
-            push: 0,
-        },
-    }
+    policy::running_of(tree, policy, Step(step)).into()
 }

@@ -1,14 +1,15 @@
-// Phase loads over many traces (document 02, #106): a histogram by value, its start, and the call that replays a trace and adds its
-// phases.
+// Phase loads over many traces (document 02, #106): a histogram, its start, and the call that replays a trace and adds its phases.
 #![tactic(auto)]
 
 ghost use Rattle.std.specs.Prelude.{◌≡◌};
 ghost use Rattle.rules_histogram.specs.Histograms.{empty, wrapping, add_call};
-ghost use Rattle.histogram.specs.Contract.{given, stored, answers};
+ghost use Rattle.replay.specs.Contract.{answers, answers_of};
+ghost use Rattle.histogram.specs.Contract.{given, stored};
 
 use histogram_bucket::BUCKETS;
 use policy::Setup;
-use replay::answer::Replayed;
+use refusals::Refused;
+use replay::Replayed;
 
 // How many traces a histogram takes.
 pub const MOST_TRACES: u32 = 65535;
@@ -22,15 +23,9 @@ pub struct Histogram {
     pub counts: [u32; BUCKETS],
 }
 
-// What replay answers on a trace, and the next histogram.
-#[derive(Clone, Copy)]
-pub struct Added {
-    pub replayed: Replayed,
-    pub histogram: Histogram,
-}
-
 impl Histogram {
     // A histogram that no trace has been added to.
+    #[tactic(auto, unfolding(rules_histogram::specs::Histograms::empty))]
     pub fn start() -> Histogram
         ensures { result ≡ stored empty }
     {
@@ -41,27 +36,25 @@ impl Histogram {
     }
 
     // Replays a trace and adds all its phases: refusals 1 to 8 and 13 to 17, or the run list at the front of the lent buffer and the
-    // next histogram. A refusal hands back the very histogram.
-    pub fn add(self, tree: &[u8], setup: Setup, trace: &[u8], list: &mut [u8]) -> Added
+    // next histogram. A refusal leaves the very histogram.
+    pub fn add(
+        &mut self,
+        tree: &[u8],
+        setup: Setup,
+        trace: &[u8],
+        list: &mut [u8],
+    ) -> Result<Replayed, Refused>
         ensures answers { let call = add_call wrapping setup.workers setup.policy tree.now trace.now in
-            result ≡ answers (call list.old (given self)) }
+            answers_of result ≡ answers (call list.old (given self.old)).replayed }
+        ensures histogram { let call = add_call wrapping setup.workers setup.policy tree.now trace.now in
+            self.new ≡ stored (call list.old (given self.old)).histogram }
         ensures list { let call = add_call wrapping setup.workers setup.policy tree.now trace.now in
-            list.new ≡ (call list.old (given self)).replayed.list }
+            list.new ≡ (call list.old (given self.old)).replayed.list }
     {
         let full = MOST_TRACES <= self.traces;
-        let replayed = replay::replay_unless(tree, setup, trace, list, full);
-        if replayed.number != 0 {
-            return Added {
-                replayed,
-                histogram: self,
-            };
-        }
-        let mut counts = self.counts;
-        histogram_phases::add_phases(tree, list, tree::steps(tree), &mut counts);
-        let traces = self.traces + 1;
-        Added {
-            replayed,
-            histogram: Histogram { traces, counts },
-        }
+        let replayed = replay::replay_unless(tree, setup, trace, list, full)?;
+        histogram_phases::add_phases(tree, list, tree::steps(tree), &mut self.counts);
+        self.traces += 1;
+        Ok(replayed)
     }
 }

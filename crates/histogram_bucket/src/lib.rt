@@ -195,6 +195,7 @@ pub const BUCKETS: usize = 177;
 const POWERS: u32 = 44;
 
 // The table is the rules' list.
+#[tactic(auto, unfolding(rules_histogram::specs::Limits::limits))]
 fn table() -> [u64; 176]
     ensures { result ≡ limits }
 {

@@ -11,6 +11,7 @@ use histogram_bucket::BUCKETS;
 use tree::Step;
 
 // Counts one more load in its bucket.
+#[tactic(auto, using(histogram_limits::proofs::Laws::Buckets::place_within))]
 fn add_load(counts: &mut [u32; BUCKETS], load: u64)
     ensures { counts.new ≡ add_load wrapping counts.old load }
 {
@@ -24,12 +25,10 @@ pub fn add_phases(tree: &[u8], list: &[u8], n: usize, counts: &mut [u32; BUCKETS
     ensures { let loads = phase_loads (weights tree.now) (entries_read list.now n) in
         counts.new ≡ add_loads wrapping counts.old loads }
 {
-    let mut i = 0;
     let mut phase = 0;
     let mut load = 0u64;
-    while i < n {
+    for i in 0..n {
         let at = buffers::RECORD * i;
-        i += 1;
         let next = buffers::number_at(list, at);
         let weight = tree::weight(tree, Step(buffers::number_at(list, at + 2))) as u64;
         if next == phase {

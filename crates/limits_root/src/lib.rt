@@ -125,11 +125,9 @@ pub fn limit(k: usize) -> u64
         square: none,
         fourth: none,
     };
-    let mut power = k % 4;
-    let mut roots = both_extended(start, 1 << power);
-    while power < k {
+    let mut roots = both_extended(start, 1 << (k % 4));
+    for _ in 0..k / 4 {
         roots = both_extended(roots, 0);
-        power += 4;
     }
     roots.fourth.root.low
 }

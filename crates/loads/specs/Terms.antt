@@ -1,8 +1,8 @@
 -- The weight that a steal moves, what it leaves in the loads, what is so of all loads together, and the totals that a call answers.
-use Rattle.std.specs.Prelude.{ℕ, ◌+◌, ◌-◌, ◌≤◌, ◌<◌, ◌≡◌, cond, List, length, get_or, set, replicate, eqb}
+use Rattle.std.specs.Prelude.{ℕ, ◌+◌, ◌-◌, ◌≤◌, ◌<◌, ◌≡◌, List, length, get_or, set, replicate}
 use Rattle.rules.specs.Bytes.{sum}
 use Rattle.rules.specs.Tree.{class_count}
-use Rattle.rules.specs.Scheduling.{most_workers, Phase}
+use Rattle.rules.specs.Scheduling.{Phase, most_workers}
 use Rattle.rules.specs.Traces.{phase_load, heaviest}
 use Rattle.tree_tables.specs.Terms.{weight_before}
 use Rattle.loads.specs.declared.Totals.{Totals}
@@ -29,10 +29,10 @@ load_moved loads thief victim weight =
 abbrev pub Whole : List ℕ → List Phase → Type 0
 Whole ks phs = (ws : List ℕ) → sum (phase_load ks ws) phs ≡ weight_before ws (length ks)
 
--- The totals on what a walk comes to, its refusal or 0 and the loads of workers and classes: "A refused call returns the number and the
--- position, all other results 0."
-unfoldable pub totals_of : ℕ → List ℕ → List ℕ → Totals
-totals_of number ls by_class =
-    let answer : Totals = record { loads = ls; heaviest = heaviest ls; classes = by_class } in
-    let none : Totals = record { loads = replicate most_workers 0; heaviest = 0; classes = replicate class_count 0 } in
-    cond (eqb number 0) answer none
+-- The totals on the loads of workers and classes that a walk comes to.
+unfoldable pub totals_of : List ℕ → List ℕ → Totals
+totals_of ls by_class = record { loads = ls; heaviest = heaviest ls; classes = by_class }
+
+-- "A refused call returns the number and the position, all other results 0."
+abbrev pub no_totals : Totals
+no_totals = record { loads = replicate most_workers 0; heaviest = 0; classes = replicate class_count 0 }

@@ -6,13 +6,14 @@
 ghost use Rattle.std.specs.Prelude.{◌≡◌, ◌+◌, ◌≤◌, ◌<◌, length, get_or};
 ghost use Rattle.rules.specs.Scheduling.{most_workers};
 ghost use Rattle.rules.specs.Traces.{heaviest as heaviest_of};
-ghost use Rattle.loads.specs.Terms.{load_moved, weight_between, Movable, totals_of};
+ghost use Rattle.loads.specs.Terms.{load_moved, weight_between, Movable, totals_of, no_totals};
 
 use policy::WORKERS;
 use tree::{CLASSES, Step};
 use tree_tables::wide;
 
 // Some weight leaves the victim's load for the thief's.
+#[tactic(auto, unfolding(crate::specs::Terms::load_moved))]
 fn move_load(loads: &mut [u64; WORKERS], thief: usize, victim: usize, weight: u64)
     requires workers { (thief < most_workers) × (victim < most_workers) × (thief ≡ victim → ⊥) }
     requires fits { (weight ≤ get_or loads.old victim 0) × (get_or loads.old thief 0 + weight < 18446744073709551616) }
@@ -23,6 +24,7 @@ fn move_load(loads: &mut [u64; WORKERS], thief: usize, victim: usize, weight: u6
 }
 
 // A step is stolen: all from it to the end of its task, by the tree's tables, goes to the thief's load.
+#[tactic(auto, unfolding(crate::specs::Terms::weight_between))]
 pub fn move_part(
     ends: &[u16],
     sums: &[u64],
@@ -48,12 +50,9 @@ fn heaviest(loads: &[u64; WORKERS]) -> usize
     ensures { result ≡ heaviest_of loads.now }
 {
     let mut best = 0;
-    let mut w = 1;
-    while w < WORKERS {
-        let k = w;
-        w += 1;
-        if loads[best] < loads[k] {
-            best = k;
+    for w in 1..WORKERS {
+        if loads[best] < loads[w] {
+            best = w;
         }
     }
     best
@@ -67,17 +66,23 @@ pub struct Totals {
     pub classes: [u64; CLASSES],
 }
 
-// The totals on what a walk comes to, its refusal or 0 and the loads of workers and classes: all 0 beside a refusal.
-pub fn totals_of(number: u8, loads: [u64; WORKERS], classes: [u64; CLASSES]) -> Totals
-    ensures { result ≡ totals_of number loads classes }
-{
-    if number != 0 {
-        return Totals {
+impl Totals {
+    // The totals beside a refusal: all 0.
+    pub fn none() -> Totals
+        ensures { result ≡ no_totals }
+    {
+        Totals {
             loads: [0; WORKERS],
             heaviest: 0,
             classes: [0; CLASSES],
-        };
+        }
     }
+}
+
+// The totals on the loads of workers and classes that a walk comes to.
+pub fn totals_of(loads: [u64; WORKERS], classes: [u64; CLASSES]) -> Totals
+    ensures { result ≡ totals_of loads classes }
+{
     let most = heaviest(&loads);
     Totals {
         loads,

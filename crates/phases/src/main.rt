@@ -5,66 +5,35 @@
 // that it writes the text and nothing else (`tests/tests/program.rs`).
 #![tactic(auto)]
 
-ghost use Rattle.std.specs.Counts.{IsPrefixLen};
+ghost use Rattle.std.specs.Io.{ReadsAtMost};
 
 use phases_text::TEXT_BYTES;
 use phases_text::input::MOST_INPUT;
-use std::io::Read;
+use std::io::{self, Read};
 
-// How many bytes of standard input stand at the front of a buffer, and whether the last read failed.
-#[derive(Clone, Copy)]
-struct Reading {
-    count: usize,
-    failed: bool,
-}
-
-// One read. Its count is 0 at the end of standard input, and where it fails.
-fn read_some<R: Read>(stdin: &mut R, buffer: &mut [u8]) -> Reading
-    ensures { IsPrefixLen result.count buffer.new }
-{
-    match stdin.read(buffer) {
-        Ok(count) => Reading {
-            count,
-            failed: false,
-        },
-        Err(_) => Reading {
-            count: 0,
-            failed: true,
-        },
-    }
-}
-
-// Reads until the buffer is full, standard input ends or a read fails.
-fn read_input<R: Read>(stdin: &mut R, input: &mut [u8]) -> Reading
-    ensures { IsPrefixLen result.count input.new }
+// Reads until the buffer is full, standard input ends or a read fails. Gives how many bytes stand at the buffer's front.
+fn read_input<R: Read>(stdin: &mut R, input: &mut [u8]) -> io::Result<usize>
+    ensures { ReadsAtMost result input.new }
 {
     let mut at = 0;
     while at < input.len() {
-        let next = read_some(stdin, &mut input[at..]);
-        if next.count == 0 {
-            return Reading {
-                count: at,
-                failed: next.failed,
-            };
+        let count = stdin.read(&mut input[at..])?;
+        if count == 0 {
+            break;
         }
-        at += next.count;
+        at += count;
     }
-    Reading {
-        count: at,
-        failed: false,
-    }
+    Ok(at)
 }
 
 // Its exit status is 0 whatever comes: that it failed stands on standard error alone.
 fn main(rt: HostRuntime) {
     let mut input: [u8; MOST_INPUT] = [0; MOST_INPUT];
     let mut text: [u8; TEXT_BYTES] = [0; TEXT_BYTES];
-    let reading = read_input(&mut rt.stdin(), &mut input);
-    if reading.failed {
+    let Ok(count) = read_input(&mut rt.stdin(), &mut input) else {
         let _ = eprintln!(rt; "phases: standard input could not be read");
         return;
-    }
-    let count = reading.count;
+    };
     let length = phases_text::list_phases(&input[..count], &mut text);
     match rt.stdout().write_all(&text[..length]) {
         Ok(()) => {}

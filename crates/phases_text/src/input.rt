@@ -13,20 +13,14 @@ const HEAD: usize = 3;
 fn byte(input: &[u8], i: usize) -> u8
     ensures { result ≡ get_or input.now i 0 }
 {
-    if i < input.len() {
-        return input[i];
-    }
-    0
+    input.get(i).copied().unwrap_or(0)
 }
 
 // The place of an input's byte i, or the input's end where that comes first.
 pub fn place(input: &[u8], i: usize) -> usize
     ensures { result ≡ min i (length input.now) }
 {
-    if i < input.len() {
-        return i;
-    }
-    input.len()
+    i.min(input.len())
 }
 
 // The policy of an input, and the places where its tree starts and where its tree ends and its trace starts.

@@ -38,12 +38,11 @@ fn put_text(input: &[u8], text: &mut [u8]) -> usize
     let mut list: [u8; LIST_BYTES] = [0; LIST_BYTES];
     let tree = &input[start..end];
     let trace = &input[end..];
-    let workers = policy::WORKERS as u16;
-    let replayed = replay::replay(tree, Setup { policy, workers }, trace, &mut list);
-    if replayed.number != 0 {
-        return put_refusal(text, replayed.number as usize, replayed.position);
+    let setup = Setup::of(policy, policy::WORKERS as u8);
+    match replay::replay(tree, setup, trace, &mut list) {
+        Ok(_) => put_listing(text, trace, &list, tree::steps(tree)),
+        Err(refused) => put_refusal(text, refused.refusal.number() as usize, refused.position),
     }
-    put_listing(text, trace, &list, tree::steps(tree))
 }
 
 // Writes what is printed of an input, of which no more than the first MOST_INPUT bytes are read. Gives the length of the text, or 0

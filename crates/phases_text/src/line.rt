@@ -28,11 +28,9 @@ pub fn put_lines(text: &mut [u8], trace: &[u8], list: &[u8], records: usize) -> 
     ensures text { let lines = lines_of trace.now list.now records in
         text.new ≡ written lines text.old }
 {
-    let mut k = 0;
     let mut at = 0;
-    while k < records {
+    for k in 0..records {
         let i = buffers::RECORD * k;
-        k += 1;
         let phase = buffers::number_at(list, i);
         let step = buffers::number_at(list, i + 2);
         let worker = worker_of(trace, Phase(phase));

@@ -40,10 +40,8 @@ fn put_number(text: &mut [u8], number: usize, end: u8) -> usize
 {
     let count = places(number);
     text[count] = end;
-    let mut i = count;
     let mut rest = number;
-    while 0 < i {
-        i -= 1;
+    for i in (0..count).rev() {
         text[i] = (ZERO + rest % 10) as u8;
         rest /= 10;
     }
@@ -51,6 +49,7 @@ fn put_number(text: &mut [u8], number: usize, end: u8) -> usize
 }
 
 // Writes a line of two numbers. Gives its length, which is at most 12.
+#[tactic(auto, using(crate::specs::Number::Laws::Texts::piece_most))]
 pub fn put_two(text: &mut [u8], first: usize, second: usize) -> usize
     requires { 12 ≤ length text.old }
     ensures counts { result ≡ length (line (first ∷ second ∷ [])) }
@@ -61,6 +60,7 @@ pub fn put_two(text: &mut [u8], first: usize, second: usize) -> usize
 }
 
 // Writes a line of three numbers. Gives its length, which is at most 18.
+#[tactic(auto, using(crate::specs::Number::Laws::Texts::piece_most))]
 pub fn put_line(text: &mut [u8], first: usize, second: usize, third: usize) -> usize
     requires { most_line ≤ length text.old }
     ensures counts { result ≡ length (line (first ∷ second ∷ third ∷ [])) }

@@ -33,6 +33,18 @@ pub struct Setup {
     pub workers: u16,
 }
 
+impl Setup {
+    // What C asks for: a policy and a count of workers, a byte each.
+    pub fn of(policy: u8, workers: u8) -> Setup
+        ensures { result ≡ record { policy = policy; workers = workers } }
+    {
+        Setup {
+            policy,
+            workers: workers as u16,
+        }
+    }
+}
+
 // What running a step does to its worker: it holds a step and pushes one, or it pops.
 #[derive(Clone, Copy)]
 pub enum Running {
@@ -41,6 +53,7 @@ pub enum Running {
 }
 
 // How many workers a run with this count has: never more than the most, whatever a state may say.
+#[tactic(auto, using(crate::proofs::Laws::Workers::limit_is, crate::proofs::Laws::Workers::limit_beyond))]
 pub fn limit(workers: u16) -> usize
     ensures { result ≡ worker_limit workers }
 {
@@ -59,6 +72,7 @@ pub fn no_worker(workers: u16, worker: u8) -> bool
 }
 
 // Whether running an opening step of this kind pushes the child and goes on with the parent.
+#[tactic(auto, unfolding(rules::specs::Scheduling::pushes_child, rules::specs::Tree::is_async))]
 pub fn pushes_child(policy: u8, kind: u8) -> bool
     ensures { result ≡ pushes_child policy kind }
 {

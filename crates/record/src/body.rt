@@ -6,11 +6,12 @@ ghost use Rattle.rules.specs.Tree.{most_steps, class_count, kinds, classes as cl
 ghost use Rattle.rules.specs.Calls.{most_trace_records, start_verdict};
 ghost use Rattle.tree_tables.specs.Terms.{classes_before};
 ghost use Rattle.record_walk.specs.Terms.{Walks};
-ghost use Rattle.record.specs.Body.Terms.{Admitted, Result};
+ghost use Rattle.record.specs.Body.Terms.{Admitted, Answered};
 
 use buffers::RECORD;
 use policy::{MOST_STEALS, Setup};
 use record_walk::Ended;
+use refusals::Refused;
 use tree::{CLASSES, MOST_STEPS};
 use tree_tables::sums::SUMS;
 
@@ -27,7 +28,7 @@ fn walk_events(
     log: &mut [u8],
     trace: &mut [u8],
     classes: &mut [u64; CLASSES],
-) -> Ended
+) -> Result<Ended, Refused>
     requires accepted { (start_verdict setup.workers setup.policy tree.now).number ≡ 0 }
     requires rooms { (length log.old ≡ 4 * most_steps) × (length trace.old ≡ 4 * most_trace_records) }
     requires zeroed { classes.old ≡ replicate class_count 0 }
@@ -61,19 +62,16 @@ pub fn run(
     log: &mut [u8],
     trace: &mut [u8],
     classes: &mut [u64; CLASSES],
-) -> Ended
+) -> Result<Ended, Refused>
     requires admitted { Admitted setup.workers setup.policy tree.now log.old trace.old }
     requires zeroed { classes.old ≡ replicate class_count 0 }
-    ensures { Result setup.workers setup.policy tree.now events.now log.old trace.old
+    ensures { Answered setup.workers setup.policy tree.now events.now log.old trace.old
         result log.new trace.new classes.new }
 {
     let mut own_log: [u8; LOG_BYTES] = [0; LOG_BYTES];
     let mut own_trace: [u8; TRACE_BYTES] = [0; TRACE_BYTES];
-    let walked = walk_events(tree, setup, events, &mut own_log, &mut own_trace, classes);
-    if walked.number != 0 {
-        return walked;
-    }
+    let walked = walk_events(tree, setup, events, &mut own_log, &mut own_trace, classes)?;
     buffers::copy_out(&own_log, RECORD * walked.logs, log);
     buffers::copy_out(&own_trace, RECORD * walked.steals, trace);
-    walked
+    Ok(walked)
 }

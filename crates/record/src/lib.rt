@@ -2,16 +2,26 @@
 // and "Refusals"). Log and trace are written once every event is accepted.
 #![tactic(auto)]
 
-pub mod answer;
 pub mod body;
 
 ghost use Rattle.std.specs.Prelude.{◌≡◌};
 ghost use Rattle.rules.specs.Calls.{record_call};
-ghost use Rattle.record.specs.Contract.{answers};
+ghost use Rattle.record.specs.Contract.{answers, answers_of};
 
-use answer::Recorded;
+use loads::Totals;
 use policy::Setup;
+use refusals::Refused;
 use tree::CLASSES;
+
+// What an accepted call answers (document 01, "Trace, log, run list"; document 02, #103): the counts of log and trace records, whether
+// every step has run, and the loads of workers and classes.
+#[derive(Clone, Copy)]
+pub struct Recorded {
+    pub logs: usize,
+    pub steals: usize,
+    pub finished: bool,
+    pub totals: Totals,
+}
 
 // Records a list of events: refusals 1 to 12 and 16, or the log and the trace at the front of the lent buffers.
 pub fn record(
@@ -20,10 +30,10 @@ pub fn record(
     events: &[u8],
     log: &mut [u8],
     trace: &mut [u8],
-) -> Recorded
+) -> Result<Recorded, Refused>
     ensures answers { let call = record_call setup.workers setup.policy tree.now events.now log.old
         trace.old in
-        result ≡ answers call }
+        answers_of result ≡ answers call }
     ensures log { let call = record_call setup.workers setup.policy tree.now events.now log.old
         trace.old in
         log.new ≡ call.log }
@@ -31,21 +41,13 @@ pub fn record(
         trace.old in
         trace.new ≡ call.trace }
 {
-    let admitted = arguments::judge_record(tree, setup, events, log.len(), trace.len());
-    if admitted.number != 0 {
-        return answer::refused(admitted.number, admitted.position);
-    }
+    let steps = arguments::judge_record(tree, setup, events, log.len(), trace.len())?;
     let mut classes: [u64; CLASSES] = [0; CLASSES];
-    let walked = body::run(tree, setup, events, log, trace, &mut classes);
-    let last = admitted.steps - 1;
-    let loads = walked.loads;
-    answer::answer(
-        walked.number,
-        walked.position,
-        walked.logs,
-        walked.steals,
-        last,
-        loads,
-        classes,
-    )
+    let walked = body::run(tree, setup, events, log, trace, &mut classes)?;
+    Ok(Recorded {
+        logs: walked.logs,
+        steals: walked.steals,
+        finished: walked.logs == steps,
+        totals: loads::totals_of(walked.loads, classes),
+    })
 }

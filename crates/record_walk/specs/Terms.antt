@@ -1,10 +1,12 @@
 -- What the walk over the events comes to, of a run of w workers.
-use Rattle.std.specs.Prelude.{ℕ, ◌≡◌, List, length, take}
+use Rattle.std.specs.Prelude.{ℕ, ◌≡◌, List, length, take, Result, IfOk}
 use Rattle.rules.specs.Bytes.{records}
 use Rattle.rules.specs.Tree.{kinds, weights}
 use Rattle.rules.specs.Scheduling.{most_workers, Run}
 use Rattle.rules.specs.Traces.{trace_bytes, entry_bytes, loads}
 use Rattle.rules.specs.Calls.{record_walk}
+use Rattle.refusals.specs.declared.Refused.{Refused}
+use Rattle.refusals.specs.Numbers.{verdict_in}
 use Rattle.run_invariant.specs.Invariant.{Invariant}
 use Rattle.loads.specs.Terms.{Whole}
 use Rattle.record_walk.specs.declared.Ended.{Ended}
@@ -24,7 +26,6 @@ pub record Reached (p : ℕ) (tree : List ℕ) (s : Run) (r : Ended) (log trace 
   pub traced : Front (trace_bytes p (kinds tree) s.steals) trace
 
 -- The rules' verdict and, where no event is refused, the rules' run.
-pub record Walks (w p : ℕ) (tree events : List ℕ) (r : Ended) (log trace : List ℕ) : Type 0 where
-  pub number : r.number ≡ (record_walk w p (kinds tree) (records 2 events)).verdict.number
-  pub position : r.position ≡ (record_walk w p (kinds tree) (records 2 events)).verdict.position
-  pub reached : r.number ≡ 0 → Reached p tree (record_walk w p (kinds tree) (records 2 events)).state r log trace
+pub record Walks (w p : ℕ) (tree events : List ℕ) (r : Result Ended Refused) (log trace : List ℕ) : Type 0 where
+  pub verdict : verdict_in r ≡ (record_walk w p (kinds tree) (records 2 events)).verdict
+  pub reached : IfOk r (λ ended. Reached p tree (record_walk w p (kinds tree) (records 2 events)).state ended log trace)

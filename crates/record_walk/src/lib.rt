@@ -12,16 +12,15 @@ ghost use Rattle.record_walk.specs.Terms.{Walks};
 
 use buffers::EVENT;
 use policy::{Setup, WORKERS};
+use refusals::Refused;
 use run_deques::NOT_RUN;
-use run_spec::{Event, NO_STEP, Outcome};
+use run_spec::{Done, Event, NO_STEP};
 use tree::{MOST_STEPS, Step};
 use tree_tables::wide;
 
-// What the walk over the events comes to.
+// What the walk over the events comes to, where none is refused.
 #[derive(Clone, Copy)]
 pub struct Ended {
-    pub number: u8,
-    pub position: usize,
     pub logs: usize,
     pub steals: usize,
     pub loads: [u64; WORKERS],
@@ -49,7 +48,7 @@ pub fn walk(
     events: &[u8],
     log: &mut [u8],
     trace: &mut [u8],
-) -> Ended
+) -> Result<Ended, Refused>
     requires accepted { (start_verdict setup.workers setup.policy tree.now).number ≡ 0 }
     requires ends { let ks = kinds tree.now in (length ends.now ≡ length ks) × Ends ks ends.now (length ends.now) }
     requires openers { let ks = kinds tree.now in (length openers.now ≡ length ks) × Openers ks openers.now (length openers.now) }
@@ -68,12 +67,10 @@ pub fn walk(
     let mut loads: [u64; WORKERS] = [0; WORKERS];
     loads[0] = sums[n];
     let mut logs = 0;
-    let mut k = 0;
-    while k < events.len() / EVENT {
-        let at = k;
-        k += 1;
+    for at in 0..events.len() / EVENT {
         let event = event_at(events, at);
-        let moved = run_event::event_on(
+        let before = wide(steals);
+        let judged = run_event::event_on(
             tree,
             ends,
             openers,
@@ -82,38 +79,28 @@ pub fn walk(
             &mut latest,
             &mut low,
             &mut base,
-            steals,
+            &mut steals,
             setup,
             event,
         );
-        let before = wide(steals);
-        let outcome = moved.outcome;
-        steals = moved.steals;
-        match outcome {
-            Outcome::Ran { phase, step } => {
+        let done = match judged {
+            Ok(done) => done,
+            Err(refusal) => return Err(refusal.at(at)),
+        };
+        match done {
+            Done::Ran { phase, step } => {
                 trace::put_entry(log, logs, phase, step);
                 logs += 1;
             }
-            Outcome::Stole(number) => {
+            Done::Stole(number) => {
                 let step = Step(wide(held[event.first as usize]));
                 output::trace_steal(ends, sums, trace, &mut loads, before, event, step, number);
             }
-            Outcome::Refused(number) => {
-                return Ended {
-                    number,
-                    position: at,
-                    logs: 0,
-                    steals: 0,
-                    loads: [0; WORKERS],
-                };
-            }
         }
     }
-    Ended {
-        number: 0,
-        position: 0,
+    Ok(Ended {
         logs,
         steals: wide(steals),
         loads,
-    }
+    })
 }

@@ -2,10 +2,8 @@
 --     Contract  what the call answers, by the rules (to be believed)
 --     Terms     the call for a caller that may be full
 --     Body      what an admitted replay comes to: the walk, then the run list
---     Answer    what the call answers by that
 --     Laws      that this is the rules' call (proved)
 pub mod Contract
 pub mod Terms
 pub mod Laws
-pub mod Answer
 pub mod Body

@@ -3,16 +3,14 @@
 // what the tree's steps weigh: the phases cover all of them (document 02, #103).
 ghost use Rattle.std.specs.Prelude.{◌≡◌, replicate};
 ghost use Rattle.rules.specs.Tree.{class_count};
-ghost use Rattle.replay.specs.Body.Terms.{Admitted, Result};
+ghost use Rattle.replay.specs.Body.Terms.{Admitted, Outcome};
 
-use policy::{MOST_PHASES, Setup, WORKERS};
+use policy::{MOST_PHASES, Setup};
+use refusals::{Refusal, Refused};
 use replay_spec::FREE;
 use replay_walk::Ended;
 use tree::{CLASSES, MOST_STEPS};
 use tree_tables::sums::SUMS;
-
-// The refusal of a trace that the caller has no room for.
-const FULL: u8 = 17;
 
 // Walks the trace of a tree of n steps. The lent list is written where no record is refused, unless the caller is full.
 pub fn run(
@@ -23,10 +21,10 @@ pub fn run(
     list: &mut [u8],
     classes: &mut [u64; CLASSES],
     full: bool,
-) -> Ended
+) -> Result<Ended, Refused>
     requires admitted { Admitted setup.workers setup.policy tree.now trace.now n list.old }
     requires zeroed { classes.old ≡ replicate class_count 0 }
-    ensures { let ended = Result full setup.workers setup.policy tree.now trace.now list.old result in
+    ensures { let ended = Outcome full setup.workers setup.policy tree.now trace.now list.old result in
         ended list.new classes.new }
 {
     let mut ends: [u16; MOST_STEPS] = [0; MOST_STEPS];
@@ -45,17 +43,9 @@ pub fn run(
         trace,
         &mut labels[..n],
         &mut firsts,
-    );
-    if walked.number != 0 {
-        return walked;
-    }
+    )?;
     if full {
-        return Ended {
-            number: FULL,
-            position: 0,
-            phases: 0,
-            loads: [0; WORKERS],
-        };
+        return Err(Refusal::Full.into());
     }
     replay_list::write_list(
         tree,
@@ -66,5 +56,5 @@ pub fn run(
         walked.phases,
         list,
     );
-    walked
+    Ok(walked)
 }

@@ -40,7 +40,7 @@ pub fn take(openers: &[u16], labels: &mut [u16], step: Step, phase: Phase) -> bo
         return false;
     }
     let found = claim(openers, labels, step, phase);
-    found.0 == phase.0
+    found == phase
 }
 
 // Whether a step that a phase pushes stays with it: it has no label, or the phase's.
@@ -52,5 +52,5 @@ pub fn stays(labels: &[u16], step: Step, phase: Phase) -> bool
     if labels[at] == FREE {
         return true;
     }
-    wide(labels[at]) == phase.0
+    Phase(wide(labels[at])) == phase
 }

@@ -34,18 +34,15 @@ pub fn write_list(
         list.new ≡ written (entry_bytes records) list.old }
 {
     let mut stack: [u16; MOST_STEALS] = [0; MOST_STEALS];
-    let mut k = 0;
     let mut at = 0;
-    while k < phases {
-        let phase = Phase(k);
+    for k in 0..phases {
         let first = Step(wide(firsts[k]));
-        k += 1;
         let count = write_phase(
             tree,
             ends,
             labels,
             policy,
-            phase,
+            Phase(k),
             first,
             &mut stack,
             &mut list[at..],

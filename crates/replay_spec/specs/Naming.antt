@@ -6,12 +6,6 @@ use Rattle.trace.specs.declared.number.TraceNumber.{TraceNumber}
 use Rattle.trace.specs.declared.number.TraceNumber.TheVariants.{ByOrdinal, BySerial}
 use Rattle.trace.specs.Contract.{number_by}
 use Rattle.replay_invariant.specs.Terms.{hopped}
-use Rattle.replay_spec.specs.declared.Named.{Named}
-use Rattle.replay_spec.specs.declared.Named.TheVariants.{At, Nothing}
-
-unfoldable pub named_of : Option ℕ → Named
-named_of none = Nothing
-named_of (some s) = At (record { 0 = s })
 
 -- The step that a trace number names: an ordinal the frontier task's step of that ordinal, found from `base` on, whose ordinal is
 -- `at`; a serial number that step, where it is one that can have been pushed.

@@ -11,13 +11,6 @@ pub const NO_PHASE: u16 = 65535;
 // The label of a step that has none.
 pub const FREE: u16 = 65535;
 
-// The step that a trace number names, or none.
-#[derive(Clone, Copy)]
-pub enum Named {
-    At(Step),
-    Nothing,
-}
-
 // A phase that begins: its worker `thief` steals `step` from phase `from`. The step's ordinal is that of a work-first trace; from
 // a help-first one it is 0, and not asked for.
 #[derive(Clone, Copy)]

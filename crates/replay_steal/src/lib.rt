@@ -16,7 +16,6 @@ ghost use Rattle.replay_spec.specs.Naming.{step_named};
 ghost use Rattle.replay_spec.specs.Reading.{Reading};
 
 use policy::MOST_PHASES;
-use replay_spec::Named;
 use trace::number::TraceNumber;
 use tree::{Ordinal, Phase, Step};
 use tree_tables::wide;
@@ -32,7 +31,7 @@ pub fn read_steal(
     ordinals: &[u16; MOST_PHASES],
     phase: Phase,
     number: TraceNumber,
-) -> Named
+) -> Option<Step>
     requires base { let base = get_or bases.now phase.0 0 in
         ((tree_verdict tree.now).number ≡ 0) × (phase.0 < most_phases) × (base < length (kinds tree.now)) }
     requires ends { Ends (kinds tree.now) ends.now (length ends.now) }
@@ -47,13 +46,9 @@ pub fn read_steal(
     let at = phase.0;
     let base = Step(wide(bases[at]));
     let ordinal = Ordinal(wide(ordinals[at]));
-    match number::step_named(tree, ends, openers, base, ordinal, number) {
-        Named::At(step) => {
-            if !replay_labels::take(openers, labels, step, phase) {
-                return Named::Nothing;
-            }
-            Named::At(step)
-        }
-        Named::Nothing => Named::Nothing,
+    let step = number::step_named(tree, ends, openers, base, ordinal, number)?;
+    if !replay_labels::take(openers, labels, step, phase) {
+        return None;
     }
+    Some(step)
 }

@@ -5,31 +5,27 @@ ghost use Rattle.rules.specs.Tree.{kinds};
 ghost use Rattle.rules.specs.Traces.{starts_async, follows_finish};
 ghost use Rattle.tree_tables.specs.Terms.{Ends, Openers};
 ghost use Rattle.replay_invariant.specs.Terms.{hopped};
-ghost use Rattle.replay_spec.specs.Naming.{named_of, step_named};
+ghost use Rattle.tree.specs.Steps.{maybe_step};
+ghost use Rattle.replay_spec.specs.Naming.{step_named};
 
-use replay_spec::Named;
 use trace::number::TraceNumber;
 use tree::{ASYNC, END, Ordinal, Step, kind};
-use tree_scan::FinishChild;
 use tree_tables::lookup::{cont_by, finish_by};
 
 // From a step over so many children of its task: each time on to the step after the end of the child that is opened. None where
 // a step on the way ends the task.
-fn hop(tree: &[u8], ends: &[u16], from: Step, children: usize) -> Named
+fn hop(tree: &[u8], ends: &[u16], from: Step, children: usize) -> Option<Step>
     requires { Ends (kinds tree.now) ends.now (length ends.now) }
-    ensures { result ≡ named_of (hopped (kinds tree.now) children from.0) }
+    ensures { result ≡ maybe_step (hopped (kinds tree.now) children from.0) }
 {
-    let mut i = from.0;
-    let mut left = children;
-    while 0 < left {
-        left -= 1;
-        if kind(tree, Step(i)) == END {
-            return Named::Nothing;
+    let mut step = from;
+    for _ in 0..children {
+        if kind(tree, step) == END {
+            return None;
         }
-        let next = cont_by(tree, ends, Step(i));
-        i = next.0;
+        step = cont_by(tree, ends, step);
     }
-    Named::At(Step(i))
+    Some(step)
 }
 
 // Whether a step is the first of an async child, or the step after a finish child.
@@ -46,8 +42,8 @@ fn async_or_after_finish(tree: &[u8], openers: &[u16], step: Step) -> bool
         return true;
     }
     match finish_by(tree, openers, step) {
-        FinishChild::From(first) => true,
-        FinishChild::Nothing => false,
+        Some(first) => true,
+        None => false,
     }
 }
 
@@ -60,29 +56,29 @@ pub fn step_named(
     base: Step,
     ordinal: Ordinal,
     number: TraceNumber,
-) -> Named
+) -> Option<Step>
     requires ends { Ends (kinds tree.now) ends.now (length ends.now) }
     requires openers { Openers (kinds tree.now) openers.now (length openers.now) }
-    ensures { result ≡ named_of (step_named (kinds tree.now) base.0 ordinal.0 number) }
+    ensures { result ≡ maybe_step (step_named (kinds tree.now) base.0 ordinal.0 number) }
 {
     match number {
         TraceNumber::ByOrdinal(wanted) => {
             let to = wanted.0;
             let from = ordinal.0;
             if to <= from {
-                return Named::Nothing;
+                return None;
             }
             hop(tree, ends, base, to - from)
         }
         TraceNumber::BySerial(step) => {
             let s = step.0;
             if tree::steps(tree) <= s {
-                return Named::Nothing;
+                return None;
             }
             if !async_or_after_finish(tree, openers, step) {
-                return Named::Nothing;
+                return None;
             }
-            Named::At(step)
+            Some(step)
         }
     }
 }

@@ -31,6 +31,7 @@ pub fn begin_first(
 
 // A phase begins with a step that is stolen from another. The victim's frontier task is now the child whose end stands just
 // before the step: it is walked from its first step, which follows the step's opener.
+#[tactic(auto, unfolding(replay_spec::specs::Begins::bases_begun, replay_spec::specs::Begins::ordinals_begun))]
 pub fn begin(
     openers: &[u16],
     labels: &mut [u16],

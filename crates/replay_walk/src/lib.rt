@@ -6,7 +6,6 @@
 ghost use Rattle.std.specs.Prelude.{◌≡◌, true, ◌<◌, length, replicate};
 ghost use Rattle.rules.specs.Tree.{kinds, weights};
 ghost use Rattle.rules.specs.Bytes.{whole_records};
-ghost use Rattle.rules.specs.Scheduling.{most_workers};
 ghost use Rattle.rules.specs.Calls.{most_trace_records, start_verdict};
 ghost use Rattle.tree_tables.specs.Terms.{Ends, Openers, Sums};
 ghost use Rattle.replay_invariant.specs.Terms.{free};
@@ -14,29 +13,16 @@ ghost use Rattle.policy.specs.Contract.{most_phases};
 ghost use Rattle.replay_walk.specs.Terms.{Retraced};
 
 use policy::{MOST_PHASES, Setup, WORKERS};
-use replay_spec::{Begun, NO_PHASE, Named};
+use refusals::{Refusal, Refused};
+use replay_spec::{Begun, NO_PHASE};
 use tree::Phase;
 use tree_tables::wide;
 
-// What the walk over the records comes to.
+// What the walk over the records comes to, where none is refused.
 #[derive(Clone, Copy)]
 pub struct Ended {
-    pub number: u8,
-    pub position: usize,
     pub phases: usize,
     pub loads: [u64; WORKERS],
-}
-
-// A refusal at a position.
-fn refused(number: u8, position: usize) -> Ended
-    ensures { result ≡ record { number = number; position = position; phases = 0; loads = replicate most_workers 0 } }
-{
-    Ended {
-        number,
-        position,
-        phases: 0,
-        loads: [0; WORKERS],
-    }
 }
 
 // Reads the records from the first on, up to the first that is refused, with the tree's tables. The labels are all free at
@@ -50,7 +36,7 @@ pub fn walk(
     trace: &[u8],
     labels: &mut [u16],
     firsts: &mut [u16; MOST_PHASES],
-) -> Ended
+) -> Result<Ended, Refused>
     requires start { let start = start_verdict setup.workers setup.policy tree.now in
         (start.number ≡ 0) × (whole_records 4 most_trace_records trace.now ≡ true) }
     requires ends { let ks = kinds tree.now in
@@ -69,55 +55,47 @@ pub fn walk(
     let mut loads: [u64; WORKERS] = [0; WORKERS];
     let weight = sums[tree::steps(tree)];
     replay_steal::phase::begin_first(labels, firsts, &mut latest, &mut loads, weight);
-    let mut k = 0;
-    while k < trace.len() / buffers::RECORD {
-        let at = k;
-        k += 1;
+    let records = trace.len() / buffers::RECORD;
+    for at in 0..records {
         let steal = trace::record_at(trace, at);
-        let refusal = replay_steal::workers::judge_workers(
+        let judged = replay_steal::workers::judge_workers(
             &latest,
             setup.workers,
             steal.thief,
             steal.victim,
         );
-        if refusal != 0 {
-            return refused(refusal, at);
+        if let Err(refusal) = judged {
+            return Err(refusal.at(at));
         }
         let thief = steal.thief as usize;
         let victim = steal.victim as usize;
-        // The victim's latest phase. The record begins phase k.
+        // The victim's latest phase. Record k begins phase k + 1.
         let phase = Phase(wide(latest[victim]));
         let number = trace::number::decode_number(setup.policy, steal.number);
-        match replay_steal::read_steal(
+        let Some(step) = replay_steal::read_steal(
             tree, ends, openers, labels, &bases, &ordinals, phase, number,
-        ) {
-            Named::At(step) => {
-                replay_steal::phase::begin(
-                    openers,
-                    labels,
-                    firsts,
-                    &mut bases,
-                    &mut ordinals,
-                    &mut latest,
-                    Begun {
-                        phase: Phase(k),
-                        from: phase,
-                        thief,
-                        step,
-                        ordinal: trace::number::ordinal_in(number),
-                    },
-                );
-                loads::move_part(ends, sums, &mut loads, thief, victim, step);
-            }
-            Named::Nothing => {
-                return refused(15, at);
-            }
-        }
+        ) else {
+            return Err(Refusal::Number.at(at));
+        };
+        replay_steal::phase::begin(
+            openers,
+            labels,
+            firsts,
+            &mut bases,
+            &mut ordinals,
+            &mut latest,
+            Begun {
+                phase: Phase(at + 1),
+                from: phase,
+                thief,
+                step,
+                ordinal: trace::number::ordinal_in(number),
+            },
+        );
+        loads::move_part(ends, sums, &mut loads, thief, victim, step);
     }
-    Ended {
-        number: 0,
-        position: 0,
-        phases: k + 1,
+    Ok(Ended {
+        phases: records + 1,
         loads,
-    }
+    })
 }

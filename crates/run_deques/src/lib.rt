@@ -7,10 +7,10 @@
 
 ghost use Rattle.std.specs.Prelude.{◌≡◌, ◌≤◌, ◌<◌, length, set};
 ghost use Rattle.rules.specs.Tree.{most_steps};
-ghost use Rattle.run_spec.specs.Deques.{newest_mark, oldest_mark, found_of, popped, robbed};
+ghost use Rattle.tree.specs.Steps.{maybe_step};
+ghost use Rattle.run_spec.specs.Deques.{newest_mark, oldest_mark, popped, robbed};
 ghost use Rattle.run_spec.specs.Terms.{Climbs};
 
-use run_spec::Found;
 use tree::{MOST_STEPS, Step};
 use tree_tables::wide;
 
@@ -21,46 +21,55 @@ pub const RUN: u8 = 16;
 pub const NOT_RUN: u8 = 17;
 
 // The highest step with this mark, a worker's or NOT_RUN, among those from `low` to before `end`, by a walk backwards.
-pub fn scan(place: &[u8; MOST_STEPS], mark: u8, low: Step, end: Step) -> Found
+pub fn scan(place: &[u8; MOST_STEPS], mark: u8, low: Step, end: Step) -> Option<Step>
     requires { end.0 ≤ most_steps }
-    ensures { result ≡ found_of (newest_mark place.now mark low.0 end.0) }
+    ensures { result ≡ maybe_step (newest_mark place.now mark low.0 end.0) }
 {
-    let from = low.0;
-    let mut j = end.0;
-    while from < j {
-        j -= 1;
+    for j in (low.0..end.0).rev() {
         if place[j] == mark {
-            return Found::At(Step(j));
+            return Some(Step(j));
         }
     }
-    Found::Nothing
+    None
 }
 
 // The highest step marked with the worker among those from `low` to before `end`, from opener to opener: no step between is
 // marked with a worker that holds step `end`.
-fn climb(openers: &[u16], place: &[u8; MOST_STEPS], worker: u8, low: Step, end: Step) -> Found
+fn climb(
+    openers: &[u16],
+    place: &[u8; MOST_STEPS],
+    worker: u8,
+    low: Step,
+    end: Step,
+) -> Option<Step>
     requires { (end.0 < most_steps) × (end.0 < length openers.now) × Climbs openers.now place.now worker low.0 end.0 }
-    ensures { result ≡ found_of (newest_mark place.now worker low.0 end.0) }
+    ensures { result ≡ maybe_step (newest_mark place.now worker low.0 end.0) }
 {
     let from = low.0;
     let mut j = end.0;
     while from < j {
         j = wide(openers[j]);
         if j < from {
-            return Found::Nothing;
+            return None;
         }
         if place[j] == worker {
-            return Found::At(Step(j));
+            return Some(Step(j));
         }
     }
-    Found::Nothing
+    None
 }
 
 // The highest step marked with the worker among those from `low` to before `end`: by the openers where their table has step
 // `end`, else by a scan.
-pub fn newest(openers: &[u16], place: &[u8; MOST_STEPS], worker: u8, low: Step, end: Step) -> Found
+pub fn newest(
+    openers: &[u16],
+    place: &[u8; MOST_STEPS],
+    worker: u8,
+    low: Step,
+    end: Step,
+) -> Option<Step>
     requires { (end.0 < most_steps) × (end.0 < length openers.now → Climbs openers.now place.now worker low.0 end.0) }
-    ensures { result ≡ found_of (newest_mark place.now worker low.0 end.0) }
+    ensures { result ≡ maybe_step (newest_mark place.now worker low.0 end.0) }
 {
     let i = end.0;
     if i < openers.len() {
@@ -70,18 +79,16 @@ pub fn newest(openers: &[u16], place: &[u8; MOST_STEPS], worker: u8, low: Step, 
 }
 
 // The lowest step marked with the worker among those from `low` to before `end`, by a scan.
-pub fn oldest(place: &[u8; MOST_STEPS], worker: u8, low: Step, end: usize) -> Found
+pub fn oldest(place: &[u8; MOST_STEPS], worker: u8, low: Step, end: usize) -> Option<Step>
     requires { end ≤ most_steps }
-    ensures { result ≡ found_of (oldest_mark place.now worker low.0 end) }
+    ensures { result ≡ maybe_step (oldest_mark place.now worker low.0 end) }
 {
-    let mut j = low.0;
-    while j < end {
+    for j in low.0..end {
         if place[j] == worker {
-            return Found::At(Step(j));
+            return Some(Step(j));
         }
-        j += 1;
     }
-    Found::Nothing
+    None
 }
 
 // A worker runs an opening step, and the step that it pushes is the newest of the worker's deque.
@@ -100,40 +107,40 @@ pub fn pop(
     worker: u8,
     low: Step,
     step: Step,
-) -> Found
+) -> Option<Step>
     requires { let i = step.0 in
         (i < most_steps) × (i < length openers.now → Climbs openers.now place.old worker low.0 i) }
-    ensures gives { result ≡ found_of (newest_mark place.old worker low.0 step.0) }
+    ensures gives { result ≡ maybe_step (newest_mark place.old worker low.0 step.0) }
     ensures marks { place.new ≡ popped place.old worker low.0 step.0 }
 {
     let i = step.0;
     match newest(openers, place, worker, low, step) {
-        Found::At(q) => {
+        Some(q) => {
             let p = q.0;
             place[i] = RUN;
             place[p] = RUN;
-            Found::At(q)
+            Some(q)
         }
-        Found::Nothing => {
+        None => {
             place[i] = RUN;
-            Found::Nothing
+            None
         }
     }
 }
 
 // A thief takes the oldest step of the victim's deque, among the steps pushed by those from `low` to before `end`. Gives that
 // step's pusher.
-pub fn take(place: &mut [u8; MOST_STEPS], victim: u8, low: Step, end: usize) -> Found
+pub fn take(place: &mut [u8; MOST_STEPS], victim: u8, low: Step, end: usize) -> Option<Step>
     requires { end ≤ most_steps }
-    ensures gives { result ≡ found_of (oldest_mark place.old victim low.0 end) }
+    ensures gives { result ≡ maybe_step (oldest_mark place.old victim low.0 end) }
     ensures marks { place.new ≡ robbed place.old victim low.0 end }
 {
     match oldest(place, victim, low, end) {
-        Found::At(q) => {
+        Some(q) => {
             let p = q.0;
             place[p] = RUN;
-            Found::At(q)
+            Some(q)
         }
-        Found::Nothing => Found::Nothing,
+        None => None,
     }
 }

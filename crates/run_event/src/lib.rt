@@ -13,21 +13,15 @@ pub mod waiting;
 ghost use Rattle.std.specs.Prelude.{◌≡◌, List, ℕ, length};
 ghost use Rattle.rules.specs.Tree.{kinds};
 ghost use Rattle.tree_tables.specs.Terms.{Ends};
-ghost use Rattle.run_spec.specs.declared.Outcome.TheVariants.{Refused};
+ghost use Rattle.run_spec.specs.Outcomes.{outcome_of};
 ghost use Rattle.run_spec.specs.Moves.{fields_of, move_of, run_move, steal_move, event_move};
 ghost use Rattle.run_spec.specs.Terms.{Hints};
 
 use policy::{MOST_PHASES, Setup, WORKERS};
-use run_spec::{Event, Outcome, Taken};
+use refusals::Refusal;
+use run_spec::{Done, Event};
 use tree::{MOST_STEPS, Ordinal, Phase, Step};
 use tree_tables::wide;
-
-// An event's outcome with the count of steals after it.
-#[derive(Clone, Copy)]
-pub struct Moved {
-    pub outcome: Outcome,
-    pub steals: u16,
-}
 
 // A worker runs its step: refusals 8 to 10 leave the arrays as they are.
 pub fn run_on(
@@ -40,38 +34,25 @@ pub fn run_on(
     low: &[u16; WORKERS],
     setup: Setup,
     worker: u8,
-) -> Outcome
+) -> Result<Done, Refusal>
     requires { Hints tree.now ends.now openers.now place.old held.old low.now }
     ensures { (base : List ℕ) → (steals : ℕ) →
         let before = fields_of place.old held.old phase.now low.now base steals setup in
         let after = fields_of place.new held.new phase.now low.now base steals setup in
-        move_of result after ≡ run_move before tree.now worker }
+        move_of (outcome_of result) after ≡ run_move before tree.now worker }
 {
-    let refusal = run::judge_run(tree, openers, place, held, low, setup.workers, worker);
-    if refusal != 0 {
-        return Outcome::Refused(refusal);
-    }
+    run::judge_run(tree, openers, place, held, low, setup.workers, worker)?;
     let w = worker as usize;
     let step = Step(wide(held[w]));
     let from = Step(wide(low[w]));
     held[w] = run::advance(tree, ends, openers, place, setup.policy, worker, from, step);
-    Outcome::Ran {
+    Ok(Done::Ran {
         phase: Phase(wide(phase[w])),
         step,
-    }
+    })
 }
 
-// A refused steal.
-fn refused(number: u8, steals: u16) -> Moved
-    ensures { result ≡ record { outcome = Refused number; steals = steals } }
-{
-    Moved {
-        outcome: Outcome::Refused(number),
-        steals,
-    }
-}
-
-// The thief takes the oldest step of the victim's deque: refusals 8, 11 and 12 leave the arrays as they are.
+// The thief takes the oldest step of the victim's deque, and the steal is counted: refusals 8, 11 and 12 leave all as it is.
 pub fn steal_on(
     tree: &[u8],
     ends: &[u16],
@@ -80,49 +61,36 @@ pub fn steal_on(
     phase: &mut [u16; WORKERS],
     low: &mut [u16; WORKERS],
     base: &mut [u16; WORKERS],
-    steals: u16,
+    steals: &mut u16,
     setup: Setup,
     thief: u8,
     victim: u8,
-) -> Moved
+) -> Result<Done, Refusal>
     requires { Ends (kinds tree.now) ends.now (length ends.now) }
     ensures { let before =
-        fields_of place.old held.old phase.old low.old base.old steals setup in
+        fields_of place.old held.old phase.old low.old base.old steals.old setup in
         let after =
-        fields_of place.new held.new phase.new low.new base.new result.steals setup in
-        move_of result.outcome after ≡ steal_move before tree.now thief victim }
+        fields_of place.new held.new phase.new low.new base.new steals.new setup in
+        move_of (outcome_of result) after ≡ steal_move before tree.now thief victim }
 {
-    let refusal = steal::judge_steal(tree, held, setup.workers, thief, victim);
-    if refusal != 0 {
-        return refused(refusal, steals);
-    }
+    steal::judge_steal(tree, held, setup.workers, thief, victim)?;
     let v = victim as usize;
     let from = Step(wide(low[v]));
     let ordinal = Ordinal(wide(base[v]));
-    match steal::take_step(tree, ends, place, setup.policy, victim, from, ordinal) {
-        Taken::Of(stolen) => {
-            let begun = steals % MOST_PHASES as u16 + 1;
-            steal::settle(
-                held,
-                phase,
-                low,
-                base,
-                thief,
-                victim,
-                stolen,
-                Phase(wide(begun)),
-            );
-            Moved {
-                outcome: Outcome::Stole(trace::number::trace_number(
-                    setup.policy,
-                    stolen.ordinal,
-                    stolen.step,
-                )),
-                steals: begun,
-            }
-        }
-        Taken::Nothing => refused(12, steals),
-    }
+    let taken = steal::take_step(tree, ends, place, setup.policy, victim, from, ordinal);
+    let stolen = taken.ok_or(Refusal::Deque)?;
+    *steals = *steals % MOST_PHASES as u16 + 1;
+    steal::settle(
+        held,
+        phase,
+        low,
+        base,
+        thief,
+        victim,
+        stolen,
+        Phase(wide(*steals)),
+    );
+    Ok(Done::Stole(trace::number::trace_number(setup.policy, stolen.ordinal, stolen.step)))
 }
 
 // An event: of equal bytes, that worker runs its step; of different ones, the first steals from the second.
@@ -135,19 +103,19 @@ pub fn event_on(
     phase: &mut [u16; WORKERS],
     low: &mut [u16; WORKERS],
     base: &mut [u16; WORKERS],
-    steals: u16,
+    steals: &mut u16,
     setup: Setup,
     event: Event,
-) -> Moved
+) -> Result<Done, Refusal>
     requires { Hints tree.now ends.now openers.now place.old held.old low.old }
     ensures { let before =
-        fields_of place.old held.old phase.old low.old base.old steals setup in
+        fields_of place.old held.old phase.old low.old base.old steals.old setup in
         let after =
-        fields_of place.new held.new phase.new low.new base.new result.steals setup in
-        move_of result.outcome after ≡ event_move before tree.now event.first event.second }
+        fields_of place.new held.new phase.new low.new base.new steals.new setup in
+        move_of (outcome_of result) after ≡ event_move before tree.now event.first event.second }
 {
     if event.first == event.second {
-        let outcome = run_on(
+        return run_on(
             tree,
             ends,
             openers,
@@ -158,7 +126,6 @@ pub fn event_on(
             setup,
             event.first,
         );
-        return Moved { outcome, steals };
     }
     steal_on(
         tree,

@@ -16,26 +16,17 @@ fn children_between(tree: &[u8], from: Step, to: Step) -> usize
     ensures value { result ≡ children_between (kinds tree.now) from.0 to.0 }
     ensures few { result ≤ to.0 }
 {
-    let end = to.0;
-    let mut j = from.0;
     let mut depth: usize = 0;
     let mut children: usize = 0;
-    while j < end {
-        let k = tree[TREE_RECORD * j];
-        j += 1;
-        if k == END {
+    for j in from.0..to.0 {
+        if tree[TREE_RECORD * j] == END {
+            depth = depth.saturating_sub(1);
+        } else {
             if depth == 0 {
-                continue;
+                children += 1;
             }
-            depth -= 1;
-            continue;
+            depth += 1;
         }
-        if depth == 0 {
-            depth = 1;
-            children += 1;
-            continue;
-        }
-        depth += 1;
     }
     children
 }

@@ -3,17 +3,19 @@
 ghost use Rattle.std.specs.Prelude.{◌≡◌, ◌≤◌, ◌<◌, length};
 ghost use Rattle.rules.specs.Tree.{kinds, most_steps};
 ghost use Rattle.rules.specs.Scheduling.{most_workers};
+ghost use Rattle.refusals.specs.Numbers.{number_in};
 ghost use Rattle.tree_tables.specs.Terms.{Ends, Openers};
 ghost use Rattle.run_spec.specs.Terms.{Climbs, WaitsAtLow};
 ghost use Rattle.run_spec.specs.Running.{run_number, held_next, place_next};
 
 use super::waiting::{awaits, may_wait};
 use policy::WORKERS;
-use run_spec::{Found, NO_STEP};
+use refusals::Refusal;
+use run_spec::NO_STEP;
 use tree::{END, MOST_STEPS, Step};
 use tree_tables::wide;
 
-// The refusal of a worker's run in a run of so many workers: 8, 9 or 10, or 2 for a tree that is too long; 0 for none.
+// Judges a worker's run in a run of so many workers: refusals 8, 9 and 10, or 2 for a tree that is too long.
 pub fn judge_run(
     tree: &[u8],
     openers: &[u16],
@@ -22,30 +24,30 @@ pub fn judge_run(
     low: &[u16; WORKERS],
     workers: u16,
     worker: u8,
-) -> u8
+) -> Result<(), Refusal>
     requires openers { Openers (kinds tree.now) openers.now (length openers.now) }
     requires waits_at_low { worker < most_workers → WaitsAtLow (kinds tree.now) openers.now place.now held.now low.now worker }
-    ensures { result ≡ run_number workers (kinds tree.now) place.now held.now worker }
+    ensures { number_in result ≡ run_number workers (kinds tree.now) place.now held.now worker }
 {
     if policy::no_worker(workers, worker) {
-        return 8;
+        return Err(Refusal::Worker);
     }
     let n = tree::steps(tree);
     if MOST_STEPS < n {
-        return 2;
+        return Err(Refusal::TreeLength);
     }
     let w = worker as usize;
     let i = wide(held[w]);
     if n <= i {
-        return 9;
+        return Err(Refusal::Idle);
     }
     if !may_wait(openers, Step(i), Step(wide(low[w]))) {
-        return 0;
+        return Ok(());
     }
-    match awaits(tree, openers, place, Step(i)) {
-        Found::At(unrun) => 10,
-        Found::Nothing => 0,
+    if awaits(tree, openers, place, Step(i)).is_some() {
+        return Err(Refusal::Waits);
     }
+    Ok(())
 }
 
 // A worker has run a step: the places change, and the step that it holds next, or NO_STEP, is given.
@@ -71,10 +73,10 @@ pub fn advance(
         return held.0 as u16;
     }
     match run_deques::pop(openers, place, worker, low, step) {
-        Found::At(q) => {
+        Some(q) => {
             let held = policy::pushed_by(tree, ends, policy, q);
             held.0 as u16
         }
-        Found::Nothing => NO_STEP,
+        None => NO_STEP,
     }
 }

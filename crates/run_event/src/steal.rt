@@ -1,38 +1,42 @@
 // Stealing a step (document 01, "Scheduling"): whether a thief may steal, what it takes from the victim's deque, and what the
 // workers' tables are then.
-ghost use Rattle.std.specs.Prelude.{◌≡◌, ◌+◌, ◌≤◌, ◌<◌, length, set};
+ghost use Rattle.std.specs.Prelude.{◌≡◌, ◌+◌, ◌≤◌, ◌<◌, length, set, Some};
 ghost use Rattle.rules.specs.Tree.{kinds, most_steps};
 ghost use Rattle.rules.specs.Scheduling.{most_workers};
+ghost use Rattle.refusals.specs.Numbers.{number_in};
 ghost use Rattle.tree_tables.specs.Terms.{Ends};
 ghost use Rattle.run_spec.specs.Deques.{oldest_mark, robbed};
 ghost use Rattle.run_spec.specs.Stealing.{steal_number, taken_of};
 ghost use Rattle.run_spec.specs.Terms.{Small};
-ghost use Rattle.run_spec.specs.declared.Taken.TheVariants.{Of};
 
 use policy::WORKERS;
-use run_spec::{Found, Stolen, Taken};
+use refusals::Refusal;
+use run_spec::Stolen;
 use tree::{MOST_STEPS, Ordinal, Phase, Step};
 use tree_tables::wide;
 
-// The refusal of a steal in a run of so many workers, but for an empty deque: 8 or 11, or 2 for a tree that is too long; 0 for none.
-pub fn judge_steal(tree: &[u8], held: &[u16; WORKERS], workers: u16, thief: u8, victim: u8) -> u8
-    ensures { result ≡ steal_number workers (kinds tree.now) held.now thief victim }
+// Judges a steal in a run of so many workers, but for an empty deque: refusals 8 and 11, or 2 for a tree that is too long.
+pub fn judge_steal(
+    tree: &[u8],
+    held: &[u16; WORKERS],
+    workers: u16,
+    thief: u8,
+    victim: u8,
+) -> Result<(), Refusal>
+    ensures { number_in result ≡ steal_number workers (kinds tree.now) held.now thief victim }
 {
-    if policy::no_worker(workers, thief) {
-        return 8;
-    }
-    if policy::no_worker(workers, victim) {
-        return 8;
+    if policy::no_worker(workers, thief) || policy::no_worker(workers, victim) {
+        return Err(Refusal::Worker);
     }
     let n = tree::steps(tree);
     if MOST_STEPS < n {
-        return 2;
+        return Err(Refusal::TreeLength);
     }
     let t = thief as usize;
     if wide(held[t]) < n {
-        return 11;
+        return Err(Refusal::Thief);
     }
-    0
+    Ok(())
 }
 
 // The oldest step of the victim's deque leaves it, and is given with its pusher and its ordinal.
@@ -44,7 +48,7 @@ pub fn take_step(
     victim: u8,
     low: Step,
     base: Ordinal,
-) -> Taken
+) -> Option<Stolen>
     requires { (length (kinds tree.now) ≤ most_steps) × Ends (kinds tree.now) ends.now (length ends.now) }
     ensures gives { let ks = kinds tree.now in
         result ≡ taken_of policy ks base.0 low.0 (oldest_mark place.old victim low.0 (length ks)) }
@@ -53,16 +57,16 @@ pub fn take_step(
 {
     let n = tree::steps(tree);
     match run_deques::take(place, victim, low, n) {
-        Found::At(pusher) => {
+        Some(pusher) => {
             let step = policy::pushed_by(tree, ends, policy, pusher);
             let ordinal = super::ordinal::ordinal_from(tree, policy, base, low, pusher);
-            Taken::Of(Stolen {
+            Some(Stolen {
                 pusher,
                 step,
                 ordinal,
             })
         }
-        Found::Nothing => Taken::Nothing,
+        None => None,
     }
 }
 
@@ -78,7 +82,7 @@ pub fn settle(
     stolen: Stolen,
     begun: Phase,
 )
-    requires { (thief < most_workers) × (victim < most_workers) × Small (Of stolen) × (begun.0 < 65536) }
+    requires { (thief < most_workers) × (victim < most_workers) × Small (Some stolen) × (begun.0 < 65536) }
     ensures held { held.new ≡ set held.old thief stolen.step.0 }
     ensures phase { phase.new ≡ set phase.old thief begun.0 }
     ensures low { let passed = set low.old victim (stolen.pusher.0 + 1) in

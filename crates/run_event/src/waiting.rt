@@ -4,13 +4,12 @@
 ghost use Rattle.std.specs.Prelude.{◌≡◌, ◌+◌, ◌≤◌, ◌<◌, ◌||◌, length, eqb, leb};
 ghost use Rattle.rules.specs.Tree.{kinds, most_steps};
 ghost use Rattle.tree_tables.specs.Terms.{Openers};
-ghost use Rattle.run_spec.specs.Deques.{unrun_mark, newest_mark, found_of};
+ghost use Rattle.tree.specs.Steps.{maybe_step};
+ghost use Rattle.run_spec.specs.Deques.{unrun_mark, newest_mark};
 ghost use Rattle.run_spec.specs.Running.{all_run, awaits as awaits_by};
 
 use run_deques::NOT_RUN;
-use run_spec::Found;
 use tree::{MOST_STEPS, Step};
-use tree_scan::FinishChild;
 use tree_tables::lookup::finish_by;
 
 // So many steps of a child are looked at together.
@@ -22,12 +21,8 @@ fn all_run(place: &[u8; MOST_STEPS], first: Step, end: Step) -> bool
     requires { (end.0 ≤ most_steps) × (end.0 ≤ first.0 + 255) }
     ensures { result ≡ all_run place.now first.0 end.0 }
 {
-    let to = end.0;
-    let mut j = first.0;
     let mut unrun: u8 = 0;
-    while j < to {
-        let k = j;
-        j += 1;
+    for k in first.0..end.0 {
         if place[k] == NOT_RUN {
             unrun += 1;
         }
@@ -49,9 +44,9 @@ fn block_before(first: Step, end: Step) -> Step
 }
 
 // The highest step from `first` to before `end` that has not run.
-pub fn last_unrun(place: &[u8; MOST_STEPS], first: Step, end: Step) -> Found
+pub fn last_unrun(place: &[u8; MOST_STEPS], first: Step, end: Step) -> Option<Step>
     requires { end.0 ≤ most_steps }
-    ensures { result ≡ found_of (newest_mark place.now unrun_mark first.0 end.0) }
+    ensures { result ≡ maybe_step (newest_mark place.now unrun_mark first.0 end.0) }
 {
     let from = first.0;
     let mut j = end.0;
@@ -62,17 +57,17 @@ pub fn last_unrun(place: &[u8; MOST_STEPS], first: Step, end: Step) -> Found
         }
         j = low.0;
     }
-    Found::Nothing
+    None
 }
 
 // The step that a held step waits for, or none.
-pub fn awaits(tree: &[u8], openers: &[u16], place: &[u8; MOST_STEPS], step: Step) -> Found
+pub fn awaits(tree: &[u8], openers: &[u16], place: &[u8; MOST_STEPS], step: Step) -> Option<Step>
     requires { (step.0 ≤ most_steps) × Openers (kinds tree.now) openers.now (length openers.now) }
-    ensures { result ≡ found_of (awaits_by (kinds tree.now) place.now step.0) }
+    ensures { result ≡ maybe_step (awaits_by (kinds tree.now) place.now step.0) }
 {
     match finish_by(tree, openers, step) {
-        FinishChild::From(first) => last_unrun(place, first, step),
-        FinishChild::Nothing => Found::Nothing,
+        Some(first) => last_unrun(place, first, step),
+        None => None,
     }
 }
 

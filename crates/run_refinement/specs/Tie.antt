@@ -8,8 +8,7 @@ use Rattle.rules.specs.Scheduling.{oldest, judge_event}
 use Rattle.rules.specs.Calls.{event_call}
 use Rattle.run_spec.specs.Deques.{unrun_mark, marked}
 use Rattle.run_spec.specs.Running.{no_step}
-use Rattle.run_spec.specs.declared.Outcome.{Outcome}
-use Rattle.run_spec.specs.declared.Outcome.TheVariants.{Ran, Stole, Refused}
+use Rattle.run_spec.specs.Outcomes.{Outcome, Ran, Stole, Refused}
 use Rattle.trace.specs.Contract.{number_by}
 use Rattle.run_spec.specs.Moves.{Fields}
 use Rattle.run_state.specs.declared.RunState.{RunState}

@@ -4,8 +4,6 @@
 use Rattle.std.specs.Prelude.{ℕ, ◌-◌, Bool, List, get_or, set, eqb}
 use Rattle.std.proofs.Math.Option.{Option, none, some}
 use Rattle.rules.specs.Bytes.{count, find, highest}
-use Rattle.run_spec.specs.declared.Found.{Found}
-use Rattle.run_spec.specs.declared.Found.TheVariants.{At, Nothing}
 
 -- ---- marks
 
@@ -29,11 +27,6 @@ newest_mark place w low end = highest (marked place w) low end
 -- The lowest step marked with w among them: the pusher of the oldest step.
 unfoldable pub oldest_mark : List ℕ → ℕ → ℕ → ℕ → Option ℕ
 oldest_mark place w low end = find (marked place w) (count low (end - low))
-
--- What is found as the code has it.
-unfoldable pub found_of : Option ℕ → Found
-found_of none = Nothing
-found_of (some q) = At (record { 0 = q })
 
 -- ---- stores
 

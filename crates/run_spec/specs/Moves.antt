@@ -7,8 +7,7 @@ use Rattle.rules.specs.Tree.{kinds, most_steps}
 use Rattle.rules.specs.Scheduling.{most_workers, pushes}
 use Rattle.policy.specs.declared.Setup.{Setup}
 use Rattle.policy.specs.Contract.{most_phases}
-use Rattle.run_spec.specs.declared.Outcome.{Outcome}
-use Rattle.run_spec.specs.declared.Outcome.TheVariants.{Ran, Stole, Refused}
+use Rattle.run_spec.specs.Outcomes.{Outcome, Ran, Stole, Refused}
 use Rattle.run_spec.specs.Deques.{unrun_mark, oldest_mark, robbed}
 use Rattle.run_spec.specs.Running.{no_step, run_number, held_next, place_next}
 use Rattle.trace.specs.Contract.{number_by}

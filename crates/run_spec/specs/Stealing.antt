@@ -1,12 +1,11 @@
 -- What a steal asks and takes: whether it is refused before the deque is looked at, and the step that it takes, with its ordinal.
-use Rattle.std.specs.Prelude.{ℕ, cond, ◌||◌, List, length, get_or, leb, ltb}
-use Rattle.std.proofs.Math.Option.{Option, none, some}
+use Rattle.std.specs.Prelude.{Option, Some, None, ℕ, cond, ◌||◌, List, length, get_or, leb, ltb}
+use Rattle.std.proofs.Math.Option.{Option as Maybe, none, some}
 use Rattle.rules.specs.Tree.{most_steps}
 use Rattle.rules.specs.Scheduling.{pushes}
 use Rattle.policy.specs.Contract.{worker_limit}
+use Rattle.run_spec.specs.declared.Stolen.{Stolen}
 use Rattle.run_spec.specs.Ordinals.{ordinal_from}
-use Rattle.run_spec.specs.declared.Taken.{Taken}
-use Rattle.run_spec.specs.declared.Taken.TheVariants.{Of, Nothing}
 
 -- ---- refusals
 
@@ -19,11 +18,15 @@ steal_number c ks held t v =
 
 -- ---- what is taken
 
+-- A stolen step, or none.
+abbrev pub MaybeStolen : Type 0
+MaybeStolen = Option Stolen
+
 -- What a steal from a deque takes, whose oldest step was pushed by a step that is found, or by none.
-unfoldable pub taken_of : ℕ → List ℕ → ℕ → ℕ → Option ℕ → Taken
-taken_of p ks base from none = Nothing
+unfoldable pub taken_of : ℕ → List ℕ → ℕ → ℕ → Maybe ℕ → MaybeStolen
+taken_of p ks base from none = None
 taken_of p ks base from (some q) =
-    Of
+    Some
     (record {
       pusher = record { 0 = q };
       step = record { 0 = pushes p ks q };

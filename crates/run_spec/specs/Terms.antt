@@ -1,13 +1,12 @@
 -- Words of the inner contracts of an event: what its functions ask of the tables that they are lent, and that what a steal takes
 -- fits the workers' tables. No entry's contract names them.
-use Rattle.std.specs.Prelude.{ℕ, ◌≤◌, ◌<◌, ◌≡◌, true, false, List, length, get_or}
+use Rattle.std.specs.Prelude.{Some, None, ℕ, ◌≤◌, ◌<◌, ◌≡◌, true, false, List, length, get_or}
 use Rattle.rules.specs.Tree.{kinds, task_end, most_steps}
 use Rattle.rules.specs.Scheduling.{most_workers}
 use Rattle.tree_tables.specs.Terms.{Ends, Openers}
-use Rattle.run_spec.specs.declared.Taken.{Taken}
-use Rattle.run_spec.specs.declared.Taken.TheVariants.{Of, Nothing}
 use Rattle.run_spec.specs.Deques.{marked}
 use Rattle.run_spec.specs.Running.{waits_for}
+use Rattle.run_spec.specs.Stealing.{MaybeStolen}
 
 -- A table of openers leads from step `end` to the steps before it that are marked with w: the task of each of these ends past
 -- step `end`. So it is in a run where w holds `end`, by the order of the pushers.
@@ -31,6 +30,6 @@ pub record Hints (tree ends openers place held low : List ℕ) : Type 0 where
   pub climbs : (w : ℕ) → w < most_workers → get_or held w 0 < length openers → Climbs openers place w (get_or low w 0) (get_or held w 0)
 
 -- What a steal takes fits the tables.
-abbrev pub Small : Taken → Type 0
-Small (Of stolen) = (stolen.pusher.0 < most_steps) × (stolen.step.0 < 65536) × (stolen.ordinal.0 < 65536)
-Small Nothing = 0 < 1
+abbrev pub Small : MaybeStolen → Type 0
+Small (Some stolen) = (stolen.pusher.0 < most_steps) × (stolen.step.0 < 65536) × (stolen.ordinal.0 < 65536)
+Small None = 0 < 1

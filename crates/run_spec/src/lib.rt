@@ -16,13 +16,6 @@ pub struct Event {
     pub second: u8,
 }
 
-// The step that was looked for, or none: the pusher of a step of a deque, or a step that has not run.
-#[derive(Clone, Copy)]
-pub enum Found {
-    At(Step),
-    Nothing,
-}
-
 // A stolen step with the step that pushed it and, work-first, its ordinal.
 #[derive(Clone, Copy)]
 pub struct Stolen {
@@ -31,18 +24,9 @@ pub struct Stolen {
     pub ordinal: Ordinal,
 }
 
-// What a steal takes from a deque: its oldest step, or nothing.
+// What an event did: the phase and the step that it ran, or the trace number of the step that it stole.
 #[derive(Clone, Copy)]
-pub enum Taken {
-    Of(Stolen),
-    Nothing,
-}
-
-// What an event did: the phase and the step that it ran, or the trace number of the step that it stole, or its refusal, whose
-// position is always 0.
-#[derive(Clone, Copy)]
-pub enum Outcome {
+pub enum Done {
     Ran { phase: Phase, step: Step },
     Stole(TraceNumber),
-    Refused(u8),
 }

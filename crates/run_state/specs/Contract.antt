@@ -1,15 +1,17 @@
 -- What each call answers, and every field of the state that it hands back: functions of the state, the tree's bytes and the event
 -- alone, for any of them. What an event does to the fields of a state is said in `Moves` of `run_spec`.
-use Rattle.std.specs.Prelude.{ℕ, cond, List, replicate, eqb}
+use Rattle.std.specs.Prelude.{ℕ, cond, List, replicate, eqb, Result, Ok, Err}
 use Rattle.rules.specs.Tree.{most_steps}
 use Rattle.rules.specs.Scheduling.{most_workers}
 use Rattle.rules.specs.Calls.{start_verdict}
+use Rattle.refusals.specs.declared.Refused.{Refused}
+use Rattle.refusals.specs.Numbers.{number_of}
 use Rattle.policy.specs.Contract.{worker_limit}
+use Rattle.run_spec.specs.Outcomes.{Outcome, outcome_of}
 use Rattle.run_spec.specs.Moves.{Fields, Move, fresh, run_move, steal_move, event_move}
 use Rattle.run_spec.specs.Idle.{idle_bits, idle_number, idle_first}
 use Rattle.run_state.specs.declared.RunState.{RunState}
 use Rattle.run_state.specs.declared.Answer.{Answer}
-use Rattle.run_state.specs.declared.Started.{Started}
 use Rattle.run_state.specs.declared.Idle.{Idle}
 
 -- The fields of a state,
@@ -39,9 +41,18 @@ state_of f =
       workers = f.setup.workers;
     }
 
--- and the answer of an event that did such a move.
-abbrev pub answer_of : Move → Answer
+-- an event's outcome with the next state,
+pub record Answered : Type 0 where
+  pub outcome : Outcome
+  pub state : RunState
+
+-- that of an event that did such a move,
+abbrev pub answer_of : Move → Answered
 answer_of m = record { outcome = m.outcome; state = state_of m.after }
+
+-- and that which a call answers, its refusal by the number.
+abbrev pub answered : Answer → Answered
+answered a = record { outcome = outcome_of a.outcome; state = a.state }
 
 -- ---- the start
 
@@ -60,6 +71,11 @@ zeros =
     }
 
 -- Refusals 1 to 5 and 16 with their position, or the first state, which keeps the count for the events.
+pub record Started : Type 0 where
+  pub number : ℕ
+  pub position : ℕ
+  pub state : RunState
+
 unfoldable pub start_answer : ℕ → ℕ → List ℕ → Started
 start_answer w p tree =
     let refusal = start_verdict w p tree in
@@ -69,15 +85,20 @@ start_answer w p tree =
       state = cond (eqb refusal.number 0) (state_of (fresh (record { policy = p; workers = w }))) zeros;
     }
 
+-- It is answered by the first state or a refusal.
+abbrev pub started_of : Result RunState Refused → Started
+started_of (Ok state) = record { number = 0; position = 0; state = state }
+started_of (Err e) = record { number = number_of e.refusal; position = e.position; state = zeros }
+
 -- ---- events
 
-unfoldable pub run_answer : RunState → List ℕ → ℕ → Answer
+unfoldable pub run_answer : RunState → List ℕ → ℕ → Answered
 run_answer s tree w = answer_of (run_move (fields s) tree w)
 
-unfoldable pub steal_answer : RunState → List ℕ → ℕ → ℕ → Answer
+unfoldable pub steal_answer : RunState → List ℕ → ℕ → ℕ → Answered
 steal_answer s tree t v = answer_of (steal_move (fields s) tree t v)
 
-unfoldable pub event_answer : RunState → List ℕ → ℕ → ℕ → Answer
+unfoldable pub event_answer : RunState → List ℕ → ℕ → ℕ → Answered
 event_answer s tree a b = answer_of (event_move (fields s) tree a b)
 
 -- ---- the idle workers

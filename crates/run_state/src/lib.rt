@@ -9,10 +9,11 @@ pub mod start;
 ghost use Rattle.std.specs.Prelude.{◌≡◌};
 ghost use Rattle.policy.specs.Contract.{worker_limit};
 ghost use Rattle.run_spec.specs.Idle.{idle_bits};
-ghost use Rattle.run_state.specs.Contract.{run_answer, steal_answer, event_answer, idle_answer};
+ghost use Rattle.run_state.specs.Contract.{answered, run_answer, steal_answer, event_answer, idle_answer};
 
 use policy::{Setup, WORKERS};
-use run_spec::Outcome;
+use refusals::Refusal;
+use run_spec::Done;
 use tree::MOST_STEPS;
 use tree_tables::wide;
 
@@ -37,18 +38,10 @@ pub struct RunState {
     pub workers: u16,
 }
 
-// An event's outcome with the next state.
+// An event's outcome with the next state, which beside a refusal is the very state given.
 #[derive(Clone, Copy)]
 pub struct Answer {
-    pub outcome: Outcome,
-    pub state: RunState,
-}
-
-// A start's refusal and position with the first state.
-#[derive(Clone, Copy)]
-pub struct Started {
-    pub number: u8,
-    pub position: usize,
+    pub outcome: Result<Done, Refusal>,
     pub state: RunState,
 }
 
@@ -65,93 +58,72 @@ pub struct Idle {
 fn idle_set(held: &[u16; WORKERS], workers: u16) -> u16
     ensures { result ≡ idle_bits held.now 0 (worker_limit workers) }
 {
-    let mut w = policy::limit(workers);
     let mut set: u16 = 0;
-    while 0 < w {
-        w -= 1;
+    for w in (0..policy::limit(workers)).rev() {
+        set *= 2;
         if MOST_STEPS <= wide(held[w]) {
-            set = 2 * set + 1;
-        } else {
-            set = 2 * set;
+            set += 1;
         }
     }
     set
 }
 
 impl RunState {
+    // What the run was set up with.
+    fn setup(&self) -> Setup
+        ensures { result ≡ record { policy = self.now.policy; workers = self.now.workers } }
+    {
+        Setup {
+            policy: self.policy,
+            workers: self.workers,
+        }
+    }
+
     // A worker runs its step.
     pub fn run(self, tree: &[u8], worker: u8) -> Answer
-        ensures { result ≡ run_answer self tree.now worker }
+        ensures { answered result ≡ run_answer self tree.now worker }
     {
-        let mut next = self;
-        let mut held = next.held;
-        let phase = next.phase;
-        let low = next.low;
-        let setup = Setup {
-            policy: next.policy,
-            workers: next.workers,
-        };
+        let mut state = self;
+        let setup = state.setup();
         let outcome = run_event::run_on(
             tree,
             &[],
             &[],
-            &mut next.place,
-            &mut held,
-            &phase,
-            &low,
+            &mut state.place,
+            &mut state.held,
+            &state.phase,
+            &state.low,
             setup,
             worker,
         );
-        next.held = held;
-        Answer {
-            outcome,
-            state: next,
-        }
+        Answer { outcome, state }
     }
 
     // The thief takes the oldest step of the victim's deque.
     pub fn steal(self, tree: &[u8], thief: u8, victim: u8) -> Answer
-        ensures { result ≡ steal_answer self tree.now thief victim }
+        ensures { answered result ≡ steal_answer self tree.now thief victim }
     {
-        let mut next = self;
-        let mut held = next.held;
-        let mut phase = next.phase;
-        let mut low = next.low;
-        let mut base = next.base;
-        let steals = next.steals;
-        let setup = Setup {
-            policy: next.policy,
-            workers: next.workers,
-        };
-        let moved = run_event::steal_on(
+        let mut state = self;
+        let setup = state.setup();
+        let outcome = run_event::steal_on(
             tree,
             &[],
-            &mut next.place,
-            &mut held,
-            &mut phase,
-            &mut low,
-            &mut base,
-            steals,
+            &mut state.place,
+            &mut state.held,
+            &mut state.phase,
+            &mut state.low,
+            &mut state.base,
+            &mut state.steals,
             setup,
             thief,
             victim,
         );
-        let outcome = moved.outcome;
-        let count = moved.steals;
-        next.held = held;
-        next.phase = phase;
-        next.low = low;
-        next.base = base;
-        next.steals = count;
-        Answer {
-            outcome,
-            state: next,
-        }
+        Answer { outcome, state }
     }
 
     // An event of two bytes: equal, that worker runs its step; different, the first steals from the second.
     pub fn event(self, tree: &[u8], first: u8, second: u8) -> Answer
-        ensures { result ≡ event_answer self tree.now first second }
+        ensures { answered result ≡ event_answer self tree.now first second }
     {
         if first == second {
             return self.run(tree, first);
@@ -163,8 +135,7 @@ impl RunState {
     pub fn idle(self) -> Idle
         ensures { result ≡ idle_answer self }
     {
-        let held = self.held;
-        let set = idle_set(&held, self.workers);
+        let set = idle_set(&self.held, self.workers);
         Idle {
             set,
             count: u16::count_ones(set),

@@ -2,31 +2,17 @@
 // first state.
 ghost use Rattle.std.specs.Prelude.{◌≡◌};
 ghost use Rattle.run_spec.specs.Moves.{fresh};
-ghost use Rattle.run_state.specs.Contract.{state_of, zeros, start_answer};
+ghost use Rattle.run_state.specs.Contract.{state_of, started_of, start_answer};
 
-use super::{RunState, Started};
+use super::RunState;
 use policy::{Setup, WORKERS};
+use refusals::Refused;
 use run_deques::NOT_RUN;
 use run_spec::NO_STEP;
 use tree::MOST_STEPS;
 
-// The state beside a refusal: all zeros.
-fn no_state() -> RunState
-    ensures { result ≡ zeros }
-{
-    RunState {
-        place: [0; MOST_STEPS],
-        policy: 0,
-        held: [0; WORKERS],
-        phase: [0; WORKERS],
-        low: [0; WORKERS],
-        base: [0; WORKERS],
-        steals: 0,
-        workers: 0,
-    }
-}
-
 // Worker 0 holds step 0 and that begins phase 0; the others are idle.
+#[tactic(auto, unfolding(run_spec::specs::Moves::fresh))]
 fn first_state(setup: Setup) -> RunState
     ensures { result ≡ state_of (fresh setup) }
 {
@@ -45,20 +31,9 @@ fn first_state(setup: Setup) -> RunState
 }
 
 // Starts a run: refusals 1 to 5 and 16, or the first state.
-pub fn start(tree: &[u8], setup: Setup) -> Started
-    ensures { result ≡ start_answer setup.workers setup.policy tree.now }
+pub fn start(tree: &[u8], setup: Setup) -> Result<RunState, Refused>
+    ensures { started_of result ≡ start_answer setup.workers setup.policy tree.now }
 {
-    let admitted = arguments::judge_start(tree, setup);
-    if admitted.number != 0 {
-        return Started {
-            number: admitted.number,
-            position: admitted.position,
-            state: no_state(),
-        };
-    }
-    Started {
-        number: 0,
-        position: 0,
-        state: first_state(setup),
-    }
+    arguments::judge_start(tree, setup)?;
+    Ok(first_state(setup))
 }

@@ -8,19 +8,12 @@ ghost use Rattle.std.specs.Prelude.{◌≡◌, ◌*◌, ◌≤◌, length};
 ghost use Rattle.rules.specs.Tree.{kinds};
 ghost use Rattle.rules.specs.Calls.{start_verdict};
 ghost use Rattle.rules_schedule.specs.Schedules.{made, most_made, schedule_call};
-ghost use Rattle.schedule.specs.Contract.{answers};
+ghost use Rattle.schedule.specs.Contract.{answers, answers_of};
 ghost use Rattle.schedule.specs.Terms.{ListWritten};
 
 use policy::Setup;
+use refusals::Refused;
 use tree::MOST_STEPS;
-
-// What a schedule call answers: its refusal and position, or how many events the list has.
-#[derive(Clone, Copy)]
-pub struct Scheduled {
-    pub number: u8,
-    pub position: usize,
-    pub events: usize,
-}
 
 // Fills the tables of an accepted tree, and makes the list. Answers how many events it has.
 fn make(tree: &[u8], setup: Setup, seed: u32, events: &mut [u8]) -> usize
@@ -36,25 +29,13 @@ fn make(tree: &[u8], setup: Setup, seed: u32, events: &mut [u8]) -> usize
     rounds::make_events(tree, &ends[..n], &openers[..n], setup, seed, events)
 }
 
-// Makes a list of events: refusals 1, 16, 2 to 5 and 7, or the list at the front of the lent one.
-pub fn schedule(tree: &[u8], setup: Setup, seed: u32, events: &mut [u8]) -> Scheduled
+// Makes a list of events: refusals 1, 16, 2 to 5 and 7, or the list at the front of the lent one, and how many events it has.
+pub fn schedule(tree: &[u8], setup: Setup, seed: u32, events: &mut [u8]) -> Result<usize, Refused>
     ensures answers { let call = schedule_call setup.workers setup.policy tree.now seed events.old in
-        result ≡ answers call }
+        answers_of result ≡ answers call }
     ensures events { let call = schedule_call setup.workers setup.policy tree.now seed events.old in
         events.new ≡ call.events }
 {
-    let admitted = arguments::judge_schedule(tree, setup, events.len());
-    if admitted.number != 0 {
-        return Scheduled {
-            number: admitted.number,
-            position: admitted.position,
-            events: 0,
-        };
-    }
-    let count = make(tree, setup, seed, events);
-    Scheduled {
-        number: 0,
-        position: 0,
-        events: count,
-    }
+    arguments::judge_schedule(tree, setup, events.len())?;
+    Ok(make(tree, setup, seed, events))
 }

@@ -44,13 +44,22 @@ fn round(
         FirstTurns setup tree.now setup.workers start end }
 {
     let mut turned = before;
-    let mut next: u8 = 0;
-    while (next as u16) < setup.workers {
-        let worker = next;
-        next += 1;
+    for worker in 0..setup.workers {
         turned = schedule_turn::turn(
-            tree, ends, openers, place, held, phase, low, base, sizes, awaited, events, setup,
-            worker, turned,
+            tree,
+            ends,
+            openers,
+            place,
+            held,
+            phase,
+            low,
+            base,
+            sizes,
+            awaited,
+            events,
+            setup,
+            worker as u8,
+            turned,
         );
     }
     turned

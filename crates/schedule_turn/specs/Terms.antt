@@ -1,15 +1,15 @@
 -- What a turn's contract is made of: the tables that the maker keeps beside a run, how its arrays show a list in the making, and what a
 -- turn does to them.
-use Rattle.std.specs.Prelude.{◌≡◌, ℕ, suc, pred, ◌*◌, ◌<◌, ◌≤◌, Bool, true, false, cond, ◌&&◌, List, length, ◌≢◌, nat_lt, slice_index}
+use Rattle.std.specs.Prelude.{◌≡◌, ℕ, suc, pred, ◌*◌, ◌<◌, ◌≤◌, Bool, true, false, cond, ◌&&◌, List, length, nat_lt, slice_index, Some, None}
 use mathlib.Core.List.{flatten}
 use Rattle.std.proofs.Math.Option.{some}
 use Rattle.rules.specs.Tree.{most_steps, kind_at, is_end, kinds}
 use Rattle.rules.specs.Scheduling.{most_workers, Run, worker_at, has_run}
 use Rattle.rules.specs.Calls.{start_verdict, written}
 use Rattle.rules_schedule.specs.Schedules.{Making, turn, most_made}
+use Rattle.tree.specs.Steps.{MaybeStep}
 use Rattle.policy.specs.declared.Setup.{Setup}
 use Rattle.run_spec.specs.Deques.{unrun_mark, marked}
-use Rattle.run_spec.specs.Running.{no_step}
 use Rattle.run_spec.specs.Moves.{Fields, fields_of}
 use Rattle.run_refinement.specs.Tie.{Shows}
 use Rattle.run_refinement.specs.WaitingTest.{OfChild}
@@ -33,9 +33,10 @@ pub record Sized (s : Run) (sizes : List ℕ) : Type 0 where
 unfoldable pub unrun_still : List ℕ → ℕ → Bool
 unrun_still place j = nat_lt j most_steps && marked place unrun_mark j
 
--- Step r is one that step i waits for, or no_step is given for it.
-abbrev pub Noted : List ℕ → List ℕ → ℕ → ℕ → Type 0
-Noted ks place i r = (r ≢ no_step) → OfChild ks i r × (marked place unrun_mark r ≡ true)
+-- Step r is one that step i waits for, or none is given for it.
+abbrev pub Noted : List ℕ → List ℕ → ℕ → MaybeStep → Type 0
+Noted ks place i (Some r) = OfChild ks i r.0 × (marked place unrun_mark r.0 ≡ true)
+Noted ks place i None = 0 < 1
 
 -- Worker u holds a step that follows a finish child, and step j is a step of that child or of its descendants.
 pub record Awaits (ks : List ℕ) (s : Run) (u j : ℕ) : Type 0 where

@@ -4,6 +4,7 @@ ghost use Rattle.rules.specs.Scheduling.{most_workers};
 ghost use Rattle.rules_schedule.specs.Schedules.{draw as draw_of, named as named_by};
 
 // "Adds 2,654,435,769 to the seed modulo 2 to the power 32."
+#[tactic(auto, unfolding(rules_schedule::specs::Schedules::draw))]
 pub fn next_seed(seed: u32) -> u32
     ensures { result ≡ draw_of seed }
 {
@@ -11,6 +12,7 @@ pub fn next_seed(seed: u32) -> u32
 }
 
 // "The top four bits name a victim."
+#[tactic(auto, unfolding(rules_schedule::specs::Schedules::named))]
 pub fn named(seed: u32) -> u8
     ensures { (result ≡ named_by seed) × (result < most_workers) }
 {

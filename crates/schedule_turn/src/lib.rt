@@ -13,7 +13,7 @@ ghost use Rattle.run_spec.specs.Running.{no_step};
 ghost use Rattle.schedule_turn.specs.Terms.{arrays_of, size_after, Standing, Turns};
 
 use policy::{Setup, WORKERS};
-use run_spec::{NO_STEP, Outcome};
+use run_spec::{Done, NO_STEP};
 use tree::{END, MOST_STEPS, Step, kind};
 use tree_tables::wide;
 
@@ -26,6 +26,7 @@ pub struct Turned {
 }
 
 // How long a worker's deque is once it has run a step: an end takes one, where there is one, and an opening step pushes one.
+#[tactic(auto, unfolding(crate::specs::Terms::size_after, rules::specs::Tree::is_end))]
 fn size_after(tree: &[u8], step: Step, size: u16) -> u16
     requires { (step.0 < length (kinds tree.now)) × (size < 65535) }
     ensures { result ≡ size_after (kinds tree.now) step.0 size }
@@ -79,14 +80,13 @@ fn run_turn(
     }
     // It has run: what the worker waits for now, if it does, stands below it.
     let step = Step(wide(held[w]));
-    let below = waiting::awaited_before(tree, openers, place, step, seen);
-    awaited[w] = below;
-    if below != NO_STEP {
+    if let Some(below) = waiting::awaited_before(tree, openers, place, step, seen) {
+        awaited[w] = below.0 as u16;
         return Turned { seed, steals, runs };
     }
-    let outcome = run_event::run_on(tree, ends, openers, place, held, phase, low, setup, worker);
-    match outcome {
-        Outcome::Ran { phase, step } => {
+    awaited[w] = NO_STEP;
+    match run_event::run_on(tree, ends, openers, place, held, phase, low, setup, worker) {
+        Ok(Done::Ran { phase, step }) => {
             sizes[w] = size_after(tree, step, sizes[w]);
             buffers::put_event(events, runs + wide(steals), worker, worker);
             Turned {
@@ -96,9 +96,9 @@ fn run_turn(
             }
         }
         // A run never steals.
-        Outcome::Stole(number) => Turned { seed, steals, runs },
+        Ok(Done::Stole(number)) => Turned { seed, steals, runs },
         // It waits: what for is looked for at its next turn, from the end of the finish child before its step.
-        Outcome::Refused(number) => {
+        Err(refusal) => {
             awaited[w] = held[w] - 1;
             Turned { seed, steals, runs }
         }
@@ -133,7 +133,7 @@ fn steal_turn(
         sizes.new awaited.now events.new setup result in
         Turns setup tree.now worker start end }
 {
-    let steals = before.steals;
+    let mut steals = before.steals;
     let runs = before.runs;
     let seed = draw::next_seed(before.seed);
     let victim = draw::named(seed);
@@ -144,16 +144,22 @@ fn steal_turn(
         return Turned { seed, steals, runs };
     }
     // The victim has a step, so the rules accept the steal.
-    let moved = run_event::steal_on(
-        tree, ends, place, held, phase, low, base, steals, setup, worker, victim,
+    let _ = run_event::steal_on(
+        tree,
+        ends,
+        place,
+        held,
+        phase,
+        low,
+        base,
+        &mut steals,
+        setup,
+        worker,
+        victim,
     );
     sizes[v] = size - 1;
-    buffers::put_event(events, runs + wide(steals), worker, victim);
-    Turned {
-        seed,
-        steals: moved.steals,
-        runs,
-    }
+    buffers::put_event(events, runs + wide(before.steals), worker, victim);
+    Turned { seed, steals, runs }
 }
 
 // A worker's turn.

@@ -6,20 +6,18 @@ ghost use Rattle.tree_tables.specs.Terms.{Openers};
 ghost use Rattle.schedule_turn.specs.Terms.{Noted, unrun_still};
 
 use run_deques::NOT_RUN;
-use run_spec::{Found, NO_STEP};
 use tree::{MOST_STEPS, Step};
-use tree_scan::FinishChild;
 use tree_tables::lookup::finish_by;
 
-// A step that a held step waits for, the highest before step `end`, or NO_STEP: where there is none, where `end` is no step, as for a
-// worker that was not seen to wait, or where it is not one of those up to the held step.
+// A step that a held step waits for, the highest before step `end`. None where there is none, where `end` is no step, as for a worker
+// that was not seen to wait, or where it is not one of those up to the held step.
 pub fn awaited_before(
     tree: &[u8],
     openers: &[u16],
     place: &[u8; MOST_STEPS],
     step: Step,
     end: Step,
-) -> u16
+) -> Option<Step>
     requires { (step.0 ≤ most_steps) × Openers (kinds tree.now) openers.now (length openers.now) }
     ensures { Noted (kinds tree.now) place.now step.0 result }
 {
@@ -27,21 +25,17 @@ pub fn awaited_before(
     let j = end.0;
     // As in `unrun_still`, which was asked before: a worker that was not seen to wait costs one comparison for both.
     if MOST_STEPS <= j {
-        return NO_STEP;
+        return None;
     }
     if i < j {
-        return NO_STEP;
+        return None;
     }
-    match finish_by(tree, openers, step) {
-        FinishChild::From(first) => match run_event::waiting::last_unrun(place, first, end) {
-            Found::At(unrun) => unrun.0 as u16,
-            Found::Nothing => NO_STEP,
-        },
-        FinishChild::Nothing => NO_STEP,
-    }
+    let first = finish_by(tree, openers, step)?;
+    run_event::waiting::last_unrun(place, first, end)
 }
 
 // Whether this is a step, and has not run.
+#[tactic(auto, unfolding(crate::specs::Terms::unrun_still, run_spec::specs::Deques::marked))]
 pub fn unrun_still(place: &[u8; MOST_STEPS], step: Step) -> bool
     ensures { result ≡ unrun_still place.now step.0 }
 {

@@ -4,6 +4,7 @@
 --     Largest      the largest number of a list, and of what a function makes of an interval
 --     Records      records of any width, fields of two bytes; the tree's kinds, classes and weights as bytes
 --     Walks        walks over any kind of record
+--     Steps        a step that was looked for, by what a function answers
 --     Verdicts     truth values, and conditions judged one after the other
 --     Acceptance   accepting a tree, as a loop does it
 pub mod Counts
@@ -11,5 +12,6 @@ pub mod Highest
 pub mod Largest
 pub mod Records
 pub mod Walks
+pub mod Steps
 pub mod Verdicts
 pub mod Acceptance

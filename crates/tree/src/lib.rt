@@ -17,7 +17,7 @@ pub struct Step(pub usize);
 pub struct Ordinal(pub usize);
 
 // The number of a phase.
-#[derive(Clone, Copy)]
+#[derive(Clone, Copy, PartialEq, Eq)]
 pub struct Phase(pub usize);
 
 // Bytes of a record.
@@ -56,6 +56,7 @@ fn byte(tree: &[u8], i: usize, at: usize) -> u8
 }
 
 // The kind of a step's record, 0 where it is beyond the tree.
+#[tactic(auto, unfolding(rules::specs::Tree::kind_at, rules::specs::Tree::kinds, rules::specs::Tree::kind))]
 pub fn kind(tree: &[u8], step: Step) -> u8
     ensures { result ≡ kind_at (kinds tree.now) step.0 }
 {
@@ -63,18 +64,11 @@ pub fn kind(tree: &[u8], step: Step) -> u8
 }
 
 // The class of a step, 0 where it is beyond the tree.
+#[tactic(auto, unfolding(rules::specs::Tree::classes, rules::specs::Tree::class))]
 pub fn class(tree: &[u8], step: Step) -> u8
     ensures { result ≡ get_or (classes tree.now) step.0 0 }
 {
     byte(tree, step.0, 1)
-}
-
-// The answer on a tree: refusal and position, or the count of steps.
-#[derive(Clone, Copy)]
-pub struct Accepted {
-    pub number: u8,
-    pub position: usize,
-    pub steps: usize,
 }
 
 // The weight of a step, 0 where it is beyond the tree.

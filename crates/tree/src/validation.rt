@@ -1,10 +1,12 @@
 // Whether a tree may be read (document 01, "Refusals" 2 to 5): its length, each of its records while some tasks are open, and the
 // whole of it.
 ghost use Rattle.std.specs.Prelude.{◌≡◌, [], ◌<◌, length, get_or};
-ghost use Rattle.tree.specs.Contract.{acceptance};
+ghost use Rattle.refusals.specs.Numbers.{number_in};
+ghost use Rattle.tree.specs.Contract.{accepted_of, acceptance};
 ghost use Rattle.rules.specs.Tree.{kinds, tree_records, wrong_length, well_formed, judge_tree_record};
 
-use super::{ASYNC, Accepted, CLASSES, END, MOST_STEPS, TREE_RECORD};
+use super::{ASYNC, CLASSES, END, MOST_STEPS, TREE_RECORD};
+use refusals::{Refusal, Refused};
 
 // The most tasks open together, the root counted.
 const MOST_OPEN: usize = 64;
@@ -45,67 +47,47 @@ fn well_formed(tree: &[u8], i: usize) -> bool
     super::words::word(tree, TREE_RECORD * i) < HEADS
 }
 
-// The refusal of a record while so many tasks are open, 0 for none.
-fn judge_record(tree: &[u8], i: usize, depth: usize) -> u8
+// Judges a record while so many tasks are open.
+fn judge_record(tree: &[u8], i: usize, depth: usize) -> Result<(), Refusal>
     requires { i < length (kinds tree.now) }
-    ensures { result ≡ judge_tree_record depth (get_or (tree_records tree.now) i []) }
+    ensures { number_in result ≡ judge_tree_record depth (get_or (tree_records tree.now) i []) }
 {
     if !well_formed(tree, i) {
-        return 3;
+        return Err(Refusal::TreeRecord);
     }
     if depth == MOST_OPEN {
         if tree[TREE_RECORD * i] == END {
-            return 0;
+            return Ok(());
         }
-        return 4;
+        return Err(Refusal::OpenTasks);
     }
     if depth == 0 {
-        return 5;
+        return Err(Refusal::Root);
     }
-    0
+    Ok(())
 }
 
 // Reads a tree whole: refusals 2 to 5, or how many steps it has.
-pub fn accept(tree: &[u8]) -> Accepted
-    ensures { result ≡ acceptance tree.now }
+pub fn accept(tree: &[u8]) -> Result<usize, Refused>
+    ensures { accepted_of result ≡ acceptance tree.now }
 {
     if wrong_length(tree) {
-        return Accepted {
-            number: 2,
-            position: 0,
-            steps: 0,
-        };
+        return Err(Refusal::TreeLength.into());
     }
     let n = tree.len() / TREE_RECORD;
-    let mut i = 0;
     let mut depth: usize = 1;
-    while i < n {
-        let number = judge_record(tree, i, depth);
-        if number != 0 {
-            return Accepted {
-                number,
-                position: i,
-                steps: 0,
-            };
+    for i in 0..n {
+        if let Err(refusal) = judge_record(tree, i, depth) {
+            return Err(refusal.at(i));
         }
-        let k = tree[TREE_RECORD * i];
-        i += 1;
-        if k == END {
+        if tree[TREE_RECORD * i] == END {
             depth -= 1;
         } else {
             depth += 1;
         }
     }
     if depth != 0 {
-        return Accepted {
-            number: 5,
-            position: n,
-            steps: 0,
-        };
+        return Err(Refusal::Root.at(n));
     }
-    Accepted {
-        number: 0,
-        position: 0,
-        steps: n,
-    }
+    Ok(n)
 }

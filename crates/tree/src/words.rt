@@ -7,7 +7,5 @@ pub fn word(bytes: &[u8], at: usize) -> u32
     ensures { let byte = get_or bytes.now in
         result ≡ byte at 0 + 256 * byte (at + 1) 0 + 65536 * byte (at + 2) 0 + 16777216 * byte (at + 3) 0 }
 {
-    let low = buffers::two_bytes(bytes[at], bytes[at + 1]);
-    let high = buffers::two_bytes(bytes[at + 2], bytes[at + 3]);
-    low as u32 + 65536 * (high as u32)
+    u32::from_le_bytes([bytes[at], bytes[at + 1], bytes[at + 2], bytes[at + 3]])
 }

@@ -2,9 +2,9 @@
 // ends just before a step. A scan reads only the records between the step asked for and the answer.
 ghost use Rattle.std.specs.Prelude.{◌≡◌};
 ghost use Rattle.rules.specs.Tree.{kinds, cont as cont_at, finish_before};
-ghost use Rattle.tree_scan.specs.Contract.{child_of};
+ghost use Rattle.tree.specs.Steps.{maybe_step};
 
-use super::{FinishChild, task_of};
+use super::task_of;
 use tree::{END, FINISH, Step, TREE_RECORD, kind};
 
 // The step after the end of the child that a step opens: its continuation. Where the tree has no such step, or ends before
@@ -17,42 +17,39 @@ pub fn cont(tree: &[u8], step: Step) -> Step
     if n <= i {
         return Step(n);
     }
-    let mut j = i + 1;
     let mut left: usize = 1;
-    while 0 < left {
-        if n <= j {
-            return Step(n);
-        }
-        let k = tree[TREE_RECORD * j];
-        j += 1;
-        if k == END {
-            left -= 1;
-        } else {
+    for j in i + 1..n {
+        if tree[TREE_RECORD * j] != END {
             left += 1;
+            continue;
+        }
+        left -= 1;
+        if left == 0 {
+            return Step(j + 1);
         }
     }
-    Step(j)
+    Step(n)
 }
 
 // The finish child whose end stands just before a step.
-pub fn finish_before(tree: &[u8], step: Step) -> FinishChild
-    ensures { result ≡ child_of (finish_before (kinds tree.now) step.0) }
+pub fn finish_before(tree: &[u8], step: Step) -> Option<Step>
+    ensures { result ≡ maybe_step (finish_before (kinds tree.now) step.0) }
 {
     let i = step.0;
     if i == 0 {
-        return FinishChild::Nothing;
+        return None;
     }
     let end = i - 1;
     if kind(tree, Step(end)) != END {
-        return FinishChild::Nothing;
+        return None;
     }
     let task = task_of(tree, Step(end));
     let first = task.first.0;
     if first == 0 {
-        return FinishChild::Nothing;
+        return None;
     }
     if kind(tree, Step(first - 1)) != FINISH {
-        return FinishChild::Nothing;
+        return None;
     }
-    FinishChild::From(Step(first))
+    Some(Step(first))
 }

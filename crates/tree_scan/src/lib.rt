@@ -10,13 +10,6 @@ ghost use Rattle.tree_scan.specs.Contract.{task_of};
 
 use tree::{END, Ordinal, Step, TREE_RECORD};
 
-// A finish child by its first step, or none.
-#[derive(Clone, Copy)]
-pub enum FinishChild {
-    From(Step),
-    Nothing,
-}
-
 // The task of a step, named by its first step, and the step's ordinal in it.
 #[derive(Clone, Copy)]
 pub struct Task {
@@ -28,12 +21,9 @@ pub fn task_of(tree: &[u8], step: Step) -> Task
     ensures { result ≡ task_of (kinds tree.now) step.0 }
 {
     let n = tree.len() / TREE_RECORD;
-    let i = step.0;
-    let mut j = if i < n { i } else { n };
     let mut ended: usize = 0;
     let mut children: usize = 0;
-    while 0 < j {
-        j -= 1;
+    for j in (0..step.0.min(n)).rev() {
         if tree[TREE_RECORD * j] == END {
             ended += 1;
             continue;
@@ -56,6 +46,7 @@ pub fn task_of(tree: &[u8], step: Step) -> Task
 }
 
 // The ordinal of a step in its task.
+#[tactic(auto, unfolding(crate::specs::Contract::task_of))]
 pub fn ordinal_of(tree: &[u8], step: Step) -> Ordinal
     ensures { result.0 ≡ ordinal (kinds tree.now) step.0 }
 {

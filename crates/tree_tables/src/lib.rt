@@ -28,9 +28,8 @@ pub fn fill(tree: &[u8], ends: &mut [u16], openers: &mut [u16])
     ensures ends { let ks = kinds tree.now in Ends ks ends.new (length ks) }
     ensures openers { let ks = kinds tree.now in Openers ks openers.new (length ks) }
 {
-    let mut j = tree.len() / TREE_RECORD;
-    while 0 < j {
-        j -= 1;
+    let n = tree.len() / TREE_RECORD;
+    for j in (0..n).rev() {
         if tree[TREE_RECORD * j] == END {
             ends[j] = (j + 1) as u16;
             continue;

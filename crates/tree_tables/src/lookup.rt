@@ -1,12 +1,11 @@
 // What is looked up in the tables of a tree. A lookup past a table's end scans the tree.
 ghost use Rattle.std.specs.Prelude.{◌≡◌, length};
 ghost use Rattle.rules.specs.Tree.{kinds, cont as cont_at, finish_before};
-ghost use Rattle.tree_scan.specs.Contract.{child_of};
+ghost use Rattle.tree.specs.Steps.{maybe_step};
 ghost use Rattle.tree_tables.specs.Terms.{Ends, Openers};
 
 use super::wide;
 use tree::{END, FINISH, Step, kind};
-use tree_scan::FinishChild;
 use tree_scan::children::{cont, finish_before};
 
 // The step after the end of the child that a step opens: its continuation.
@@ -25,23 +24,23 @@ pub fn cont_by(tree: &[u8], ends: &[u16], step: Step) -> Step
 }
 
 // The finish child whose end stands just before a step.
-pub fn finish_by(tree: &[u8], openers: &[u16], step: Step) -> FinishChild
+pub fn finish_by(tree: &[u8], openers: &[u16], step: Step) -> Option<Step>
     requires { Openers (kinds tree.now) openers.now (length openers.now) }
-    ensures { result ≡ child_of (finish_before (kinds tree.now) step.0) }
+    ensures { result ≡ maybe_step (finish_before (kinds tree.now) step.0) }
 {
     let j = step.0;
     if openers.len() <= j {
         return finish_before(tree, step);
     }
     if j == 0 {
-        return FinishChild::Nothing;
+        return None;
     }
     if kind(tree, Step(j - 1)) != END {
-        return FinishChild::Nothing;
+        return None;
     }
     let opener = wide(openers[j]);
     if kind(tree, Step(opener)) != FINISH {
-        return FinishChild::Nothing;
+        return None;
     }
-    FinishChild::From(Step(opener + 1))
+    Some(Step(opener + 1))
 }

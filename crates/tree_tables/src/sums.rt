@@ -20,14 +20,12 @@ fn add_weights(tree: &[u8], sums: &mut [u64]) -> u64
 {
     let n = tree.len() / TREE_RECORD;
     sums[0] = 0;
-    let mut j = 0;
     let mut total: u64 = 0;
     let mut marks: u64 = 0;
-    while j < n {
+    for j in 0..n {
         total += weight(tree, Step(j)) as u64;
         marks += class(tree, Step(j)) as u64;
-        j += 1;
-        sums[j] = total;
+        sums[j + 1] = total;
     }
     marks
 }
@@ -41,11 +39,9 @@ fn charge(tree: &[u8], classes: &mut [u64; CLASSES])
         classes.new ≡ classes_before (classes_of file) (weights file) (length (kinds file)) }
 {
     let n = tree.len() / TREE_RECORD;
-    let mut j = 0;
-    while j < n {
+    for j in 0..n {
         let k = class(tree, Step(j)) as usize;
         classes[k] += weight(tree, Step(j)) as u64;
-        j += 1;
     }
 }
 

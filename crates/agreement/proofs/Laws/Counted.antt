@@ -20,8 +20,7 @@ use Rattle.policy.specs.Contract.{worker_limit}
 use Rattle.policy.proofs.Laws.Workers.{limit_most}
 use Rattle.run_invariant.proofs.Laws.Moves.{get_or_alike}
 use Rattle.run_invariant.proofs.Laws.Crew.{recorded-many}
-use Rattle.run_spec.specs.declared.Outcome.{Outcome}
-use Rattle.run_spec.specs.declared.Outcome.TheVariants.{Ran, Stole, Refused}
+use Rattle.run_spec.specs.Outcomes.{Outcome, Ran, Stole, Refused}
 use Rattle.run_spec.specs.Moves.{fresh, refused}
 use Rattle.run_spec.proofs.Laws.Idle.{lowest_set, set_below}
 use Rattle.run_state.specs.declared.RunState.{RunState}

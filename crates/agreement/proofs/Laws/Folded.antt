@@ -1,19 +1,16 @@
 -- A whole list of events by the first that the rules refuse: recording accepts up to there, and answers what single events lead to.
 use Prim.Native.Nat.{ℕ, zero, suc, ◌+◌, ◌-◌, ◌/◌, ◌≤◌, ◌<◌}
-use Rattle.std.specs.Prelude.{◌≡◌, ◌⊎◌, length, take, drop, get_or}
+use Rattle.std.specs.Prelude.{◌≡◌, ◌⊎◌, length, take, get_or}
 use Rattle.std.proofs.Math.Path.{refl, ap}
-use Rattle.std.proofs.Common.{◌∙◌, inl, inr, ⊎_elim, arith, take-suc}
+use Rattle.std.proofs.Common.{inl, inr, ⊎_elim, arith}
 use mathlib.Core.List.{List, []}
 use Rattle.std.proofs.Math.Decide.{ℕ_discrete}
-use Rattle.std.proofs.Math.Seq.{take-length}
-use Rattle.rules.specs.Bytes.{records, accepted, Walked, walk}
+use Rattle.rules.specs.Bytes.{records, Walked}
 use Rattle.rules.specs.Tree.{kinds}
-use Rattle.rules.specs.Scheduling.{Run, start, judge_event, next_run}
+use Rattle.rules.specs.Scheduling.{Run, start, judge_event}
 use Rattle.rules.specs.Calls.{after_events, record_walk, record_of, record_verdict, record_call}
-use Rattle.tree.specs.Laws.Walks.{walk_on, walk_stop, walk_end}
 use Rattle.tree_scan.specs.Laws.Starts.{start-tree-accepts, start_workers}
 use Rattle.tree_scan.specs.Laws.Frames.{accepted-frame}
-use Rattle.run_invariant.proofs.Laws.Events.{after_last, adds_one}
 use Rattle.run_invariant.proofs.Laws.Always.{always}
 use Rattle.run_invariant.proofs.Laws.Consequences.{runs_most, steals_most}
 use Rattle.record.specs.Laws.Cases.{accepts-both, by-accepted}

@@ -11,7 +11,7 @@ use borrow.Author.Tests.{eq-eqb, ne_eqb}
 use Rattle.rules.specs.Bytes.{Verdict, accepted, refused_if, first_refused}
 use Rattle.rules.specs.Tree.{kinds}
 use Rattle.rules.specs.Calls.{start_verdict}
-use Rattle.tree.specs.declared.Accepted.{Accepted}
+use Rattle.tree.specs.Contract.{Accepted}
 use Rattle.tree.specs.Laws.Verdicts.{first-accepts}
 use Rattle.arguments.specs.Terms.{start_judged}
 use Rattle.tree_scan.specs.Laws.Starts.{admitted_position}
@@ -60,6 +60,12 @@ module _ (w p : ℕ) (tree : List ℕ) where
               ap (λ (n : ℕ). judged a whole (short n)) begun.steps ∙ rw is (past_start begun.fine whole _)
           | no n ↦ rw is (at-start (λ z. n (sym numbered ∙ z)) whole _ _)
         ]
+
+    -- A refused start refuses the call, whatever else is asked.
+    pub refused-is : (a.number ≡ 0 → ⊥) → (whole : Bool) (short : ℕ → Bool)
+        → a ≡ given_judged w p tree whole (short (length (kinds tree)))
+    unfolding judged
+    refused-is n whole short = rw (ne_eqb a.number 0 n) at (judged-is whole short)
 
 -- ---- the whole call
 

@@ -9,8 +9,7 @@ use borrow.Author.Tests.{eq-eqb, ne_eqb, le-leb, lt-leb}
 use Rattle.rules.specs.Bytes.{Verdict, accepted, refused_if, first_refused}
 use Rattle.rules.specs.Tree.{kinds, tree_records, tree_walk, wrong_length, tree_verdict}
 use Rattle.rules.specs.Calls.{policy_verdict, count_verdict, start_verdict}
-use Rattle.tree.specs.declared.Accepted.{Accepted}
-use Rattle.tree.specs.Contract.{acceptance}
+use Rattle.tree.specs.Contract.{Accepted, acceptance}
 use Rattle.tree.specs.Laws.Verdicts.{first_position}
 use Rattle.tree_scan.specs.Laws.Starts.{start-tree-accepts}
 use Rattle.tree_scan.specs.Laws.Frames.{accepted-frame}

@@ -7,20 +7,18 @@ use borrow.Author.Tests.{eq-eqb, lt-ltb, le-ltb}
 use Rattle.rules.specs.Bytes.{Verdict, accepted, refused_if, first_refused}
 use Rattle.rules.specs.Tree.{kinds, weights, tree_verdict}
 use Rattle.rules_dag.specs.Spans.{work, lasts, span_verdict, span_of, span_refused, span_call}
-use Rattle.tree.specs.declared.Accepted.{Accepted}
-use Rattle.tree.specs.Contract.{acceptance}
+use Rattle.tree.specs.Contract.{Accepted, acceptance}
 use Rattle.tree.specs.Laws.Verdicts.{first-refuses}
 use Rattle.tree_scan.specs.Laws.Frames.{accepted-frame}
 use Rattle.dag_chain.proofs.Laws.Times.{span-lasts}
 use Rattle.dag_chain.proofs.Laws.Claim.{call_accepted, call_refused}
-use Rattle.dag_span.specs.declared.Spanned.{Spanned}
-use Rattle.dag_span.specs.Contract.{answers}
+use Rattle.dag_span.specs.Contract.{Answers, answers}
 use Rattle.dag_walk.specs.Terms.{ChainWritten}
 use Rattle.dag_span.specs.Terms.{Measured, refusal}
 
 module _ (tree lent : List ℕ) where
   -- What a return is to meet: the call's answers, and the lent buffer as it leaves it.
-  abbrev pub Meets : Spanned → List ℕ → Type 0
+  abbrev pub Meets : Answers → List ℕ → Type 0
   Meets r after = (r ≡ answers (span_call tree lent)) × (after ≡ (span_call tree lent).chain)
 
   -- ---- an accepted call
@@ -71,7 +69,7 @@ module _ (tree lent : List ℕ) where
           judged-refused (record { number = 7; position = 0 })
           (rw (eq-eqb (tree_verdict tree).number 0 tree-accepts, lt-ltb (length lent) (2 * length (kinds tree)) l) refl) (λ e. omega arith)
 
-      pub measured-meets : 2 * length (kinds tree) ≤ length lent → (r : Spanned) (after : List ℕ) → Measured tree lent r after
+      pub measured-meets : 2 * length (kinds tree) ≤ length lent → (r : Answers) (after : List ℕ) → Measured tree lent r after
           → Meets r after
       unfolding span_verdict first_refused refused_if accepted
       measured-meets l r after m =

@@ -20,7 +20,6 @@ module _ (ws list : List ℕ) (n : ℕ) where
   -- From the counts `before` on, i records are added up: `load` is that of the phase at hand, and the phases before it are in `counts`.
   -- So what is still to be added to `counts` leads where all does from `before`.
   pub record Adding (before : List ℕ) (i phase load : ℕ) (counts : List ℕ) : Type 0 where
-    pub within : i ≤ n
     pub light : load ≤ 4294967295 * i
     pub leads : add_loads wrapping counts (loads_from ws phase load (from i))
         ≡ add_loads wrapping before (phase_loads ws (entries_read list n))
@@ -29,11 +28,11 @@ module _ (ws list : List ℕ) (n : ℕ) where
   unfolding phase_loads entries_read
   adding_start before =
       let all : n - 0 ≡ n = omega arith in
-      record { within = omega arith; light = omega arith; leads = rw all refl }
+      record { light = omega arith; leads = rw all refl }
 
-  module _ (before : List ℕ) (i phase load : ℕ) (counts : List ℕ) (so : Adding before i phase load counts) where
+  module _ {before : List ℕ} {i phase load : ℕ} {counts : List ℕ} (so : Adding before i phase load counts) where
     -- What record i is.
-    module _ (h : i < n) (next step weight : ℕ) (is-next : next ≡ number_at list (4 * i))
+    module _ (h : i < n) {next step weight : ℕ} (is-next : next ≡ number_at list (4 * i))
         (is-step : step ≡ number_at list (4 * i + 2)) (weighs : weight ≡ slice_index ws step) (small : weight < 4294967296) where
       abbrev entry : Entry
       entry = record { phase = next; step = step }
@@ -47,19 +46,17 @@ module _ (ws list : List ℕ) (n : ℕ) where
       adding-own same =
           let own = loads_same ws phase load entry (from (i + 1)) same in
           record {
-            within = omega arith;
             light = omega (arith, so.light);
             leads = rw (weighs, ← own, ← takes) so.leads;
           }
 
       -- or it ends that phase.
-      pub adding-next : (next ≢ phase) → (after : List ℕ) → after ≡ add_load wrapping counts load
+      pub adding-next : (next ≢ phase) → {after : List ℕ} → after ≡ add_load wrapping counts load
           → Adding before (i + 1) next weight after
       unfolding add_loads
-      adding-next other after added =
+      adding-next other added =
           let ends = loads_other ws phase load entry (from (i + 1)) other in
           record {
-            within = omega arith;
             light = omega arith;
             leads = rw (added, weighs) (rw (takes, ends) at so.leads);
           }

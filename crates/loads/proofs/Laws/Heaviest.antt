@@ -1,6 +1,6 @@
--- The loop that looks for the heaviest worker, turn by turn: of the loads looked at it has the first of the largest.
+-- The loop that looks for the heaviest worker: of the loads looked at it has the first of the largest.
 use Rattle.std.specs.Prelude.{ℕ, zero, suc, ◌+◌, ◌≤◌, ◌<◌, ◌≡◌, List, [], ◌∷◌}
-use Rattle.std.proofs.Common.{arith, below_more, eq-eqb, ne_eqb}
+use Rattle.std.proofs.Common.{arith, eq-eqb, ne_eqb}
 use Rattle.std.proofs.Math.ListN.{length, get_or}
 use Rattle.rules.specs.Scheduling.{most_workers}
 use Rattle.rules.specs.Traces.{largest, first_at, heaviest}
@@ -27,41 +27,11 @@ pub record Leads (ls : List ℕ) (best w : ℕ) : Type 0 where
   pub most : (k : ℕ) → k < w → get_or ls k 0 ≤ get_or ls best 0
   pub first : (k : ℕ) → k < best → get_or ls k 0 < get_or ls best 0
 
-module _ (ls : List ℕ) where
-  pub leads_start : Leads ls 0 1
-  leads_start =
-      record {
-        below = omega arith;
-        within = omega arith;
-        most = λ k l. let e : k ≡ 0 = omega arith in rw e (omega arith);
-        first = λ k l. omega arith;
-      }
-
-  module _ (best w : ℕ) (s : Leads ls best w) (left : w < most_workers) where
-    -- A heavier worker takes the lead.
-    pub leads-more : get_or ls best 0 < get_or ls w 0 → Leads ls w (w + 1)
-    leads-more m =
-        record {
-          below = omega arith;
-          within = omega arith;
-          most = below_more _ w (λ k l. omega (arith, s.most k l)) (omega arith);
-          first = λ k l. omega (arith, s.most k l);
-        }
-
-    -- A worker that is no heavier leaves the lead where it is.
-    pub leads-still : get_or ls w 0 ≤ get_or ls best 0 → Leads ls best (w + 1)
-    leads-still m =
-        record {
-          below = omega (arith, s.below);
-          within = omega arith;
-          most = below_more _ w s.most m;
-          first = s.first;
-        }
-
-  pub leads_done : (best w : ℕ) → Leads ls best w → (w < most_workers → ⊥) → length ls ≡ most_workers → best ≡ heaviest ls
-  unfolding heaviest
-  leads_done best w s past e =
-      let inside : best < length ls = omega (arith, s.below, s.within) in
-      let top : largest ls ≤ get_or ls best 0 = largest_least ls (get_or ls best 0) (λ k l. s.most k (omega (arith, s.within))) in
-      let same : get_or ls best 0 ≡ largest ls = omega (arith, largest_most ls best) in
-      omega (arith, first_stands (largest ls) ls 0 best inside same (λ k l. omega (arith, s.first k l)))
+-- All workers are looked at.
+pub leads_done : (ls : List ℕ) (best w : ℕ) → Leads ls best w → (w < most_workers → ⊥) → length ls ≡ most_workers → best ≡ heaviest ls
+unfolding heaviest
+leads_done ls best w s past e =
+    let inside : best < length ls = omega (arith, s.below, s.within) in
+    let top : largest ls ≤ get_or ls best 0 = largest_least ls (get_or ls best 0) (λ k l. s.most k (omega (arith, s.within))) in
+    let same : get_or ls best 0 ≡ largest ls = omega (arith, largest_most ls best) in
+    omega (arith, first_stands (largest ls) ls 0 best inside same (λ k l. omega (arith, s.first k l)))

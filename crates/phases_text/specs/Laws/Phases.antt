@@ -16,8 +16,7 @@ use Rattle.replay_invariant.specs.Splits.{phases_of}
 use Rattle.replay_invariant.proofs.Laws.Verdicts.{call_accepted, call_refused, call_number}
 use Rattle.replay_invariant.proofs.Laws.Consequences.{replay_starts_lem}
 use Rattle.replay_invariant.proofs.Laws.Entries.{run_of, listed_room}
-use Rattle.replay.specs.declared.answer.Replayed.{Replayed}
-use Rattle.replay.specs.Contract.{answers}
+use Rattle.replay.specs.Contract.{Answers, answers}
 use Rattle.phases_text.specs.Contract.{most_text, text_for}
 use Rattle.phases_text.specs.Report.Terms.{refusal_text}
 use Rattle.phases_text.specs.Line.Terms.{lines_of, Phased}
@@ -26,14 +25,14 @@ use Rattle.phases_text.specs.Laws.Verdicts.{start_steps, same_verdict}
 use Rattle.phases_text.specs.Laws.Lists.{listed_lines, listed-phases}
 
 -- What is known once replay is called: what it answers, and what it leaves in the run list that it is lent.
-pub record Called (input : List ℕ) (r : Replayed) (out : List ℕ) : Type 0 where
+pub record Called (input : List ℕ) (r : Answers) (out : List ℕ) : Type 0 where
   pub list : List ℕ
   pub room : length list ≡ 4 * most_steps
   pub answered : r ≡ answers (replay_call most_workers (input_policy input) (input_tree input) (input_trace input) list)
   pub left : out ≡ (replay_call most_workers (input_policy input) (input_tree input) (input_trace input) list).list
 
 pub parts_called : {input : List ℕ} {policy start end : ℕ} → Parts input policy start end
-    → (list : List ℕ) (r : Replayed) (out : List ℕ)
+    → (list : List ℕ) (r : Answers) (out : List ℕ)
     → let call = replay_call most_workers policy (take (end - start) (drop start input)) (take (length input - end) (drop end input)) list in
     r ≡ answers call → out ≡ call.list → length list ≡ 4 * most_steps → Called input r out
 parts_called {input} {policy} {start} {end} parts list r out a l room =
@@ -44,7 +43,7 @@ parts_called {input} {policy} {start} {end} parts list r out a l room =
       left = rw (parts.policy_is, parts.tree_is, parts.trace_is) at l;
     }
 
-module _ {input : List ℕ} {r : Replayed} {out : List ℕ} (called : Called input r out) where
+module _ {input : List ℕ} {r : Answers} {out : List ℕ} (called : Called input r out) where
   abbrev list : List ℕ
   list = called.list
 
@@ -70,7 +69,7 @@ module _ {input : List ℕ} {r : Replayed} {out : List ℕ} (called : Called inp
 
   number : r.number ≡ verdict.number
   unfolding answers verdict
-  number = ap (λ (x : Replayed). x.number) called.answered ∙ call_number most_workers p tree trace list
+  number = ap (λ (x : Answers). x.number) called.answered ∙ call_number most_workers p tree trace list
 
   text_refused : (verdict.number ≡ 0 → ⊥) → phases_text input ≡ refused_line verdict
   unfolding phases_text
@@ -86,8 +85,8 @@ module _ {input : List ℕ} {r : Replayed} {out : List ℕ} (called : Called inp
   unfolding refusal_text answers replay_refused verdict
   called_refused n =
       let refused : verdict.number ≡ 0 → ⊥ = λ z. n (number ∙ z) in
-      let is = called.answered ∙ ap {B = Replayed} answers (call_refused most_workers p tree trace list refused) in
-      ap (λ (x : Replayed). refusal_text x.number x.position) is ∙ sym (text_refused refused)
+      let is = called.answered ∙ ap {B = Answers} answers (call_refused most_workers p tree trace list refused) in
+      ap (λ (x : Answers). refusal_text x.number x.position) is ∙ sym (text_refused refused)
 
   -- An accepted replay's.
   module _ (none : r.number ≡ 0) where

@@ -6,7 +6,7 @@ use borrow.Author.Tests.{eq-eqb, ne_eqb, ltb-false}
 use Rattle.rules.specs.Bytes.{records, whole_records, Verdict, accepted, first_refused}
 use Rattle.rules.specs.Tree.{kinds}
 use Rattle.rules.specs.Calls.{most_events, start_verdict, record_walk, record_verdict, record_of, record_refused, record_call}
-use Rattle.tree.specs.declared.Accepted.{Accepted}
+use Rattle.tree.specs.Contract.{Accepted}
 use Rattle.tree.specs.Laws.Verdicts.{or_none, first-accepts}
 use Rattle.arguments.specs.Terms.{too_short, record_judged}
 use Rattle.arguments.specs.Laws.Cases.{Given, given-last, given-refused, given}

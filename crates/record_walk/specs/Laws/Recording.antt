@@ -28,8 +28,7 @@ use Rattle.run_invariant.proofs.Laws.Moves.{victim-rich, first_within, second_wi
 use Rattle.run_invariant.proofs.Laws.Always.{start_invariant, event_keeps}
 use Rattle.run_invariant.proofs.Laws.Consequences.{covered_once, runs_most, steals_most}
 use Rattle.trace.specs.declared.number.TraceNumber.{TraceNumber}
-use Rattle.run_spec.specs.declared.Outcome.{Outcome}
-use Rattle.run_spec.specs.declared.Outcome.TheVariants.{Ran, Stole, Refused}
+use Rattle.run_spec.specs.Outcomes.{Outcome, Ran, Stole, Refused}
 use Rattle.trace.specs.Contract.{number_value}
 use Rattle.run_spec.specs.Moves.{Fields, fresh, event_move}
 use Rattle.run_refinement.specs.Tie.{Shows, held_step, told}

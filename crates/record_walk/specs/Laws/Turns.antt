@@ -1,14 +1,15 @@
 -- The loop over the events in the terms of the code: what a call on the arrays ensures, and what is stored then.
-use Rattle.std.specs.Prelude.{ℕ, ◌+◌, ◌*◌, ◌/◌, ◌%◌, ◌≤◌, ◌<◌, ◌≡◌, List, length, get_or, set, replicate}
+use Rattle.std.specs.Prelude.{ℕ, ◌+◌, ◌*◌, ◌/◌, ◌%◌, ◌≤◌, ◌<◌, ◌≡◌, List, length, get_or, set, replicate, Ok, Err}
 use Rattle.std.proofs.Common.{sym, ap, subst, ◌∙◌, arith}
-use Rattle.rules.specs.Bytes.{Verdict, accepted, Walked}
+use Rattle.rules.specs.Bytes.{accepted, Walked}
 use Rattle.rules.specs.Tree.{most_steps, kinds, weights}
 use Rattle.rules.specs.Scheduling.{most_workers, Run}
 use Rattle.rules.specs.Calls.{most_trace_records, start_verdict}
+use Rattle.refusals.specs.declared.Refusal.{Refusal}
+use Rattle.refusals.specs.Numbers.{number_of}
 use Rattle.tree_tables.specs.Terms.{Ends, Sums, weight_before}
 use Rattle.trace.specs.declared.number.TraceNumber.{TraceNumber}
-use Rattle.run_spec.specs.declared.Outcome.{Outcome}
-use Rattle.run_spec.specs.declared.Outcome.TheVariants.{Ran, Stole, Refused}
+use Rattle.run_spec.specs.Outcomes.{Outcome, Ran, Stole, Refused}
 use Rattle.trace.specs.Contract.{number_value}
 use Rattle.run_spec.specs.Moves.{Fields, Move, move_of, fresh, event_move}
 use Rattle.buffers.specs.Terms.{record_put}
@@ -43,11 +44,11 @@ turn-start w p tree events accepts sums right n m log trace h l s e ls f =
 pub turn-done : {w p : ℕ} {tree events : List ℕ} {k : ℕ} {s : Fields} {log trace ls : List ℕ} {logs : ℕ}
     → (start_verdict w p tree).number ≡ 0 → Recording w p tree events k s log trace ls logs s.steals
     → length events / 2 ≤ k
-    → Walks w p tree events (record { number = 0; position = 0; logs = logs; steals = s.steals; loads = ls }) log trace
+    → Walks w p tree events (Ok (record { logs = logs; steals = s.steals; loads = ls })) log trace
 unfolding accepted
 turn-done {w} {p} {tree} {events} {k} {s} {log} {trace} {ls} {logs} accepts so l =
     let done = recording-done w p tree events accepts so l in
-    let ended : Ended = record { number = 0; position = 0; logs = logs; steals = s.steals; loads = ls } in
+    let ended : Ended = record { logs = logs; steals = s.steals; loads = ls } in
     let reached : Reached p tree so.run ended log trace =
     record {
       invariant = so.invariant;
@@ -60,9 +61,8 @@ turn-done {w} {p} {tree} {events} {k} {s} {log} {trace} {ls} {logs} accepts so l
     }
     in
     record {
-      number = sym (ap (λ (x : Walked Run). x.verdict.number) done);
-      position = sym (ap (λ (x : Walked Run). x.verdict.position) done);
-      reached = λ z. subst (λ (x : Run). Reached p tree x ended log trace) (sym (ap (λ (x : Walked Run). x.state) done)) reached;
+      verdict = sym (ap (λ (x : Walked Run). x.verdict) done);
+      reached = subst (λ (x : Run). Reached p tree x ended log trace) (sym (ap (λ (x : Walked Run). x.state) done)) reached;
     }
 
 -- Event k, of bytes a and b, with outcome o and the state after it.
@@ -92,15 +92,11 @@ module _ {w p : ℕ} {tree events : List ℕ} {k : ℕ} {s : Fields} {log trace 
   state = sym (ap (λ (x : Move). x.after) turn.moved)
 
   -- The event is refused.
-  pub turn-refused : (x : ℕ) → o ≡ Refused x → (loads : List ℕ) (mine yours : List ℕ)
-      → Walks w p tree events (record { number = x; position = k; logs = 0; steals = 0; loads = loads }) mine yours
-  turn-refused x e loads mine yours =
-      let by = event-refused w p tree events turn.accepts turn.so turn.more turn.first turn.second x (outcome ∙ e) in
-      record {
-        number = ap (λ (v : Verdict). v.number) by.0;
-        position = ap (λ (v : Verdict). v.position) by.0;
-        reached = λ z. absurd (by.1 z);
-      }
+  pub turn-refused : (x : Refusal) → o ≡ Refused (number_of x) → (mine yours : List ℕ)
+      → Walks w p tree events (Err (record { refusal = x; position = k })) mine yours
+  turn-refused x e mine yours =
+      let by = event-refused w p tree events turn.accepts turn.so turn.more turn.first turn.second (number_of x) (outcome ∙ e) in
+      record { verdict = by.0; reached = tt }
 
   -- The event has run a step.
   module _ {phase : Phase} {step : Step} (ran : o ≡ Ran phase step) where

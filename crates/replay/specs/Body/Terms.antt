@@ -1,10 +1,13 @@
 -- What an admitted replay comes to, by the rules.
-use Rattle.std.specs.Prelude.{ℕ, ◌*◌, ◌≤◌, ◌≡◌, Bool, true, List, length}
+use Rattle.std.specs.Prelude.{ℕ, ◌*◌, ◌≤◌, ◌≡◌, Bool, true, List, length, Result}
+use Rattle.std.specs.Result.{IfOk, OnErr}
 use Rattle.rules.specs.Bytes.{whole_records}
 use Rattle.rules.specs.Tree.{kinds, classes, weights}
 use Rattle.rules.specs.Scheduling.{most_workers}
 use Rattle.rules.specs.Traces.{entry_bytes, run_list, loads, class_loads}
 use Rattle.rules.specs.Calls.{most_trace_records, written, start_verdict}
+use Rattle.refusals.specs.declared.Refused.{Refused}
+use Rattle.refusals.specs.Numbers.{verdict_in}
 use Rattle.replay_walk.specs.declared.Ended.{Ended}
 use Rattle.replay_walk.specs.Terms.{ruled}
 use Rattle.replay.specs.Terms.{unless_full}
@@ -16,13 +19,16 @@ pub record Admitted (w p : ℕ) (tree trace : List ℕ) (n : ℕ) (list : List �
   pub steps : n ≡ length (kinds tree)
   pub fits : 4 * length (kinds tree) ≤ length list
 
--- The verdict on the trace's records, then 17 where the caller is full; then either the lent list is as it was, or the phases are
--- answered, their run list stands at the front of it, and the classes are charged with their loads.
-pub record Result (full : Bool) (w p : ℕ) (tree trace list : List ℕ) (r : Ended) (after charges : List ℕ) : Type 0 where
-  pub number : r.number ≡ (unless_full full (ruled w p tree trace).verdict).number
-  pub position : (r.number ≡ 0 → ⊥) → r.position ≡ (unless_full full (ruled w p tree trace).verdict).position
-  pub same : (r.number ≡ 0 → ⊥) → after ≡ list
-  pub phases : r.number ≡ 0 → r.phases ≡ length (ruled w p tree trace).state
-  pub loaded : r.number ≡ 0 → r.loads ≡ loads most_workers (kinds tree) (weights tree) (ruled w p tree trace).state
-  pub listed : r.number ≡ 0 → after ≡ written (entry_bytes (run_list p (kinds tree) (ruled w p tree trace).state)) list
-  pub classed : r.number ≡ 0 → charges ≡ class_loads (kinds tree) (classes tree) (weights tree) (ruled w p tree trace).state
+-- Nothing is refused: the phases are answered, their run list stands at the front of the lent list, and the classes are charged with
+-- their loads.
+pub record Listed (w p : ℕ) (tree trace list : List ℕ) (ended : Ended) (after charges : List ℕ) : Type 0 where
+  pub phases : ended.phases ≡ length (ruled w p tree trace).state
+  pub loaded : ended.loads ≡ loads most_workers (kinds tree) (weights tree) (ruled w p tree trace).state
+  pub listed : after ≡ written (entry_bytes (run_list p (kinds tree) (ruled w p tree trace).state)) list
+  pub classed : charges ≡ class_loads (kinds tree) (classes tree) (weights tree) (ruled w p tree trace).state
+
+-- The verdict on the trace's records, then 17 where the caller is full; a refusal leaves the lent list as it was.
+pub record Outcome (full : Bool) (w p : ℕ) (tree trace list : List ℕ) (r : Result Ended Refused) (after charges : List ℕ) : Type 0 where
+  pub verdict : verdict_in r ≡ unless_full full (ruled w p tree trace).verdict
+  pub same : OnErr r (after ≡ list)
+  pub listed : IfOk r (λ ended. Listed w p tree trace list ended after charges)

@@ -9,7 +9,7 @@ use borrow.Author.Tests.{ltb-false}
 use Rattle.rules.specs.Bytes.{Verdict, accepted, first_refused}
 use Rattle.rules.specs.Tree.{kinds}
 use Rattle.rules.specs.Calls.{replay_verdict, replay_of, replay_refused}
-use Rattle.tree.specs.declared.Accepted.{Accepted}
+use Rattle.tree.specs.Contract.{Accepted}
 use Rattle.tree.specs.Laws.Verdicts.{first-refuses, first_passes}
 use Rattle.arguments.specs.Terms.{replay_judged}
 use Rattle.arguments.specs.Laws.Cases.{given-last, given-refused, given, given-steps}

@@ -1,5 +1,7 @@
 -- The step that a number names, as `replay_steal::number` finds it: the walk over children turn by turn, and the number under
 -- each policy. A step that is named is a step of the tree.
+use Rattle.std.specs.Prelude.{Some, None}
+use Rattle.tree.specs.Steps.{MaybeStep, maybe_step}
 use Prim.Native.Nat.{ℕ, zero, suc, ◌-◌, ◌≤◌, ◌<◌}
 use Rattle.std.proofs.Math.Path.{◌≡◌, refl, ap}
 use Rattle.std.specs.Prelude.{Bool, cond, ◌&&◌, ◌||◌, not, List, leb}
@@ -17,16 +19,12 @@ use Rattle.tree.specs.declared.Ordinal.{Ordinal}
 use Rattle.trace.specs.declared.number.TraceNumber.{TraceNumber}
 use Rattle.trace.specs.declared.number.TraceNumber.TheVariants.{ByOrdinal, BySerial}
 use Rattle.trace.specs.Contract.{number_by}
-use Rattle.tree_scan.specs.declared.FinishChild.TheVariants.{From, Nothing as NoChild}
-use Rattle.tree_scan.specs.Contract.{child_of}
 use Rattle.tree_scan.specs.Laws.Shape.{Shape}
 use Rattle.tree_scan.specs.Laws.Frames.{end_at, size_at}
 use Rattle.run_invariant.proofs.Laws.Counts.{and_both}
 use Rattle.run_invariant.proofs.Laws.Weights.{cont-inside}
 use Rattle.replay_invariant.specs.Terms.{hopped}
-use Rattle.replay_spec.specs.declared.Named.{Named}
-use Rattle.replay_spec.specs.declared.Named.TheVariants.{At, Nothing}
-use Rattle.replay_spec.specs.Naming.{named_of, step_named, named}
+use Rattle.replay_spec.specs.Naming.{step_named, named}
 
 -- ---- the walk over children
 
@@ -39,8 +37,8 @@ module _ (ks : List ℕ) (children from i left : ℕ) (same : hopped ks left i �
       let more : left ≡ suc (left - 1) = omega arith in
       ap (λ (m : ℕ). hopped ks m i) more
 
-  pub hop_end : 0 < left → kind_at ks i ≡ 3 → Nothing ≡ named_of (hopped ks children from)
-  unfolding named_of is_end
+  pub hop_end : 0 < left → kind_at ks i ≡ 3 → None ≡ maybe_step (hopped ks children from)
+  unfolding maybe_step is_end
   hop_end h e = rw (← same, hop-turn h, eq-eqb (kind_at ks i) 3 e)
 
   pub hop_on : 0 < left → (kind_at ks i ≡ 3 → ⊥) → (next : ℕ) → next ≡ cont ks i
@@ -48,8 +46,8 @@ module _ (ks : List ℕ) (children from i left : ℕ) (same : hopped ks left i �
   unfolding is_end
   hop_on h n next e = rw (← same, hop-turn h, ne_eqb (kind_at ks i) 3 n, e)
 
-  pub hop-done : left ≤ 0 → At (record { 0 = i }) ≡ named_of (hopped ks children from)
-  unfolding named_of hopped
+  pub hop-done : left ≤ 0 → Some (record { 0 = i }) ≡ maybe_step (hopped ks children from)
+  unfolding maybe_step hopped
   hop-done h =
       let none_left : left ≡ 0 = omega arith in
       let here : hopped ks left i ≡ some i = rw none_left in
@@ -72,46 +70,46 @@ module _ (ks : List ℕ) (s : ℕ) where
   unfolding is_async
   pushable_async h e = rw (starts_at h, eq-eqb (kind_at ks (s - 1)) 1 e)
 
-  pub pushable_finish : (first : Step) → child_of (finish_before ks s) ≡ From first → true ≡ starts_async ks s || follows_finish ks s
-  unfolding child_of follows_finish
+  pub pushable_finish : (first : Step) → maybe_step (finish_before ks s) ≡ Some first → true ≡ starts_async ks s || follows_finish ks s
+  unfolding maybe_step follows_finish
   pushable_finish first e = by (finish_before ks s) refl e
     where
-      by : (o : Option ℕ) → finish_before ks s ≡ o → child_of o ≡ From first → true ≡ starts_async ks s || follows_finish ks s
+      by : (o : Option ℕ) → finish_before ks s ≡ o → maybe_step o ≡ Some first → true ≡ starts_async ks s || follows_finish ks s
       by none f c = let z : ◌≡◌ {A = ℕ} 0 1 = cc in absurd (omega arith)
       by (some x) f c = rw (follows_finish, f, or-true)
 
-  pub pushable-none : 0 < s → (kind_at ks (s - 1) ≡ 1 → ⊥) → child_of (finish_before ks s) ≡ NoChild
+  pub pushable-none : 0 < s → (kind_at ks (s - 1) ≡ 1 → ⊥) → maybe_step (finish_before ks s) ≡ None
       → false ≡ starts_async ks s || follows_finish ks s
-  unfolding child_of follows_finish is_async
+  unfolding maybe_step follows_finish is_async
   pushable-none h n e = by (finish_before ks s) refl e
     where
-      by : (o : Option ℕ) → finish_before ks s ≡ o → child_of o ≡ NoChild → false ≡ starts_async ks s || follows_finish ks s
+      by : (o : Option ℕ) → finish_before ks s ≡ o → maybe_step o ≡ None → false ≡ starts_async ks s || follows_finish ks s
       by none f c = rw (follows_finish, f, starts_at h, ne_eqb (kind_at ks (s - 1)) 1 n)
       by (some x) f c = let z : ◌≡◌ {A = ℕ} 0 1 = cc in absurd (omega arith)
 
 -- ---- the step that a number names
 
 module _ (ks : List ℕ) (base at : ℕ) where
-  pub name_own : (o : Ordinal) → o.0 ≤ at → Nothing ≡ named_of (step_named ks base at (ByOrdinal o))
-  unfolding named_of step_named
+  pub name_own : (o : Ordinal) → o.0 ≤ at → None ≡ maybe_step (step_named ks base at (ByOrdinal o))
+  unfolding maybe_step step_named
   name_own o l = rw (le-leb o.0 at l)
 
-  pub name_hopped : (o : Ordinal) → at < o.0 → (r : Named) → r ≡ named_of (hopped ks (o.0 - at) base)
-      → r ≡ named_of (step_named ks base at (ByOrdinal o))
+  pub name_hopped : (o : Ordinal) → at < o.0 → (r : MaybeStep) → r ≡ maybe_step (hopped ks (o.0 - at) base)
+      → r ≡ maybe_step (step_named ks base at (ByOrdinal o))
   unfolding step_named
   name_hopped o l r e = rw (lt-leb o.0 at l) e
 
-  pub name_past : (s : Step) → length ks ≤ s.0 → Nothing ≡ named_of (step_named ks base at (BySerial s))
-  unfolding named_of step_named
+  pub name_past : (s : Step) → length ks ≤ s.0 → None ≡ maybe_step (step_named ks base at (BySerial s))
+  unfolding maybe_step step_named
   name_past s l = rw (le-ltb s.0 (length ks) l)
 
   module _ (s : Step) (b : Bool) (pushable : b ≡ starts_async ks s.0 || follows_finish ks s.0) where
-    pub name-other : not b ≡ true → Nothing ≡ named_of (step_named ks base at (BySerial s))
-    unfolding named_of step_named
+    pub name-other : not b ≡ true → None ≡ maybe_step (step_named ks base at (BySerial s))
+    unfolding maybe_step step_named
     name-other n = rw (← pushable, not-true b n, and-false (ltb s.0 (length ks)))
 
-    pub name-itself : s.0 < length ks → not b ≡ false → At s ≡ named_of (step_named ks base at (BySerial s))
-    unfolding named_of step_named
+    pub name-itself : s.0 < length ks → not b ≡ false → Some s ≡ maybe_step (step_named ks base at (BySerial s))
+    unfolding maybe_step step_named
     name-itself l n = rw (lt-ltb s.0 (length ks) l, ← pushable, not-false b n)
 
 -- ---- where it stands

@@ -1,5 +1,7 @@
 -- The code's way of reading a steal is the rules': by labels instead of what phases cover, and work-first by a walk over
 -- continuations instead of ordinals and counts of children.
+use Rattle.std.specs.Prelude.{Some, None}
+use Rattle.tree.specs.Steps.{MaybeStep}
 use Rattle.std.specs.Prelude.{ℕ, ◌+◌, ◌-◌, ◌≤◌, ◌<◌, ◌≡◌, Bool, true, false, cond, ◌&&◌, ◌||◌, List, ◌⊎◌, length, get_or, eqb, ltb, leb}
 use Rattle.std.proofs.Math.Path.{refl}
 use Rattle.std.proofs.Common.{sym, ◌∙◌, true≢false, inl, inr, ⊎_elim}
@@ -22,8 +24,6 @@ use Rattle.replay_invariant.proofs.Laws.Tasks.{hopped-is}
 use Rattle.replay_invariant.specs.Terms.{free, label_of, Labels, Climb, labelled, PartOf}
 use Rattle.replay_invariant.proofs.Laws.Reads.{Based, based_allowed, allowed_taken}
 use Rattle.replay_invariant.proofs.Laws.Labels.{label-covers, taken_free, taken-label}
-use Rattle.replay_spec.specs.declared.Named.{Named}
-use Rattle.replay_spec.specs.declared.Named.TheVariants.{At, Nothing}
 use Rattle.trace.specs.Contract.{number_by}
 use Rattle.replay_spec.specs.Naming.{step_named, named}
 use Rattle.replay_spec.proofs.Laws.Naming.{only-some, named-within}
@@ -111,7 +111,7 @@ module _ (p : ℕ) (either : (p ≡ work_first) ⊎ (p ≡ help_first)) (ks : Li
     (sh : Shape (length ks) (end_at ks) (size_at ks)) where
   module _ (phs : List Phase) (split : Split p ks phs) (labels : List ℕ) (shown : Labels ks phs labels) (openers : List ℕ)
       (table : Openers ks openers (length ks)) (k base at number : ℕ) (begun : k < length phs)
-      (based : p ≡ work_first → Based ks sh (phase_at phs k) base at) (r : Named) (after : List ℕ)
+      (based : p ≡ work_first → Based ks sh (phase_at phs k) base at) (r : MaybeStep) (after : List ℕ)
       (reading : Reading openers labels (named p ks base at number) k r after) where
     parts : (j : ℕ) → 0 < j → j < length ks → PartOf ks (get_or openers j 0) j
     parts = opener_parts ks openers table
@@ -130,7 +130,7 @@ module _ (p : ℕ) (either : (p ≡ work_first) ⊎ (p ≡ help_first)) (ks : Li
 
     -- Where the rules accept the number, the step is theirs, and the labels are those of a climb from it.
     pub read-allowed : number_allowed p ks (phase_at phs k) number ≡ true
-        → (r ≡ At (record { 0 = stolen_step p ks (phase_at phs k) number }))
+        → (r ≡ Some (record { 0 = stolen_step p ks (phase_at phs k) number }))
         × ((path : List ℕ) × (top : ℕ) × Climb openers labels (stolen_step p ks (phase_at phs k) number) path top
         × (after ≡ labelled labels path k))
     read-allowed a =
@@ -144,10 +144,10 @@ module _ (p : ℕ) (either : (p ≡ work_first) ⊎ (p ≡ help_first)) (ks : Li
         (rw (allowed-named ks sh ph base at number p based either a) at reading)
 
     -- Where they do not, none is found.
-    pub read-broken : number_allowed p ks (phase_at phs k) number ≡ false → r ≡ Nothing
+    pub read-broken : number_allowed p ks (phase_at phs k) number ≡ false → r ≡ None
     read-broken a = by (named p ks base at number) refl reading
       where
-        by : (o : Option ℕ) → named p ks base at number ≡ o → Reading openers labels o k r after → r ≡ Nothing
+        by : (o : Option ℕ) → named p ks base at number ≡ o → Reading openers labels o k r after → r ≡ None
         by none e is = is
         by (some s) e is =
             ⊎_elim (λ lost. lost.1)

@@ -1,6 +1,6 @@
 -- What the loop over the records holds: after the first k of them, none of them refused, the tables show the rules' phases.
 -- What it comes to at the start, at the end and at a record that is refused for its workers.
-use Rattle.std.specs.Prelude.{ℕ, zero, suc, ◌+◌, ◌/◌, ◌%◌, ◌≤◌, ◌<◌, ◌≡◌, refl, true, ◌⊎◌, drop, set, replicate, eqb, leb}
+use Rattle.std.specs.Prelude.{ℕ, zero, suc, ◌+◌, ◌/◌, ◌%◌, ◌≤◌, ◌<◌, ◌≡◌, refl, true, ◌⊎◌, drop, set, replicate, eqb, leb, Ok, Err}
 use Rattle.std.proofs.Math.Path.{sym}
 use Rattle.std.proofs.Common.{ap, ◌∙◌, get_or-set_same, leb-true, ne_eqb}
 use mathlib.Core.List.{List, []}
@@ -8,7 +8,7 @@ use native.Mathlib.Omega.{arith}
 use Rattle.std.proofs.Math.ListN.{length, get_or, length-set}
 use Rattle.std.proofs.lemmas.List.{length-replicate, get_or-replicate}
 use Rattle.std.proofs.Math.Seq.{get_or-set_other}
-use Rattle.rules.specs.Bytes.{records, whole_records, accepted, Walked, walk}
+use Rattle.rules.specs.Bytes.{records, whole_records, Verdict, accepted, Walked, walk}
 use Rattle.rules.specs.Tree.{kinds, weights, ordinal}
 use Rattle.rules.specs.Scheduling.{work_first, help_first, most_workers, Phase, first_phases, phase_at}
 use Rattle.rules.specs.Traces.{latest_phase, judge_trace_record, next_phases, replay_walk, phase_load, loads}
@@ -32,7 +32,9 @@ use Rattle.trace.specs.Terms.{RecordAt}
 use Rattle.replay_spec.specs.Workers.{judged_workers}
 use Rattle.policy.specs.Contract.{most_phases}
 use Rattle.replay_spec.proofs.Laws.Workers.{Latest, judged-stop}
-use Rattle.replay_walk.specs.declared.Ended.{Ended}
+use Rattle.refusals.specs.declared.Refusal.{Refusal}
+use Rattle.refusals.specs.Numbers.{number_of}
+use Rattle.refusals.specs.Laws.Numbers.{number-some}
 use Rattle.replay_walk.specs.Terms.{Retraced}
 use Rattle.replay_spec.proofs.Laws.Begins.{based_at}
 use Rattle.replay_invariant.specs.Terms.{free, label_of, Labels}
@@ -186,7 +188,7 @@ module _ (w p : ℕ) (tree trace : List ℕ) (accepts : (start_verdict w p tree)
 module _ {w p : ℕ} {tree trace : List ℕ} {k : ℕ} {labels firsts bases ordinals latest ls : List ℕ}
     (so : Retracing w p tree trace k labels firsts bases ordinals latest ls) where
   pub retrace_end : length trace / 4 ≤ k
-      → Retraced w p tree trace (record { number = 0; position = 0; phases = k + 1; loads = ls }) labels firsts
+      → Retraced w p tree trace (Ok (record { phases = k + 1; loads = ls })) labels firsts
   unfolding accepted
   retrace_end h =
       let done =
@@ -195,14 +197,15 @@ module _ {w p : ℕ} {tree trace : List ℕ} {k : ℕ} {labels firsts bases ordi
       (rw (length-records 4 trace) h)
       in
       record {
-        number = rw done refl;
-        position = rw done refl;
-        phases = λ z. rw done so.many;
-        loaded = λ z. rw done so.loaded;
-        shown = λ z. rw done so.shown;
-        begins = λ z. rw done so.begins;
+        verdict = rw done refl;
+        phased = record {
+          phases = rw done so.many;
+          loaded = rw done so.loaded;
+          shown = rw done so.shown;
+          begins = rw done so.begins;
+          few = omega (arith, so.reached, so.short);
+        };
         sizes = (so.label_room, so.first_room);
-        few = λ z. omega (arith, so.reached, so.short);
       }
 
 -- ---- a record
@@ -211,30 +214,27 @@ module _ {w p : ℕ} {tree trace : List ℕ} {k : ℕ} {labels firsts bases ordi
     (so : Retracing w p tree trace k labels firsts bases ordinals latest ls) {thief victim number : ℕ}
     (entry : RecordAt trace k thief victim number) where
   -- It is refused: `after` are the labels that are left then.
-  pub retrace_stopped : (x : ℕ) → judge_trace_record w p (kinds tree) so.phs (get_or (records 4 trace) k []) ≡ x
-      → (x ≡ 0 → ⊥) → (r : Ended) → r ≡ record { number = x; position = k; phases = 0; loads = replicate most_workers 0 } → (after : List ℕ)
-      → length after ≡ length (kinds tree) → Retraced w p tree trace r after firsts
-  retrace_stopped x j n r is after room =
+  pub retrace_stopped : (e : Refusal) → judge_trace_record w p (kinds tree) so.phs (get_or (records 4 trace) k []) ≡ number_of e
+      → (after : List ℕ) → length after ≡ length (kinds tree)
+      → Retraced w p tree trace (Err (record { refusal = e; position = k })) after firsts
+  retrace_stopped e j after room =
+      let some : number_of e ≡ 0 → ⊥ = λ z. omega (arith, number-some e) in
       let stop =
       so.walked
       ∙ walk_stop (judge_trace_record w p (kinds tree)) (next_phases p (kinds tree)) (records 4 trace) [] k so.phs
-      (rw (length-records 4 trace) entry.more) (λ z. n (sym j ∙ z))
+      (rw (length-records 4 trace) entry.more) (λ z. some (sym j ∙ z))
       in
-      let numbered : r.number ≡ x = ap (λ (y : Ended). y.number) is in
+      let here = ap {B = Verdict} (λ (x : ℕ). record { number = x; position = k }) j in
       record {
-        number = numbered ∙ sym (ap (λ (y : Walked (List Phase)). y.verdict.number) stop ∙ j);
-        position = ap (λ (y : Ended). y.position) is ∙ sym (ap (λ (y : Walked (List Phase)). y.verdict.position) stop);
-        phases = λ z. absurd (n (sym numbered ∙ z));
-        loaded = λ z. absurd (n (sym numbered ∙ z));
-        shown = λ z. absurd (n (sym numbered ∙ z));
-        begins = λ z. absurd (n (sym numbered ∙ z));
+        verdict = sym (ap (λ (y : Walked (List Phase)). y.verdict) stop ∙ here);
+        phased = tt;
         sizes = (room, so.first_room);
-        few = λ z. absurd (n (sym numbered ∙ z));
       }
 
-  pub retrace_judged : (x : ℕ) → x ≡ judged_workers w latest thief victim → (x ≡ 0 → ⊥) → (r : Ended)
-      → r ≡ record { number = x; position = k; phases = 0; loads = replicate most_workers 0 } → Retraced w p tree trace r labels firsts
-  retrace_judged x e n r is =
+  pub retrace_judged : (e : Refusal) → number_of e ≡ judged_workers w latest thief victim
+      → Retraced w p tree trace (Err (record { refusal = e; position = k })) labels firsts
+  retrace_judged e is =
       let judged = judged-stop so.phs latest so.latests w p so.most (kinds tree) (get_or (records 4 trace) k []) so.shown.few in
       let stop = rw (entry.first, entry.second) at judged in
-      retrace_stopped x (stop (λ z. n (e ∙ z)) ∙ sym e) n r is labels so.label_room
+      let some : number_of e ≡ 0 → ⊥ = λ z. omega (arith, number-some e) in
+      retrace_stopped e (stop (λ z. some (is ∙ z)) ∙ sym is) labels so.label_room

@@ -1,6 +1,8 @@
 -- A turn of the loop over the records, where the record's workers are not refused: its number is read against the victim's
 -- latest phase. Either it breaks the rule, or a phase begins and the tables show that.
-use Rattle.std.specs.Prelude.{ℕ, ◌+◌, ◌≤◌, ◌<◌, ◌≡◌, refl, Bool, true, false, cond, List, [], drop, get_or, set, replicate}
+use Rattle.std.specs.Prelude.{Some, None, Err}
+use Rattle.tree.specs.Steps.{MaybeStep}
+use Rattle.std.specs.Prelude.{ℕ, ◌+◌, ◌≤◌, ◌<◌, ◌≡◌, refl, Bool, true, false, cond, List, [], drop, get_or, set}
 use Rattle.std.proofs.Common.{sym, ap, ◌∙◌, add-one, arith}
 use Rattle.std.proofs.Math.Option.{some}
 use Rattle.std.proofs.Math.ListN.{length, length-set}
@@ -21,8 +23,6 @@ use Rattle.replay_invariant.proofs.Laws.Parts.{part_inside, pushes_part}
 use Rattle.replay_invariant.proofs.Laws.Reads.{allowed_taken}
 use Rattle.replay_invariant.proofs.Laws.Labels.{root-labelled, begin-labels}
 use Rattle.replay_invariant.proofs.Laws.Always.{Read, latest_own, read_next, begin-split}
-use Rattle.replay_spec.specs.declared.Named.{Named}
-use Rattle.replay_spec.specs.declared.Named.TheVariants.{At, Nothing}
 use Rattle.replay_spec.specs.Naming.{step_named, named}
 use Rattle.replay_spec.specs.Reading.{Reading}
 use Rattle.policy.specs.Contract.{most_phases}
@@ -36,7 +36,7 @@ use Rattle.trace.specs.declared.number.TraceNumber.{TraceNumber}
 use Rattle.trace.specs.Terms.{RecordAt}
 use Rattle.replay_spec.specs.Workers.{judged_workers}
 use Rattle.replay_spec.proofs.Laws.Workers.{fine_workers, latest_some, latest_next, judged-on}
-use Rattle.replay_walk.specs.declared.Ended.{Ended}
+use Rattle.refusals.specs.declared.Refusal.TheVariants.{Number}
 use Rattle.replay_walk.specs.Terms.{Retraced}
 use Rattle.replay_spec.proofs.Laws.Begins.{firsts-next, bases-within, bases-next}
 use Rattle.replay_walk.specs.Laws.Retracing.{split-whole, Retracing, Tables, retrace_stopped}
@@ -48,7 +48,7 @@ pushed_past ks sh p s by =
     omega (arith, by.3, part_inside ks sh by.0 (pushes p ks by.0) (pushes_part ks sh p by.0 by.1 by.2))
 
 -- A trace record's number is read as its policy has it, against the phase that is looked up.
-pub read_as : (p : ℕ) (ks openers labels bases ordinals after : List ℕ) (r : Named) (number : ℕ) {at from : ℕ} {told : TraceNumber}
+pub read_as : (p : ℕ) (ks openers labels bases ordinals after : List ℕ) (r : MaybeStep) (number : ℕ) {at from : ℕ} {told : TraceNumber}
     → at ≡ from → told ≡ number_by p number number
     → Reading openers labels (step_named ks (get_or bases at 0) (get_or ordinals at 0) told) at r after
     → Reading openers labels (named p ks (get_or bases from 0) (get_or ordinals from 0) number) from r after
@@ -63,7 +63,7 @@ pub record Judged (w p : ℕ) (tree trace : List ℕ) (k : ℕ) (labels firsts b
   pub fine : judged_workers w latest thief victim ≡ 0
 
 -- Its number has been read against phase k, the victim's latest: r is the answer, `after` are the labels.
-pub record NumberRead (p : ℕ) (tree ends openers sums labels bases ordinals : List ℕ) (k number : ℕ) (r : Named) (after : List ℕ)
+pub record NumberRead (p : ℕ) (tree ends openers sums labels bases ordinals : List ℕ) (k number : ℕ) (r : MaybeStep) (after : List ℕ)
     : Type 0 where
   pub tables : Tables tree ends openers sums
   pub reading : Reading openers labels (named p (kinds tree) (get_or bases k 0) (get_or ordinals k 0) number) k r after
@@ -113,10 +113,10 @@ module _ {w p : ℕ} {tree trace : List ℕ} {k : ℕ} {labels firsts bases ordi
       (rw (j.entry.first, j.entry.second, j.entry.rest) at on) j.fine
 
   -- The number has been read.
-  module _ {ends openers sums : List ℕ} {r : Named} {after : List ℕ}
+  module _ {ends openers sums : List ℕ} {r : MaybeStep} {after : List ℕ}
       (t : NumberRead p tree ends openers sums labels bases ordinals from number r after) where
     if-allowed : number_allowed p ks phase number ≡ true
-        → (r ≡ At (record { 0 = stolen_step p ks phase number }))
+        → (r ≡ Some (record { 0 = stolen_step p ks phase number }))
         × ((path : List ℕ) × (top : ℕ) × Climb openers labels (stolen_step p ks phase number) path top
         × (after ≡ labelled labels path from))
     if-allowed =
@@ -124,23 +124,23 @@ module _ {w p : ℕ} {tree trace : List ℕ} {k : ℕ} {labels firsts bases ordi
         t.tables.opened from (get_or bases from 0) (get_or ordinals from 0) number own.0 (λ first. j.so.based first from own.0)
         r after t.reading
 
-    if-broken : number_allowed p ks phase number ≡ false → r ≡ Nothing
+    if-broken : number_allowed p ks phase number ≡ false → r ≡ None
     if-broken =
         read-broken p j.so.either ks j.so.frame.some sh j.so.phs j.so.split labels j.so.shown openers
         t.tables.opened from (get_or bases from 0) (get_or ordinals from 0) number own.0 (λ first. j.so.based first from own.0)
         r after t.reading
 
     -- It breaks the rule.
-    pub retrace-broken : r ≡ Nothing → (e : Ended) → e ≡ record { number = 15; position = k; phases = 0; loads = replicate most_workers 0 }
-        → Retraced w p tree trace e after firsts
-    retrace-broken lost e is = by (number_allowed p ks phase number) refl
+    pub retrace-broken : r ≡ None → Retraced w p tree trace (Err (record { refusal = Number; position = k })) after firsts
+    retrace-broken lost = by (number_allowed p ks phase number) refl
       where
-        by : (b : Bool) → number_allowed p ks phase number ≡ b → Retraced w p tree trace e after firsts
+        by : (b : Bool) → number_allowed p ks phase number ≡ b
+            → Retraced w p tree trace (Err (record { refusal = Number; position = k })) after firsts
         by true a = let z : ◌≡◌ {A = ℕ} 0 1 = cc (if-allowed a).0 in absurd (omega arith)
-        by false a = retrace_stopped j.so j.entry 15 (judged ∙ rw a refl) (λ z. omega arith) e is after (t.kept ∙ j.so.label_room)
+        by false a = retrace_stopped j.so j.entry Number (judged ∙ rw a refl) after (t.kept ∙ j.so.label_room)
 
     -- It names step s, which can be stolen: a phase begins with it.
-    module _ {s : ℕ} (gives : r ≡ At (record { 0 = s })) where
+    module _ {s : ℕ} (gives : r ≡ Some (record { 0 = s })) where
       allowed : number_allowed p ks phase number ≡ true
       allowed = by (number_allowed p ks phase number) refl
         where

@@ -15,8 +15,7 @@ use Rattle.run_spec.specs.Deques.{oldest_mark}
 use Rattle.run_spec.specs.Running.{run_number}
 use Rattle.trace.specs.Contract.{number_by}
 use Rattle.run_spec.specs.Stealing.{steal_number}
-use Rattle.run_spec.specs.declared.Outcome.{Outcome}
-use Rattle.run_spec.specs.declared.Outcome.TheVariants.{Ran, Stole}
+use Rattle.run_spec.specs.Outcomes.{Outcome, Ran, Stole}
 use Rattle.run_spec.specs.Moves.{Fields, Move, move_of, refused, ran_fields, run_move, taken_ordinal, robbed_fields, steal_move}
 use Rattle.run_refinement.specs.Tie.{Shows, held_step}
 use Rattle.run_refinement.proofs.Laws.Scans.{waits-shown}

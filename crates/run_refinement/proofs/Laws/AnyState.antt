@@ -16,7 +16,7 @@ use Rattle.tree.specs.Laws.Verdicts.{or_none}
 use Rattle.policy.specs.Contract.{worker_limit}
 use Rattle.trace.specs.declared.number.TraceNumber.{TraceNumber}
 use Rattle.trace.specs.Contract.{number_by}
-use Rattle.run_spec.specs.declared.Outcome.TheVariants.{Ran, Stole, Refused}
+use Rattle.run_spec.specs.Outcomes.{Ran, Stole, Refused}
 use Rattle.run_spec.specs.Deques.{oldest_mark}
 use Rattle.run_spec.specs.Running.{waits_for, run_number}
 use Rattle.run_spec.specs.Stealing.{steal_number}

@@ -19,7 +19,7 @@ use Rattle.run_invariant.specs.Invariant.{Invariant}
 use Rattle.policy.specs.declared.Setup.{Setup}
 use Rattle.policy.specs.Contract.{worker_limit}
 use Rattle.policy.proofs.Laws.Workers.{limit_is}
-use Rattle.run_spec.specs.declared.Outcome.TheVariants.{Ran, Stole}
+use Rattle.run_spec.specs.Outcomes.{Ran, Stole}
 use Rattle.trace.specs.Contract.{number_by}
 use Rattle.run_spec.specs.Moves.{Fields, fresh, refused, event_move}
 use Rattle.run_spec.specs.Idle.{is_idle, idle_bits, idle_number, idle_first}

@@ -11,7 +11,7 @@ use Rattle.tree_scan.specs.Laws.Starts.{start-tree-accepts, start_workers}
 use Rattle.tree_scan.specs.Laws.Frames.{Frame, accepted-frame}
 use Rattle.run_invariant.specs.Invariant.{Invariant}
 use Rattle.run_invariant.proofs.Laws.Always.{start_invariant, event_keeps, always}
-use Rattle.run_spec.specs.declared.Outcome.{Outcome}
+use Rattle.run_spec.specs.Outcomes.{Outcome}
 use Rattle.trace.specs.declared.number.TraceNumber.TheVariants.{ByOrdinal, BySerial}
 use Rattle.trace.specs.Contract.{number_by, number_value}
 use Rattle.policy.specs.declared.Setup.{Setup}

@@ -1,8 +1,10 @@
 -- The scans over the array of places and the climb over openers, turn by turn, in the terms of the code: a turn finds the mark
 -- or leaves what is to be found. Then where it stands, and what the stores leave.
+use Rattle.std.specs.Prelude.{Some, None}
+use Rattle.tree.specs.Steps.{maybe_step}
 use Prim.Native.Nat.{ℕ, zero, suc, ◌+◌, ◌-◌, ◌≤◌, ◌<◌}
 use Rattle.std.specs.Prelude.{◌≡◌, Bool, true, false, cond, List, length, get_or, set}
-use Rattle.std.proofs.Math.Path.{refl, sym, ap}
+use Rattle.std.proofs.Math.Path.{refl, sym}
 use Rattle.std.proofs.Common.{◌∙◌}
 use Rattle.std.proofs.Math.Option.{Option, none, some, none-ne-some}
 use Rattle.std.proofs.Math.Decide.{dec_le, dec_lt}
@@ -12,10 +14,7 @@ use borrow.Author.Tests.{eq-eqb, ne_eqb}
 use Rattle.rules.specs.Bytes.{find}
 use Rattle.tree.specs.Laws.Counts.{count_low, count_none}
 use Rattle.tree.specs.Laws.Highest.{highest-turn, highest-done, fails_highest, upper_none}
-use Rattle.tree.specs.declared.Step.{Step}
-use Rattle.run_spec.specs.declared.Found.{Found}
-use Rattle.run_spec.specs.declared.Found.TheVariants.{At, Nothing}
-use Rattle.run_spec.specs.Deques.{marked, newest_mark, oldest_mark, found_of, popped, robbed}
+use Rattle.run_spec.specs.Deques.{marked, newest_mark, oldest_mark, popped, robbed}
 use Rattle.run_spec.specs.Terms.{Climbs}
 
 -- ---- turns
@@ -33,8 +32,8 @@ module _ (place : List ℕ) (w : ℕ) where
 -- As the loops have it: a scan stands at j, and what is found from there on is what is found in all.
 module _ (place : List ℕ) (w low end j : ℕ) where
   pub newest_hit : low < j → newest_mark place w low j ≡ newest_mark place w low end → get_or place (j - 1) 0 ≡ w
-      → At (record { 0 = j - 1 }) ≡ found_of (newest_mark place w low end)
-  unfolding marked found_of
+      → Some (record { 0 = j - 1 }) ≡ maybe_step (newest_mark place w low end)
+  unfolding marked maybe_step
   newest_hit h same e =
       let back : suc (j - 1) ≡ j = omega arith in
       let turn = rw back at (highest-turn (marked place w) low (j - 1) (omega arith)) in
@@ -49,13 +48,13 @@ module _ (place : List ℕ) (w low end j : ℕ) where
       sym (turn ∙ rw (ne_eqb (get_or place (j - 1) 0) w n) refl) ∙ same
 
   pub newest_end : j ≤ low → newest_mark place w low j ≡ newest_mark place w low end
-      → Nothing ≡ found_of (newest_mark place w low end)
-  unfolding found_of
+      → None ≡ maybe_step (newest_mark place w low end)
+  unfolding maybe_step
   newest_end h same = rw (← same, highest-done (marked place w) low j h) refl
 
   pub oldest_hit : j < end → oldest_mark place w j end ≡ oldest_mark place w low end → get_or place j 0 ≡ w
-      → At (record { 0 = j }) ≡ found_of (oldest_mark place w low end)
-  unfolding marked found_of
+      → Some (record { 0 = j }) ≡ maybe_step (oldest_mark place w low end)
+  unfolding marked maybe_step
   oldest_hit h same e = rw (← same, oldest-turn place w j end h, eq-eqb (get_or place j 0) w e) refl
 
   pub oldest_miss : j < end → oldest_mark place w j end ≡ oldest_mark place w low end → (get_or place j 0 ≡ w → ⊥)
@@ -64,8 +63,8 @@ module _ (place : List ℕ) (w low end j : ℕ) where
   oldest_miss h same n = rw add-one (sym (oldest-turn place w j end h ∙ rw (ne_eqb (get_or place j 0) w n) refl) ∙ same)
 
   pub oldest_end : end ≤ j → oldest_mark place w j end ≡ oldest_mark place w low end
-      → Nothing ≡ found_of (oldest_mark place w low end)
-  unfolding found_of
+      → None ≡ maybe_step (oldest_mark place w low end)
+  unfolding maybe_step
   oldest_end h same = rw (← same, oldest-done place w j end h) refl
 
 -- ---- from opener to opener
@@ -107,13 +106,10 @@ module _ (openers place : List ℕ) (w low end : ℕ) (climbs : Climbs openers p
     turned-to : newest_mark place w low (suc q) ≡ newest_mark place w low end
     turned-to = rw e (climb_turn same)
 
-    pub climb-less : q < j
-    climb-less = rw e climb_before
-
-    pub climb-below : q < low → Nothing ≡ found_of (newest_mark place w low end)
+    pub climb-below : q < low → None ≡ maybe_step (newest_mark place w low end)
     climb-below l = newest_end place w low end (suc q) l turned-to
 
-    pub climb-hit : low ≤ q → get_or place q 0 ≡ w → At (record { 0 = q }) ≡ found_of (newest_mark place w low end)
+    pub climb-hit : low ≤ q → get_or place q 0 ≡ w → Some (record { 0 = q }) ≡ maybe_step (newest_mark place w low end)
     climb-hit l m =
         let back : suc q - 1 ≡ q = omega arith in
         rw back at (newest_hit place w low end (suc q) (omega arith) turned-to (rw back m))
@@ -122,28 +118,6 @@ module _ (openers place : List ℕ) (w low end : ℕ) (climbs : Climbs openers p
     climb-miss l m =
         let back : suc q - 1 ≡ q = omega arith in
         rw back at (newest_miss place w low end (suc q) (omega arith) turned-to (rw back m))
-
--- ---- what is found
-
--- A pusher that is found, and one that is not.
-found-by : (o : Option ℕ) → Found → Option ℕ
-found-by o (At q) = some q.0
-found-by o Nothing = none
-
-found_same : (o : Option ℕ) → found-by o (found_of o) ≡ o
-unfolding found_of found-by
-found_same none = refl
-found_same (some q) = refl
-
--- What a scan found, by its result.
-module _ (o : Option ℕ) (r : Found) (e : r ≡ found_of o) where
-  pub found_at : (q : Step) → r ≡ At q → o ≡ some q.0
-  unfolding found-by
-  found_at q f = sym (found_same o) ∙ ap (found-by o) (sym e ∙ f)
-
-  pub found_nothing : r ≡ Nothing → o ≡ none
-  unfolding found-by
-  found_nothing f = sym (found_same o) ∙ ap (found-by o) (sym e ∙ f)
 
 -- It stands before the scan's end.
 -- One turn: what is found here, or later.

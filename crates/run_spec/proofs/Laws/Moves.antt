@@ -1,5 +1,7 @@
 -- The start, and a run, a steal and an event as the code makes them: from what its parts answer, by the laws of those parts, follows
 -- the whole move.
+use Rattle.std.specs.Prelude.{Some, None}
+use Rattle.run_spec.specs.Stealing.{MaybeStolen}
 use Rattle.std.specs.Prelude.{ℕ, ◌+◌, ◌%◌, ◌<◌, ◌≡◌, List, [], get_or, set, replicate}
 use Rattle.std.proofs.Math.Path.{refl}
 use Rattle.std.proofs.Common.{sym, ◌∙◌, arith}
@@ -12,9 +14,7 @@ use Rattle.policy.specs.declared.Setup.{Setup}
 use Rattle.policy.specs.Contract.{most_phases}
 use Rattle.trace.specs.declared.number.TraceNumber.{TraceNumber}
 use Rattle.run_spec.specs.declared.Stolen.{Stolen}
-use Rattle.run_spec.specs.declared.Taken.{Taken}
-use Rattle.run_spec.specs.declared.Taken.TheVariants.{Of, Nothing}
-use Rattle.run_spec.specs.declared.Outcome.TheVariants.{Ran, Stole, Refused}
+use Rattle.run_spec.specs.Outcomes.{Ran, Stole, Refused}
 use Rattle.run_spec.specs.Deques.{unrun_mark, oldest_mark, robbed}
 use Rattle.run_spec.specs.Running.{no_step, run_number, held_next, place_next}
 use Rattle.trace.specs.Contract.{number_by}
@@ -78,8 +78,8 @@ module _ (f : Fields) (tree : List ℕ) (t v number : ℕ) (judged : number ≡ 
   -- It is not refused, and the deque is looked at.
   module _ (none-refused : number ≡ 0) (low : ℕ) (from : low ≡ get_or f.low v 0) (base : ℕ) (based : base ≡ get_or f.base v 0)
       (place : List ℕ) (stored : place ≡ robbed f.place v low (length (kinds tree)))
-      (r : Taken) (taken : r ≡ taken_of f.setup.policy (kinds tree) base low (oldest_mark f.place v low (length (kinds tree)))) where
-    pub steal-empty : r ≡ Nothing
+      (r : MaybeStolen) (taken : r ≡ taken_of f.setup.policy (kinds tree) base low (oldest_mark f.place v low (length (kinds tree)))) where
+    pub steal-empty : r ≡ None
         → move_of (Refused 12) (fields_of place f.held f.phase f.low f.base f.steals f.setup)
         ≡ steal_move f tree t v
     unfolding steal_move refused
@@ -88,7 +88,7 @@ module _ (f : Fields) (tree : List ℕ) (t v number : ℕ) (judged : number ≡ 
         let found = took-nothing f.setup.policy (kinds tree) base low (oldest_mark f.place v low n) (sym taken ∙ e) in
         rw (stored, ← robbed-nothing f.place v low n found, ← judged, eq-eqb number 0 none-refused, ← from, steal_move, found) refl
 
-    pub steal-takes : (x : Stolen) → r ≡ Of x
+    pub steal-takes : (x : Stolen) → r ≡ Some x
         → (told : TraceNumber) → told ≡ number_by f.setup.policy x.ordinal.0 x.step.0
         → (begun : ℕ) → begun ≡ f.steals % most_phases + 1
         → (held phase lows bases : List ℕ) → held ≡ set f.held t x.step.0 → phase ≡ set f.phase t begun

@@ -1,5 +1,7 @@
 -- A steal by cases, in the terms of the code: its refusals in the order in which they are judged, what it needs where it is not
 -- refused, and what it takes, by what is found in the deque.
+use Rattle.std.specs.Prelude.{Some, None}
+use Rattle.run_spec.specs.Stealing.{MaybeStolen}
 use Rattle.std.specs.Prelude.{ℕ, ◌≤◌, ◌<◌, cond, List, length, get_or, ltb}
 use Rattle.std.proofs.Math.Path.{◌≡◌, refl, sym, ap}
 use Rattle.std.proofs.Common.{◌∙◌, arith}
@@ -11,8 +13,6 @@ use Rattle.policy.specs.Contract.{worker_limit}
 use Rattle.policy.proofs.Laws.Workers.{first_far, second_far, far_eight}
 use Rattle.run_spec.specs.Ordinals.{ordinal_from}
 use Rattle.run_spec.specs.declared.Stolen.{Stolen}
-use Rattle.run_spec.specs.declared.Taken.{Taken}
-use Rattle.run_spec.specs.declared.Taken.TheVariants.{Of, Nothing}
 use Rattle.run_spec.specs.Stealing.{steal_number, taken_of}
 
 -- ---- refusals
@@ -60,27 +60,27 @@ module _ (c : ℕ) (ks held : List ℕ) (t v : ℕ) where
 -- ---- what is taken
 
 -- A step that is taken, and x where none is.
-stolen-by : Stolen → Taken → Stolen
-stolen-by x (Of y) = y
-stolen-by x Nothing = x
+stolen-by : Stolen → MaybeStolen → Stolen
+stolen-by x (Some y) = y
+stolen-by x None = x
 
 module _ (p : ℕ) (ks : List ℕ) (base from : ℕ) where
-  pub takes_nothing : (o : Option ℕ) → o ≡ none → Nothing ≡ taken_of p ks base from o
+  pub takes_nothing : (o : Option ℕ) → o ≡ none → None ≡ taken_of p ks base from o
   unfolding taken_of
   takes_nothing o e = rw e refl
 
   pub takes_step : (o : Option ℕ) (x : Stolen) → o ≡ some x.pusher.0 → x.step.0 ≡ pushes p ks x.pusher.0
-      → x.ordinal.0 ≡ ordinal_from p ks base from x.pusher.0 → Of x ≡ taken_of p ks base from o
+      → x.ordinal.0 ≡ ordinal_from p ks base from x.pusher.0 → Some x ≡ taken_of p ks base from o
   unfolding taken_of
   takes_step o x e f g = rw (e, ← f, ← g) refl
 
   -- What was found in the deque, by what was taken.
-  pub took-nothing : (o : Option ℕ) → taken_of p ks base from o ≡ Nothing → o ≡ none
+  pub took-nothing : (o : Option ℕ) → taken_of p ks base from o ≡ None → o ≡ none
   unfolding taken_of
   took-nothing none e = refl
   took-nothing (some q) e = let z : ◌≡◌ {A = ℕ} 0 1 = cc in absurd (omega arith)
 
-  pub took-step : (o : Option ℕ) (x : Stolen) → taken_of p ks base from o ≡ Of x
+  pub took-step : (o : Option ℕ) (x : Stolen) → taken_of p ks base from o ≡ Some x
       → (o ≡ some x.pusher.0) × (x.step.0 ≡ pushes p ks x.pusher.0) × (x.ordinal.0 ≡ ordinal_from p ks base from x.pusher.0)
   unfolding taken_of stolen-by
   took-step none x e = let z : ◌≡◌ {A = ℕ} 0 1 = cc in absurd (omega arith)

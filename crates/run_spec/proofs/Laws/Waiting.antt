@@ -1,5 +1,7 @@
 -- Whether all steps of a block have run, as a loop finds it; what a walk backwards over blocks passes and where it stops; and the
 -- step that a step waits for, by the finish child before it.
+use Rattle.std.specs.Prelude.{Some, None}
+use Rattle.tree.specs.Steps.{maybe_step}
 use Rattle.std.specs.Prelude.{ℕ, suc, ◌+◌, ◌-◌, ◌≤◌, ◌<◌, ◌≡◌, true, false, ◌&&◌, ◌||◌, List, length, get_or, eqb, leb}
 use Rattle.std.proofs.Math.Path.{refl}
 use Rattle.std.proofs.Common.{sym, ap, ◌∙◌, true≢false, add-one, arith, eq-eqb, ne_eqb, leb-false}
@@ -9,12 +11,10 @@ use Rattle.std.proofs.Math.Decide.{ℕ_discrete}
 use Rattle.rules.specs.Bytes.{all}
 use Rattle.rules.specs.Tree.{finish_before}
 use Rattle.tree.specs.declared.Step.{Step}
+use Rattle.tree.specs.Laws.Steps.{found_at, found_nothing}
 use Rattle.tree.specs.Laws.Verdicts.{or_none}
 use Rattle.tree.specs.Laws.Counts.{count_low, count_none}
 use Rattle.tree.specs.Laws.Highest.{nothing, all_highest, upper_none, upper_some}
-use Rattle.tree_scan.specs.declared.FinishChild.{FinishChild}
-use Rattle.tree_scan.specs.declared.FinishChild.TheVariants.{From, Nothing}
-use Rattle.tree_scan.specs.Contract.{child_of}
 use Rattle.run_spec.specs.Deques.{unrun_mark, marked, newest_mark}
 use Rattle.run_spec.specs.Running.{all_run, waits_for, awaits}
 use Rattle.run_spec.specs.Terms.{WaitsAtLow}
@@ -101,32 +101,14 @@ module _ (place : List ℕ) (first low end : ℕ) (h : first ≤ low) (l : low �
 
 -- ---- waiting
 
--- A finish child that is found, and one that is not.
-found-by : FinishChild → Option ℕ
-found-by (From first) = some first.0
-found-by Nothing = none
-
-found_same : (o : Option ℕ) → found-by (child_of o) ≡ o
-unfolding child_of found-by
-found_same none = refl
-found_same (some first) = refl
-
-pub child-found : (o : Option ℕ) (first : Step) → child_of o ≡ From first → o ≡ some first.0
-unfolding found-by
-child-found o first e = sym (found_same o) ∙ ap found-by e
-
-pub child-nothing : (o : Option ℕ) → child_of o ≡ Nothing → o ≡ none
-unfolding found-by
-child-nothing o e = sym (found_same o) ∙ ap found-by e
-
 module _ (ks place : List ℕ) (i : ℕ) where
-  pub awaits-found : (first : Step) → child_of (finish_before ks i) ≡ From first → newest_mark place unrun_mark first.0 i ≡ awaits ks place i
+  pub awaits-found : (first : Step) → maybe_step (finish_before ks i) ≡ Some first → newest_mark place unrun_mark first.0 i ≡ awaits ks place i
   unfolding awaits
-  awaits-found first e = rw (awaits, child-found (finish_before ks i) first e) refl
+  awaits-found first e = rw (awaits, found_at (finish_before ks i) _ refl first e) refl
 
-  pub awaits-nothing : child_of (finish_before ks i) ≡ Nothing → none ≡ awaits ks place i
+  pub awaits-nothing : maybe_step (finish_before ks i) ≡ None → none ≡ awaits ks place i
   unfolding awaits
-  awaits-nothing e = rw (awaits, child-nothing (finish_before ks i) e) refl
+  awaits-nothing e = rw (awaits, found_nothing (finish_before ks i) _ refl e) refl
 
   -- A step waits exactly where there is a step that it waits for.
   pub waits-awaits : waits_for ks place i ≡ not (nothing (awaits ks place i))

@@ -6,7 +6,7 @@ use Rattle.std.proofs.Common.{◌∙◌}
 use Rattle.std.specs.Int.Count.{ones, count_trailing_zeros}
 use borrow.Author.Tests.{ne_eqb}
 use Rattle.rules.specs.Calls.{start_verdict}
-use Rattle.tree.specs.declared.Accepted.{Accepted}
+use Rattle.tree.specs.Contract.{Accepted}
 use Rattle.arguments.specs.Terms.{start_judged}
 use Rattle.tree_scan.specs.Laws.Starts.{admitted_position}
 use Rattle.policy.specs.Contract.{worker_limit}
@@ -16,11 +16,9 @@ use Rattle.run_spec.specs.Idle.{idle_bits}
 use Rattle.run_spec.proofs.Laws.Moves.{event_run, event_steal}
 use Rattle.run_spec.proofs.Laws.Idle.{ones-set, lowest_set}
 use Rattle.run_state.specs.declared.RunState.{RunState}
-use Rattle.run_state.specs.declared.Answer.{Answer}
-use Rattle.run_state.specs.declared.Started.{Started}
 use Rattle.run_state.specs.declared.Idle.{Idle}
-use Rattle.run_state.specs.Contract.{fields, state_of, answer_of, zeros, start_answer, run_answer, steal_answer, event_answer}
-use Rattle.run_state.specs.Contract.{idle_answer}
+use Rattle.run_state.specs.Contract.{Answered, Started, fields, state_of, answer_of, zeros, start_answer, run_answer, steal_answer}
+use Rattle.run_state.specs.Contract.{event_answer, idle_answer}
 
 -- ---- events
 
@@ -28,19 +26,19 @@ use Rattle.run_state.specs.Contract.{idle_answer}
 module _ (s : RunState) (tree : List ℕ) where
   pub run_answers : (w : ℕ) (m : Move) → m ≡ run_move (fields s) tree w → answer_of m ≡ run_answer s tree w
   unfolding run_answer
-  run_answers w m e = ap {B = Answer} answer_of e
+  run_answers w m e = ap {B = Answered} answer_of e
 
   pub steal-answers : (t v : ℕ) (m : Move) → m ≡ steal_move (fields s) tree t v → answer_of m ≡ steal_answer s tree t v
   unfolding steal_answer
-  steal-answers t v m e = ap {B = Answer} answer_of e
+  steal-answers t v m e = ap {B = Answered} answer_of e
 
   pub equal_runs : (a b : ℕ) → a ≡ b → run_answer s tree a ≡ event_answer s tree a b
   unfolding run_answer event_answer
-  equal_runs a b e = ap {B = Answer} answer_of (event_run (fields s) tree a b e)
+  equal_runs a b e = ap {B = Answered} answer_of (event_run (fields s) tree a b e)
 
   pub different_steals : (a b : ℕ) → (a ≡ b → ⊥) → steal_answer s tree a b ≡ event_answer s tree a b
   unfolding steal_answer event_answer
-  different_steals a b n = ap {B = Answer} answer_of (event_steal (fields s) tree a b n)
+  different_steals a b n = ap {B = Answered} answer_of (event_steal (fields s) tree a b n)
 
 -- ---- the idle workers
 

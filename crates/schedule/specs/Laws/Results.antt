@@ -8,15 +8,14 @@ use Rattle.rules.specs.Bytes.{Verdict, accepted, refused_if, first_refused}
 use Rattle.rules.specs.Tree.{kinds}
 use Rattle.rules.specs.Calls.{start_verdict}
 use Rattle.rules_schedule.specs.Schedules.{made, most_made, schedule_verdict, schedule_of, schedule_refused, schedule_call, Scheduled as Call}
-use Rattle.tree.specs.declared.Accepted.{Accepted}
+use Rattle.tree.specs.Contract.{Accepted}
 use Rattle.arguments.specs.Terms.{list_short, schedule_judged}
 use Rattle.arguments.specs.Laws.Cases.{call_verdict, given-refused, given, given-last}
-use Rattle.schedule.specs.declared.Scheduled.{Scheduled}
-use Rattle.schedule.specs.Contract.{answers}
+use Rattle.schedule.specs.Contract.{Answers, answers}
 use Rattle.schedule.specs.Terms.{ListWritten}
 
 -- What a return is to meet: the call's answers, and the lent list as it leaves it.
-abbrev pub Meets : Call → Scheduled → List ℕ → Type 0
+abbrev pub Meets : Call → Answers → List ℕ → Type 0
 Meets call r events = (r ≡ answers call) × (events ≡ call.events)
 
 module _ (w p : ℕ) (tree : List ℕ) (seed : ℕ) (events : List ℕ) where

@@ -19,8 +19,7 @@ use Rattle.policy.specs.declared.Setup.{Setup}
 use Rattle.tree.specs.declared.Phase.{Phase}
 use Rattle.tree.specs.declared.Step.{Step}
 use Rattle.trace.specs.declared.number.TraceNumber.{TraceNumber}
-use Rattle.run_spec.specs.declared.Outcome.{Outcome}
-use Rattle.run_spec.specs.declared.Outcome.TheVariants.{Ran, Stole, Refused}
+use Rattle.run_spec.specs.Outcomes.{Outcome, Ran, Stole, Refused}
 use Rattle.run_spec.specs.Deques.{unrun_mark, marked}
 use Rattle.run_spec.specs.Running.{no_step}
 use Rattle.run_spec.specs.Moves.{Fields, Move, move_of, run_move, event_move, steal_move}

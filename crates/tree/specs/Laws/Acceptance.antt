@@ -11,8 +11,7 @@ use borrow.Author.Tests.{eq-eqb, ne_eqb, lt-ltb, le-ltb, le-leb, lt-leb}
 use Rattle.rules.specs.Bytes.{Verdict, accepted, Walked, walk, whole_records, refused_if, first_refused}
 use Rattle.rules.specs.Tree.{tree_records, kind, is_async, is_finish, is_end, class_count, class, kinds, open_after, has_kind, well_formed}
 use Rattle.rules.specs.Tree.{judge_tree_record, next_open, tree_walk, wrong_length, tree_verdict}
-use Rattle.tree.specs.declared.Accepted.{Accepted}
-use Rattle.tree.specs.Contract.{acceptance}
+use Rattle.tree.specs.Contract.{Accepted, acceptance}
 use Rattle.tree.specs.Laws.Records.{length-records, length-kinds, field_at}
 use Rattle.tree.specs.Laws.Walks.{walk_on, walk_stop, walk_end}
 

@@ -1,22 +1,22 @@
 -- The finish child before a step, case by case, in the terms of the code.
+use Rattle.std.specs.Prelude.{Some, None}
+use Rattle.tree.specs.Steps.{maybe_step}
 use Rattle.std.specs.Prelude.{ℕ, suc, ◌≡◌, List}
 use Rattle.std.proofs.Math.Path.{refl}
 use Rattle.std.proofs.Math.Bool.{and-false}
 use Rattle.std.proofs.Math.Option.{none, some}
 use borrow.Author.Tests.{ne_eqb}
 use Rattle.rules.specs.Tree.{kind_at, is_finish, is_end, task, finish_child, finish_before}
-use Rattle.tree_scan.specs.declared.FinishChild.TheVariants.{From, Nothing}
-use Rattle.tree_scan.specs.Contract.{child_of}
 
 -- ---- the finish child before a step
 
 module _ (ks : List ℕ) (i : ℕ) where
-  pub child-none : finish_before ks i ≡ none → Nothing ≡ child_of (finish_before ks i)
-  unfolding child_of
+  pub child-none : finish_before ks i ≡ none → None ≡ maybe_step (finish_before ks i)
+  unfolding maybe_step
   child-none e = rw e refl
 
-  pub child-some : (f : ℕ) → finish_before ks i ≡ some f → From (record { 0 = f }) ≡ child_of (finish_before ks i)
-  unfolding child_of
+  pub child-some : (f : ℕ) → finish_before ks i ≡ some f → Some (record { 0 = f }) ≡ maybe_step (finish_before ks i)
+  unfolding maybe_step
   child-some f e = rw e refl
 
   pub finish_first : i ≡ 0 → finish_before ks i ≡ none

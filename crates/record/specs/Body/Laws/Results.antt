@@ -1,7 +1,6 @@
 -- The returns of an admitted recording: from what the walk over the events comes to, what the call answers and leaves.
-use Rattle.std.specs.Prelude.{ℕ, ◌-◌, ◌*◌, ◌≤◌, ◌≡◌, refl, Bool, true, false, List, length, take, ltb}
-use Rattle.std.proofs.Common.{sym, ap, ◌∙◌, true≢false, arith, lt-ltb, le-ltb}
-use Rattle.std.proofs.Math.Decide.{ℕ_discrete}
+use Rattle.std.specs.Prelude.{ℕ, ◌-◌, ◌*◌, ◌≤◌, ◌≡◌, refl, Bool, true, false, List, length, take, ◌==◌, Ok, Err}
+use Rattle.std.proofs.Common.{sym, ap, ◌∙◌, true≢false, arith, eq-eqb, ne_eqb}
 use Rattle.rules.specs.Bytes.{records}
 use Rattle.rules.specs.Tree.{most_steps, kinds, classes, weights}
 use Rattle.rules.specs.Scheduling.{Run}
@@ -13,24 +12,20 @@ use Rattle.run_invariant.proofs.Laws.Consequences.{runs_most, steals_most, finis
 use Rattle.tree_tables.specs.Terms.{classes_before}
 use Rattle.buffers.specs.Laws.Records.{length-entries, length_trace}
 use Rattle.loads.proofs.Laws.Classes.{classes_are}
+use Rattle.refusals.specs.declared.Refused.{Refused}
 use Rattle.record_walk.specs.declared.Ended.{Ended}
 use Rattle.record_walk.specs.Terms.{Reached, Walks}
-use Rattle.record.specs.Body.Terms.{Admitted, Told, Result}
+use Rattle.record.specs.Body.Terms.{Admitted, Told, Answered}
 
-module _ {w p : ℕ} {tree events log trace : List ℕ} {ended : Ended} {own-log own-trace : List ℕ}
-    (ready : Admitted w p tree log trace) (walks : Walks w p tree events ended own-log own-trace) where
+module _ {w p : ℕ} {tree events own-log own-trace : List ℕ} where
   -- An event is refused: log and trace are as they were.
-  pub lost_result : (ended.number ≡ 0 → ⊥) → (charges : List ℕ) → Result w p tree events log trace ended log trace charges
-  lost_result n charges =
-      record {
-        number = walks.number;
-        position = walks.position;
-        same = λ z. (refl, refl);
-        told = λ z. absurd (n z);
-      }
+  pub lost_result : {e : Refused} → Walks w p tree events (Err e) own-log own-trace
+      → (log trace charges : List ℕ) → Answered w p tree events log trace (Err e) log trace charges
+  lost_result walks log trace charges = record { verdict = walks.verdict; same = (refl, refl); told = tt }
 
   -- Every event is accepted.
-  module _ (none : ended.number ≡ 0) where
+  module _ {log trace : List ℕ} {ended : Ended} (ready : Admitted w p tree log trace)
+      (walks : Walks w p tree events (Ok ended) own-log own-trace) where
     frame : Frame tree
     frame = accepted-frame tree (start-tree-accepts w p tree ready.started)
 
@@ -39,7 +34,7 @@ module _ {w p : ℕ} {tree events log trace : List ℕ} {ended : Ended} {own-log
     run = (record_walk w p (kinds tree) (records 2 events)).state
 
     so : Reached p tree run ended own-log own-trace
-    so = walks.reached none
+    so = walks.reached
 
     -- The records fit: the log's for each step, the trace's for each spawned task.
     logs-fit : ended.logs ≤ length (kinds tree)
@@ -59,22 +54,18 @@ module _ {w p : ℕ} {tree events log trace : List ℕ} {ended : Ended} {own-log
     pub trace-room : 4 * ended.steals ≤ length trace
     trace-room = omega (arith, steals-fit, ready.trace_fits)
 
-    -- Every step has run exactly when more than n - 1 have.
-    all-run : ltb (length (kinds tree) - 1) ended.logs ≡ finished (kinds tree) run
+    -- Every step has run exactly when as many have as the tree has.
+    all-run : (ended.logs == length (kinds tree)) ≡ finished (kinds tree) run
     all-run = by (finished (kinds tree) run) refl
       where
-        by : (b : Bool) → finished (kinds tree) run ≡ b → ltb (length (kinds tree) - 1) ended.logs ≡ b
+        by : (b : Bool) → finished (kinds tree) run ≡ b → (ended.logs == length (kinds tree)) ≡ b
         by true e =
-            lt-ltb (length (kinds tree) - 1) ended.logs
-            (omega (arith, frame.some, so.logs, finished_runs p (kinds tree) frame.some frame.shape run so.invariant e))
+            eq-eqb ended.logs (length (kinds tree))
+            (so.logs ∙ finished_runs p (kinds tree) frame.some frame.shape run so.invariant e)
         by false e =
-            le-ltb (length (kinds tree) - 1) ended.logs
-            (elim (ℕ_discrete ended.logs (length (kinds tree))) [
-              | yes f ↦ absurd
-                  (true≢false
-                  (sym (runs_finished p (kinds tree) frame.some frame.shape run so.invariant (sym so.logs ∙ f)) ∙ e))
-              | no n ↦ omega (arith, logs-fit)
-            ])
+            ne_eqb ended.logs (length (kinds tree))
+            (λ f. true≢false
+            (sym (runs_finished p (kinds tree) frame.some frame.shape run so.invariant (sym so.logs ∙ f)) ∙ e))
 
     module _ (log-out trace-out charges : List ℕ) (logged : log-out ≡ written (take (4 * ended.logs) own-log) log)
         (traced : trace-out ≡ written (take (4 * ended.steals) own-trace) trace)
@@ -94,11 +85,5 @@ module _ {w p : ℕ} {tree events log trace : List ℕ} {ended : Ended} {own-log
             classed = charged ∙ sym (classes_are (kinds tree) (classes tree) (weights tree) run.phases so.whole);
           }
 
-      pub done-result : Result w p tree events log trace ended log-out trace-out charges
-      done-result =
-          record {
-            number = walks.number;
-            position = walks.position;
-            same = λ n. absurd (n none);
-            told = λ z. run-told;
-          }
+      pub done-result : Answered w p tree events log trace (Ok ended) log-out trace-out charges
+      done-result = record { verdict = walks.verdict; same = tt; told = run-told }

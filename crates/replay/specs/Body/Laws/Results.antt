@@ -1,6 +1,6 @@
 -- What an admitted replay comes to, from what the walk over the trace's records comes to: where a record is refused, where the
 -- caller is full, and where the run list is written.
-use Rattle.std.specs.Prelude.{ℕ, zero, suc, ◌≤◌, ◌≡◌, refl, Bool, true, false, List, ◌∷◌, ◌++◌, length, take, replicate}
+use Rattle.std.specs.Prelude.{ℕ, zero, suc, ◌≤◌, ◌≡◌, refl, Bool, true, false, List, ◌∷◌, ◌++◌, length, take, replicate, Ok, Err}
 use Rattle.std.proofs.Math.Path.{sym}
 use Rattle.std.proofs.Common.{ap, ◌∙◌, arith, length-append, take_at}
 use Rattle.rules.specs.Bytes.{records, Verdict, accepted, refused_if}
@@ -18,12 +18,14 @@ use Rattle.replay_invariant.proofs.Laws.Always.{always_split}
 use Rattle.policy.specs.Contract.{most_phases}
 use Rattle.replay_spec.specs.Lists.{listed, Listable}
 use Rattle.replay_spec.proofs.Laws.RunLists.{listed-is}
+use Rattle.refusals.specs.declared.Refusal.TheVariants.{Full}
+use Rattle.refusals.specs.declared.Refused.{Refused}
+use Rattle.refusals.specs.Laws.Numbers.{number-some}
 use Rattle.replay_walk.specs.declared.Ended.{Ended}
 use Rattle.replay_walk.specs.Terms.{ruled, Retraced}
 use Rattle.replay_walk.specs.Laws.Retracing.{split-whole}
-use Rattle.replay.specs.Terms.{unless_full}
 use Rattle.replay.specs.Laws.Unless.{unless_own, unless_passes}
-use Rattle.replay.specs.Body.Terms.{Admitted, Result}
+use Rattle.replay.specs.Body.Terms.{Admitted, Outcome}
 
 -- ---- arrays whose front is lent
 
@@ -43,43 +45,31 @@ module _ (n : ℕ) (front rest : List ℕ) (many : length front ≡ n) where
 
 -- ---- what the call does
 
--- There is a refusal: the list is as it was.
-refused_result : {full : Bool} {w p : ℕ} {tree trace list : List ℕ} {r : Ended}
-    → r.number ≡ (unless_full full (ruled w p tree trace).verdict).number
-    → r.position ≡ (unless_full full (ruled w p tree trace).verdict).position
-    → (r.number ≡ 0 → ⊥) → (charges : List ℕ) → Result full w p tree trace list r list charges
-refused_result number position n charges =
-    record {
-      number = number;
-      position = λ m. position;
-      same = λ m. refl;
-      phases = λ z. absurd (n z);
-      loaded = λ z. absurd (n z);
-      listed = λ z. absurd (n z);
-      classed = λ z. absurd (n z);
-    }
-
-module _ {w p : ℕ} {tree trace list : List ℕ} {n : ℕ} {ended : Ended} {labels firsts : List ℕ}
-    (ready : Admitted w p tree trace n list) (so : Retraced w p tree trace ended labels firsts) where
+module _ {w p : ℕ} {tree trace list : List ℕ} {n : ℕ} (ready : Admitted w p tree trace n list) where
   abbrev verdict : Verdict
   verdict = (ruled w p tree trace).verdict
 
-  -- A record is refused.
-  pub lost_result : {full : Bool} → (ended.number ≡ 0 → ⊥) → (charges : List ℕ)
-      → Result full w p tree trace list ended list charges
-  lost_result {full} n =
-      let decides = unless_own full verdict (λ z. n (so.number ∙ z)) in
-      refused_result (rw decides so.number) (rw decides so.position) n
+  -- A record is refused: the list is as it was.
+  pub lost-outcome : {e : Refused} {labels firsts : List ℕ} → Retraced w p tree trace (Err e) labels firsts → {full : Bool}
+      → (charges : List ℕ) → Outcome full w p tree trace list (Err e) list charges
+  lost-outcome {e} {labels} {firsts} so {full} charges =
+      let some : verdict.number ≡ 0 → ⊥ =
+      λ z. omega (arith, number-some e.refusal, ap (λ (v : Verdict). v.number) so.verdict ∙ z)
+      in
+      record { verdict = so.verdict ∙ sym (unless_own full verdict some); same = refl; listed = tt }
 
   -- Every record is accepted.
-  module _ (none : ended.number ≡ 0) where
+  module _ {ended : Ended} {labels firsts : List ℕ} (so : Retraced w p tree trace (Ok ended) labels firsts) where
+    none : verdict.number ≡ 0
+    none = sym (ap (λ (v : Verdict). v.number) so.verdict)
+
     -- The caller is full,
-    pub full-result : {full : Bool} → full ≡ true → (many : ℕ) (ls charges : List ℕ)
-        → Result full w p tree trace list (record { number = 17; position = 0; phases = many; loads = ls }) list charges
+    pub full-outcome : {full : Bool} → full ≡ true → (charges : List ℕ)
+        → Outcome full w p tree trace list (Err (record { refusal = Full; position = 0 })) list charges
     unfolding refused_if
-    full-result {full} e many ls =
-        let decides = unless_passes full verdict (sym so.number ∙ none) in
-        refused_result (rw (decides, e) refl) (rw (decides, e) refl) (λ z. omega (arith, z))
+    full-outcome {full} e charges =
+        let decides = unless_passes full verdict none in
+        record { verdict = rw (decides, e) refl; same = refl; listed = tt }
 
     -- or not.
     frame : Frame tree
@@ -96,14 +86,14 @@ module _ {w p : ℕ} {tree trace list : List ℕ} {n : ℕ} {ended : Ended} {lab
     -- The run list can be written,
     listable : Listable p (kinds tree) labels firsts ended.phases (length list)
     listable =
-        let many = so.phases none in
+        let many = so.phased.phases in
         record {
           phs = phs;
           split = split;
-          shown = so.shown none;
+          shown = so.phased.shown;
           many = many;
-          few = so.few none;
-          begins = λ k h. so.begins none k (omega arith);
+          few = so.phased.few;
+          begins = λ k h. so.phased.begins k (omega arith);
           fits = ready.fits;
         }
 
@@ -116,25 +106,25 @@ module _ {w p : ℕ} {tree trace list : List ℕ} {n : ℕ} {ended : Ended} {lab
     -- and is the rules'.
     done-list : listed p (kinds tree) labels firsts ended.phases ≡ run_list p (kinds tree) phs
     done-list =
-        let shown = so.shown none in
-        rw (so.phases none)
-        (listed-is p (kinds tree) frame.some frame.shape phs split labels shown firsts (so.begins none))
+        let shown = so.phased.shown in
+        rw so.phased.phases (listed-is p (kinds tree) frame.some frame.shape phs split labels shown firsts so.phased.begins)
 
     -- The phases share the whole tree, so what its classes weigh are their loads.
-    pub done-result : {full : Bool} → full ≡ false → (lent : List ℕ) → lent ≡ labels → (out charges : List ℕ)
+    pub done-outcome : {full : Bool} → full ≡ false → (lent : List ℕ) → lent ≡ labels → (out charges : List ℕ)
         → out ≡ written (entry_bytes (listed p (kinds tree) lent firsts ended.phases)) list
         → charges ≡ classes_before (classes tree) (weights tree) (length (kinds tree))
-        → Result full w p tree trace list ended out charges
+        → Outcome full w p tree trace list (Ok ended) out charges
     unfolding refused_if accepted
-    done-result {full} room lent same out charges g charged =
-        let decides = unless_passes full verdict (sym so.number ∙ none) in
+    done-outcome {full} room lent same out charges g charged =
+        let decides = unless_passes full verdict none in
         let whole = split-whole p (kinds tree) frame.some frame.shape phs split in
         record {
-          number = rw (decides, room) none;
-          position = λ n. absurd (n none);
-          same = λ n. absurd (n none);
-          phases = so.phases;
-          loaded = so.loaded;
-          listed = λ z. g ∙ rw (same, done-list) refl;
-          classed = λ z. charged ∙ sym (classes_are (kinds tree) (classes tree) (weights tree) phs whole);
+          verdict = rw (decides, room) refl;
+          same = tt;
+          listed = record {
+            phases = so.phased.phases;
+            loaded = so.phased.loaded;
+            listed = g ∙ rw (same, done-list) refl;
+            classed = charged ∙ sym (classes_are (kinds tree) (classes tree) (weights tree) phs whole);
+          };
         }

@@ -1,3 +1,0 @@
--- What a replay call answers.
---     Terms     a refusal, and the answer on what the walk over the trace comes to
-pub mod Terms
