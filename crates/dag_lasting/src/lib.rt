@@ -23,10 +23,7 @@ fn joined(kind: u8, own: u32, child: u64, rest: u64) -> u64
     if kind == FINISH {
         return own + (child + rest);
     }
-    if child <= rest {
-        return own + rest;
-    }
-    own + child
+    own + child.max(rest)
 }
 
 // A task, from its end back to its first step, which is answered.

@@ -15,5 +15,6 @@ pub record Added : Type 0 where
   pub replayed : Answers
   pub histogram : Histogram
 
+-- By the rules' call.
 unfoldable pub answers : Call → Added
 answers c = record { replayed = replay_answers c.replayed; histogram = stored c.histogram }

@@ -1,6 +1,7 @@
 -- What a turn's contract is made of: the tables that the maker keeps beside a run, how its arrays show a list in the making, and what a
 -- turn does to them.
-use Rattle.std.specs.Prelude.{◌≡◌, ℕ, suc, pred, ◌*◌, ◌<◌, ◌≤◌, Bool, true, false, cond, ◌&&◌, List, length, nat_lt, slice_index, Some, None}
+use Rattle.std.specs.Prelude.{◌≡◌, ℕ, suc, pred, ◌*◌, ◌<◌, ◌≤◌, Bool, true, false, cond, ◌&&◌, List, length, nat_lt, slice_index}
+use Rattle.std.specs.Prelude.{Some, None}
 use mathlib.Core.List.{flatten}
 use Rattle.std.proofs.Math.Option.{some}
 use Rattle.rules.specs.Tree.{most_steps, kind_at, is_end, kinds}

@@ -34,10 +34,7 @@ fn size_after(tree: &[u8], step: Step, size: u16) -> u16
     if kind(tree, step) != END {
         return size + 1;
     }
-    if size == 0 {
-        return 0;
-    }
-    size - 1
+    size.saturating_sub(1)
 }
 
 // A worker that holds a step runs it, or waits and passes.
