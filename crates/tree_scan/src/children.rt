@@ -19,11 +19,12 @@ pub fn cont(tree: &[u8], step: Step) -> Step
     }
     let mut left: usize = 1;
     for j in i + 1..n {
-        if tree[TREE_RECORD * j] != END {
+        // The count is taken before it is looked at: no processor foresees the next kind, and so none has to.
+        if tree[TREE_RECORD * j] == END {
+            left -= 1;
+        } else {
             left += 1;
-            continue;
         }
-        left -= 1;
         if left == 0 {
             return Step(j + 1);
         }

@@ -2,8 +2,9 @@
 use Rattle.std.proofs.Common.{◌∙◌, ◌+◌, ◌<◌, length, sym, arith}
 use Rattle.rules.specs.Tree.{kinds}
 use Rattle.tree.specs.Laws.Records.{length-kinds, kind_at_lem}
-use Rattle.tree_scan.specs.Laws.Scans.{forward_start, forward_end, forward_open, forward_done, forward_past, cont_past}
+use Rattle.tree_scan.specs.Laws.Scans.{Forward, forward_start, forward_end, forward_open, forward_done, forward_past, cont_past}
 use Rattle.tree_scan.proofs.children.cont.Goals as goal
+use Rattle.tree_scan.proofs.children.cont.Goals.{Joined-tree-j-eq-END, then-tree-j-eq-END, else-tree-j-eq-END}
 
 pub returns-then-n-i : goal.returns-then-n-i
 returns-then-n-i c =
@@ -18,36 +19,31 @@ loop-j-init c =
       forward = forward_start (kinds tree) c.args.step.0 (omega (arith, length-kinds tree));
     }
 
-pub loop-j-preserved-then-tree-j-ne-END : goal.loop-j-preserved-then-tree-j-ne-END
-loop-j-preserved-then-tree-j-ne-END c =
+-- The count behind a record, which ends a task or opens one.
+counted : (c : Joined-tree-j-eq-END) → Forward (kinds c.args.tree.now) c.args.step.0 (c.loop-j.j + 1) c.if-tree-j-eq-END.left
+counted c =
     let tree = c.args.tree.now in
     let loop = c.loop-j in
     let within : loop.j < length (kinds tree) = omega (arith, length-kinds tree) in
-    record {
-      some = omega arith;
-      forward = forward_open (kinds tree) c.args.step.0 loop.j loop.left loop.invariant.forward within loop.invariant.some
-          (λ e. c.if-tree-j-ne-END.true (sym (kind_at_lem tree loop.j (omega arith)) ∙ e));
-    }
+    let kind = kind_at_lem tree loop.j (omega arith) in
+    elim c.if-tree-j-eq-END.branch [
+      | then-tree-j-eq-END w ↦
+          rw w.left-is
+          (forward_end (kinds tree) c.args.step.0 loop.j loop.left loop.invariant.forward within loop.invariant.some
+          (kind ∙ w.if-tree-j-eq-END.true))
+      | else-tree-j-eq-END w ↦
+          rw w.left-is
+          (forward_open (kinds tree) c.args.step.0 loop.j loop.left loop.invariant.forward within loop.invariant.some
+          (λ e. w.if-tree-j-eq-END.false (sym kind ∙ e)))
+    ]
 
 pub returns-then-left-eq0 : goal.returns-then-left-eq0
 returns-then-left-eq0 c =
-    let tree = c.args.tree.now in
-    let loop = c.loop-j in
-    let within : loop.j < length (kinds tree) = omega (arith, length-kinds tree) in
-    let end = kind_at_lem tree loop.j (omega arith) ∙ c.if-tree-j-ne-END.false in
-    let done = forward_end (kinds tree) c.args.step.0 loop.j loop.left loop.invariant.forward within loop.invariant.some end in
-    sym (forward_done (kinds tree) c.args.step.0 (loop.j + 1) (rw c.if-left-eq0.true at done))
+    let done = counted (goal.at.returns-then-left-eq0 c).Joined-tree-j-eq-END in
+    sym (forward_done (kinds c.args.tree.now) c.args.step.0 (c.loop-j.j + 1) (rw c.if-left-eq0.true at done))
 
 pub loop-j-preserved : goal.loop-j-preserved
-loop-j-preserved c =
-    let tree = c.args.tree.now in
-    let loop = c.loop-j in
-    let within : loop.j < length (kinds tree) = omega (arith, length-kinds tree) in
-    let end = kind_at_lem tree loop.j (omega arith) ∙ c.if-tree-j-ne-END.false in
-    record {
-      some = omega arith;
-      forward = forward_end (kinds tree) c.args.step.0 loop.j loop.left loop.invariant.forward within loop.invariant.some end;
-    }
+loop-j-preserved c = record { some = omega arith; forward = counted (goal.at.loop-j-preserved c).Joined-tree-j-eq-END }
 
 pub returns : goal.returns
 returns c =
