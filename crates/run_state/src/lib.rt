@@ -135,7 +135,9 @@ impl RunState {
     pub fn idle(self) -> Idle
         ensures { result ≡ idle_answer self }
     {
-        let set = idle_set(&self.held, self.workers);
+        // A copy of these few, so that the state itself is handed on where it stands.
+        let held = self.held;
+        let set = idle_set(&held, self.workers);
         Idle {
             set,
             count: u16::count_ones(set),
