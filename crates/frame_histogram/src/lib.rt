@@ -4,11 +4,11 @@
 
 ghost use Rattle.std.specs.Prelude.{◌≡◌};
 ghost use Rattle.rules_histogram.specs.Histograms.{empty, wrapping, add_call};
-ghost use Rattle.histogram.specs.Contract.{given, stored, answers};
+ghost use Rattle.histogram.specs.Contract.{given, stored, added, answers};
 ghost use Rattle.frame_histogram.specs.Contract.{flat_added};
 
 use frame_answers::FrameReplay;
-use histogram::Histogram;
+use histogram::{Added, Histogram};
 use policy::Setup;
 
 // What a replay answers, and the next histogram.
@@ -17,6 +17,17 @@ use policy::Setup;
 pub struct FrameAdded {
     pub replay: FrameReplay,
     pub histogram: Histogram,
+}
+
+impl From<Added> for FrameAdded {
+    ghost from_gives = { λ a e. e ≡ flat_added (added a) };
+
+    fn from(added: Added) -> FrameAdded {
+        FrameAdded {
+            replay: added.replayed.into(),
+            histogram: added.histogram,
+        }
+    }
 }
 
 // A histogram that no trace has been added to.
@@ -43,10 +54,7 @@ pub extern "C" fn frame_histogram_add(
     ensures list { let call = add_call wrapping workers policy tree.now trace.now list.old (given histogram) in
         list.new ≡ call.replayed.list }
 {
-    let mut next = histogram;
-    let replayed = next.add(tree, Setup::of(policy, workers), trace, list);
-    FrameAdded {
-        replay: replayed.into(),
-        histogram: next,
-    }
+    histogram
+        .add(tree, Setup::of(policy, workers), trace, list)
+        .into()
 }

@@ -1,10 +1,11 @@
-// Phase loads over many traces (document 02, #106): a histogram, its start, and the call that replays a trace and adds its phases.
+// Phase loads over many traces (document 02, #106): a histogram by value, its start, and the call that replays a trace and adds its
+// phases, by value and in place.
 #![tactic(auto)]
 
 ghost use Rattle.std.specs.Prelude.{◌≡◌};
 ghost use Rattle.rules_histogram.specs.Histograms.{empty, wrapping, add_call};
 ghost use Rattle.replay.specs.Contract.{answers, answers_of};
-ghost use Rattle.histogram.specs.Contract.{given, stored};
+ghost use Rattle.histogram.specs.Contract.{given, stored, added, answers as added_by};
 
 use histogram_bucket::BUCKETS;
 use policy::Setup;
@@ -23,6 +24,13 @@ pub struct Histogram {
     pub counts: [u32; BUCKETS],
 }
 
+// What replay answers on a trace, and the next histogram, which beside a refusal is the very one given.
+#[derive(Clone, Copy)]
+pub struct Added {
+    pub replayed: Result<Replayed, Refused>,
+    pub histogram: Histogram,
+}
+
 impl Histogram {
     // A histogram that no trace has been added to.
     #[tactic(auto, unfolding(rules_histogram::specs::Histograms::empty))]
@@ -36,8 +44,24 @@ impl Histogram {
     }
 
     // Replays a trace and adds all its phases: refusals 1 to 8 and 13 to 17, or the run list at the front of the lent buffer and the
-    // next histogram. A refusal leaves the very histogram.
-    pub fn add(
+    // next histogram. A refusal hands back the very histogram.
+    #[tactic(auto, unfolding(crate::specs::Contract::answers))]
+    pub fn add(self, tree: &[u8], setup: Setup, trace: &[u8], list: &mut [u8]) -> Added
+        ensures answers { let call = add_call wrapping setup.workers setup.policy tree.now trace.now in
+            added result ≡ added_by (call list.old (given self)) }
+        ensures list { let call = add_call wrapping setup.workers setup.policy tree.now trace.now in
+            list.new ≡ (call list.old (given self)).replayed.list }
+    {
+        let mut histogram = self;
+        let replayed = histogram.add_in_place(tree, setup, trace, list);
+        Added {
+            replayed,
+            histogram,
+        }
+    }
+
+    // The same on a histogram where it stands, which a refusal leaves as it is.
+    pub fn add_in_place(
         &mut self,
         tree: &[u8],
         setup: Setup,

@@ -5,8 +5,8 @@ use Rattle.std.proofs.Common.{arith}
 use Rattle.std.proofs.lemmas.Result.{err_from_is_err_and}
 use Rattle.refusals.specs.Laws.Numbers.{number-some}
 use Rattle.histogram.specs.Laws.Results.{Meets, refused-meets, listed, room, added-meets}
-use Rattle.histogram.proofs.Histogram.add.Goals as goal
-use Rattle.histogram.proofs.Histogram.add.Goals.{In_err-replayed, After-add_phases}
+use Rattle.histogram.proofs.Histogram.add_in_place.Goals as goal
+use Rattle.histogram.proofs.Histogram.add_in_place.Goals.{In_err-replayed, After-add_phases}
 
 -- ---- a refusal
 
