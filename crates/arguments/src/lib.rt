@@ -18,6 +18,7 @@ use tree_tables::wide;
 pub const MOST_EVENTS: usize = 8192;
 
 // Judges a policy, a worker count and a tree: refusals 1, 16 and 2 to 5 in this order, or how many steps the tree has.
+#[tactic(auto, using(crate::specs::Laws::Starts::by_tree_laws))]
 pub fn judge_start(tree: &[u8], setup: Setup) -> Result<usize, Refused>
     ensures { accepted_of result ≡ start_judged setup.workers setup.policy tree.now }
 {

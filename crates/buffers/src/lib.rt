@@ -66,6 +66,7 @@ pub fn put_event(bytes: &mut [u8], k: usize, first: u8, second: u8)
 }
 
 // Copies the first `count` bytes over the front of a lent buffer.
+#[tactic(auto, unfolding(rules::specs::Calls::written))]
 pub fn copy_out(from: &[u8], count: usize, to: &mut [u8])
     requires { (count ≤ length from.now) × (count ≤ length to.old) }
     ensures { to.new ≡ written (take count from.now) to.old }

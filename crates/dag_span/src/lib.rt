@@ -50,6 +50,7 @@ fn measure(tree: &[u8], chain: &mut [u8]) -> Spanned
 }
 
 // Work and span of a tree: refusals 2 to 5 and 7, or the answers, with the chain at the front of the lent buffer.
+#[tactic(auto, using(crate::specs::Laws::Results::refused_answers, crate::specs::Laws::Results::refused_stays))]
 pub fn span(tree: &[u8], chain: &mut [u8]) -> Result<Spanned, Refused>
     ensures answers { answers_of result ≡ answers (span_call tree.now chain.old) }
     ensures chain { chain.new ≡ (span_call tree.now chain.old).chain }

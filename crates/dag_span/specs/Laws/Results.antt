@@ -1,5 +1,5 @@
 -- The answers of a call, and its returns: refused by the tree, for a short buffer, or accepted.
-use Rattle.std.specs.Prelude.{ℕ, ◌*◌, ◌≤◌, ◌<◌, ◌≡◌, List}
+use Rattle.std.specs.Prelude.{ℕ, ◌*◌, ◌≤◌, ◌<◌, ◌≡◌, List, Err}
 use Rattle.std.proofs.Math.Path.{refl, sym, ap}
 use Rattle.std.proofs.Common.{◌∙◌, arith}
 use Rattle.std.proofs.Math.ListN.{length}
@@ -7,12 +7,14 @@ use borrow.Author.Tests.{eq-eqb, lt-ltb, le-ltb}
 use Rattle.rules.specs.Bytes.{Verdict, accepted, refused_if, first_refused}
 use Rattle.rules.specs.Tree.{kinds, weights, tree_verdict}
 use Rattle.rules_dag.specs.Spans.{work, lasts, span_verdict, span_of, span_refused, span_call}
-use Rattle.tree.specs.Contract.{Accepted, acceptance}
+use Rattle.refusals.specs.declared.Refused.{Refused}
+use Rattle.refusals.specs.Laws.Numbers.{number-some}
+use Rattle.tree.specs.Contract.{Accepted, acceptance, accepted_of}
 use Rattle.tree.specs.Laws.Verdicts.{first-refuses}
 use Rattle.tree_scan.specs.Laws.Frames.{accepted-frame}
 use Rattle.dag_chain.proofs.Laws.Times.{span-lasts}
 use Rattle.dag_chain.proofs.Laws.Claim.{call_accepted, call_refused}
-use Rattle.dag_span.specs.Contract.{Answers, answers}
+use Rattle.dag_span.specs.Contract.{Answers, answers, answers_of}
 use Rattle.dag_walk.specs.Terms.{ChainWritten}
 use Rattle.dag_span.specs.Terms.{Measured, refusal}
 
@@ -76,3 +78,14 @@ module _ (tree lent : List ℕ) where
           let fine : (span_verdict tree lent).number ≡ 0 =
           rw (eq-eqb (tree_verdict tree).number 0 tree-accepts, le-ltb (length lent) (2 * length (kinds tree)) l) refl in
           rw (call_accepted tree lent fine) (m.answered, m.left)
+
+  -- What refuses the tree refuses the call, and the lent buffer stays.
+  module _ (e : Refused) (is : accepted_of (Err e) ≡ acceptance tree) where
+    refused-meets : Meets (answers_of (Err e)) lent
+    refused-meets = tree-refuses _ is (λ z. omega (arith, number-some e.refusal))
+
+    pub refused_answers : answers_of (Err e) ≡ answers (span_call tree lent)
+    refused_answers = refused-meets.0
+
+    pub refused_stays : lent ≡ (span_call tree lent).chain
+    refused_stays = refused-meets.1

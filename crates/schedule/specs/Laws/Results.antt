@@ -1,17 +1,19 @@
 -- The returns of the call: its refusals, and what an accepted call answers and leaves.
-use Rattle.std.specs.Prelude.{ℕ, ◌*◌, ◌≤◌, ◌≡◌, List, length}
+use Rattle.std.specs.Prelude.{ℕ, ◌*◌, ◌≤◌, ◌≡◌, List, length, Err}
 use Rattle.std.proofs.Math.Path.{refl}
-use Rattle.std.proofs.Common.{◌∙◌}
+use Rattle.std.proofs.Common.{◌∙◌, arith}
 use Rattle.std.proofs.Math.Bool.{true}
 use borrow.Author.Tests.{ne_eqb, ltb-false}
 use Rattle.rules.specs.Bytes.{Verdict, accepted, refused_if, first_refused}
 use Rattle.rules.specs.Tree.{kinds}
 use Rattle.rules.specs.Calls.{start_verdict}
 use Rattle.rules_schedule.specs.Schedules.{made, most_made, schedule_verdict, schedule_of, schedule_refused, schedule_call, Scheduled as Call}
-use Rattle.tree.specs.Contract.{Accepted}
+use Rattle.refusals.specs.declared.Refused.{Refused}
+use Rattle.refusals.specs.Laws.Numbers.{number-some}
+use Rattle.tree.specs.Contract.{Accepted, accepted_of}
 use Rattle.arguments.specs.Terms.{list_short, schedule_judged}
 use Rattle.arguments.specs.Laws.Cases.{call_verdict, given-refused, given, given-last}
-use Rattle.schedule.specs.Contract.{Answers, answers}
+use Rattle.schedule.specs.Contract.{Answers, answers, answers_of}
 use Rattle.schedule.specs.Terms.{ListWritten}
 
 -- What a return is to meet: the call's answers, and the lent list as it leaves it.
@@ -49,3 +51,14 @@ module _ (w p : ℕ) (tree : List ℕ) (seed : ℕ) (events : List ℕ) where
           let said : schedule_verdict w p tree events ≡ accepted =
           verdict_is ∙ given-last (given w p tree true _ a is z) accepted in
           rw (said, so.counted, so.listed) (refl, refl)
+
+  -- What refuses what the call is given refuses the call, and the lent list stays.
+  module _ (e : Refused) (is : accepted_of (Err e) ≡ schedule_judged w p tree (length events)) where
+    refused-meets : Meets (schedule_call w p tree seed events) (answers_of (Err e)) events
+    refused-meets = refusal_meets _ is (λ z. omega (arith, number-some e.refusal))
+
+    pub refused_answers : answers_of (Err e) ≡ answers (schedule_call w p tree seed events)
+    refused_answers = refused-meets.0
+
+    pub refused_stays : events ≡ (schedule_call w p tree seed events).events
+    refused_stays = refused-meets.1
