@@ -14,7 +14,7 @@ const ENTRIES: [(&str, &[&str]); 13] = [
     ("crates/run_state/src/lib.rt", &["run", "steal", "event", "idle"]),
     ("crates/record/src/lib.rt", &["record"]),
     ("crates/replay/src/lib.rt", &["replay"]),
-    ("crates/histogram/src/lib.rt", &["start", "add"]),
+    ("crates/histogram/src/lib.rt", &["start", "add", "add_in_place"]),
     ("crates/schedule/src/lib.rt", &["schedule"]),
     ("crates/dag_span/src/lib.rt", &["span"]),
     ("crates/phases_text/src/lib.rt", &["list_phases"]),

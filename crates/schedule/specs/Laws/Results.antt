@@ -7,7 +7,8 @@ use borrow.Author.Tests.{ne_eqb, ltb-false}
 use Rattle.rules.specs.Bytes.{Verdict, accepted, refused_if, first_refused}
 use Rattle.rules.specs.Tree.{kinds}
 use Rattle.rules.specs.Calls.{start_verdict}
-use Rattle.rules_schedule.specs.Schedules.{made, most_made, schedule_verdict, schedule_of, schedule_refused, schedule_call, Scheduled as Call}
+use Rattle.rules_schedule.specs.Schedules.{made, most_made, schedule_verdict, schedule_of, schedule_refused, schedule_call}
+use Rattle.rules_schedule.specs.Schedules.{Scheduled as Call}
 use Rattle.refusals.specs.declared.Refused.{Refused}
 use Rattle.refusals.specs.Laws.Numbers.{number-some}
 use Rattle.tree.specs.Contract.{Accepted, accepted_of}
